@@ -1,0 +1,151 @@
+-- Document 01, "Small boards": the marked ones, as one table of questions to the services and what the paper says of each.
+use mathlib.Core.Bool.{Bool, true, false}
+use mathlib.Core.List.{List, [], _∷_, _++_, map}
+use Prim.Native.Nat.{ℕ, _+_, _*_, _/_}
+use lib.Dec.{eqb}
+use lib.IntN.{ℤ, pos}
+use lib.ListN.{length, replicate}
+use Rattle.words.specs.Number.{bytes, bytesOf, numberAt}
+use Rattle.model.specs.Content.{Vertex, vertex, Part, pieceCount}
+use Rattle.model.specs.Format.{content}
+use Rattle.model.specs.Geometry.{moved, piecesConflict}
+use Rattle.model.specs.Lists.{all, below}
+use Rattle.model.specs.Services.{RunOutcome, run, check, numbersIn, workWords}
+use Rattle.model.specs.declared.Checked.{Checked}
+use Rattle.model.specs.declared.Checked.the-variants as C
+use Rattle.model.specs.declared.Held.the-variants.{Layout, Nothing}
+use Rattle.model.specs.declared.RunAnswer.{RunAnswer}
+use Rattle.model.specs.declared.RunAnswer.the-variants.{Shortest, Stopped, Infeasible}
+
+-- ---- Questions and answers
+
+-- A run of a job at a budget; a check of a job and a layout's numbers; whether squares at (0,0) and (x,y) are in conflict at a gap.
+pub data Question : Type 0 where
+  runs : List ℕ → ℕ → Question
+  checks : List ℕ → List ℕ → Question
+  conflicts : ℕ → ℕ → ℕ → Question
+
+-- What a run says, whether its work words are zero, and the answer numbers after it; what check says; whether there is conflict.
+pub data Answer : Type 0 where
+  says : RunAnswer → Bool → List ℕ → Answer
+  finds : Checked → Answer
+  isConflict : Bool → Answer
+
+-- A question, and document 01's answer to it.
+pub record Marked : Type 0 where
+  pub question : Question
+  pub expected : Answer
+
+abbrev pub _⇒_ : Question → Answer → Marked
+q ⇒ a = record { question = q; expected = a }
+
+infix 4 _⇒_
+-- ---- Answering
+
+-- The numbers that a buffer holds.
+unfoldable pub numbersOf : List ℕ → List ℕ
+numbersOf s = map (λ i. numberAt 2 s (i * 2)) (below (numbersIn s))
+
+unfoldable pub saidBy : RunOutcome → Answer
+saidBy r = says (r .answer) (all (eqb 0) (r .work)) (numbersOf (r .out))
+
+-- "Squares are (0,0) (2,0) (2,2) (0,2)."
+unfoldable pub square : Part
+square = vertex (pos 0) (pos 0) ∷ vertex (pos 2) (pos 0) ∷ vertex (pos 2) (pos 2) ∷ vertex (pos 0) (pos 2) ∷ []
+
+-- A run is given just enough work words, each byte 255, and just enough answer numbers, each 7.
+unfoldable pub answerTo : Question → Answer
+answerTo (runs s budget) =
+    saidBy
+    (run s budget (replicate (workWords (content s) * 8) 255) (bytesOf 2 (replicate (pieceCount (content s) * 4) 7)))
+answerTo (checks s ns) = finds (check s (bytesOf 2 ns))
+answerTo (conflicts gap x y) = isConflict (piecesConflict gap (square ∷ []) (map (moved x y) square ∷ []))
+
+-- ---- Jobs
+
+-- A job of class records, a board with step 1, and so many types in their bytes: the sections in this order, then the trailer.
+unfoldable pub jobOf : ℕ → ℕ → List ℕ → ℕ → List ℕ → List ℕ
+jobOf w l classes types ts =
+    classes
+    ++ bytesOf 2 (w ∷ l ∷ 1 ∷ [])
+    ++ ts
+    ++ bytesOf 2 (length classes ∷ 0 ∷ (length classes + 6) ∷ length ts ∷ [])
+    ++ ((length classes / 3) ∷ types ∷ [])
+    ++ bytes 2 (length classes + length ts + 20)
+    ++ (0x44 ∷ 0x42 ∷ [])
+
+-- "turn mask 1, no class, demand 2": the squares as a type, with this class mask.
+unfoldable pub squareType : ℕ → List ℕ
+squareType classes = 2 ∷ 1 ∷ classes ∷ 1 ∷ 4 ∷ 0 ∷ 0 ∷ 2 ∷ 0 ∷ 2 ∷ 2 ∷ 0 ∷ 2 ∷ []
+
+-- Two squares in no class.
+unfoldable pub squares : ℕ → ℕ → List ℕ
+squares w l = jobOf w l [] 1 (squareType 0)
+
+-- Two squares in a class of this gap.
+unfoldable pub gapSquares : ℕ → ℕ → ℕ → List ℕ
+gapSquares gap w l = jobOf w l (0 ∷ 0 ∷ gap ∷ []) 1 (squareType 1)
+
+-- "W 2, L 4. The job in hexadecimal"
+unfoldable pub printedJob : List ℕ
+printedJob =
+    0x02 ∷ 0x00 ∷ 0x04 ∷ 0x00 ∷ 0x01 ∷ 0x00 ∷ 0x02 ∷ 0x01 ∷ 0x00 ∷ 0x01 ∷ 0x04 ∷ 0x00 ∷ 0x00 ∷ 0x02 ∷ 0x00 ∷ 0x02 ∷ 0x02 ∷ 0x00 ∷ 0x02 ∷ 0x00 ∷ 0x00 ∷ 0x00 ∷ 0x00 ∷ 0x06 ∷ 0x00 ∷ 0x0D ∷ 0x00 ∷ 0x00 ∷ 0x01 ∷ 0x21 ∷ 0x00 ∷ 0x44 ∷ 0x42 ∷ []
+
+-- "Two triangles (0,0) (2,0) (2,2) and (0,0) (2,2) (0,2), one each"
+unfoldable pub triangles : List ℕ
+triangles = jobOf 2 2 [] 2 (1 ∷ 1 ∷ 0 ∷ 1 ∷ 3 ∷ 0 ∷ 0 ∷ 2 ∷ 0 ∷ 2 ∷ 2 ∷ 1 ∷ 1 ∷ 0 ∷ 1 ∷ 3 ∷ 0 ∷ 0 ∷ 2 ∷ 2 ∷ 0 ∷ 2 ∷ [])
+
+-- "Strip (0,0) (10,10) (10,11) (0,1), demand 2, W 12, L 20"
+unfoldable pub strips : List ℕ
+strips = jobOf 12 20 [] 1 (2 ∷ 1 ∷ 0 ∷ 1 ∷ 4 ∷ 0 ∷ 0 ∷ 10 ∷ 10 ∷ 10 ∷ 11 ∷ 0 ∷ 1 ∷ [])
+
+-- "Bar (0,0) (3,0) (3,1) (0,1), demand 1, W 3, L 1", with this turn mask.
+unfoldable pub bar : ℕ → List ℕ
+bar turns = jobOf 3 1 [] 1 (1 ∷ turns ∷ 0 ∷ 1 ∷ 4 ∷ 0 ∷ 0 ∷ 3 ∷ 0 ∷ 3 ∷ 1 ∷ 0 ∷ 1 ∷ [])
+
+-- Two squares in "classes of rank 5 gap 1 and rank 9 gap 3", in this file order.
+unfoldable pub rankedSquares : List ℕ → List ℕ
+rankedSquares classes = jobOf 2 7 classes 1 (squareType 3)
+
+-- What a run leaves where it holds no layout of two pieces: the numbers that were there.
+abbrev untouched : List ℕ
+untouched = 7 ∷ 7 ∷ 7 ∷ 7 ∷ 7 ∷ 7 ∷ 7 ∷ 7 ∷ []
+
+-- ---- The table. Steps that the paper does not print were counted by hand
+
+unfoldable pub boards : List Marked
+boards =
+    -- "W 2, L 4 .. shortest 4 3"
+    (runs printedJob 1000000 ⇒ says (Shortest 4 3) true (0 ∷ 0 ∷ 0 ∷ 0 ∷ 0 ∷ 2 ∷ 0 ∷ 0 ∷ []))
+    -- "Budgets 3, 2, 1: shortest 4; stopped with 4; stopped with nothing."
+    ∷ (runs printedJob 3 ⇒ says (Shortest 4 3) true (0 ∷ 0 ∷ 0 ∷ 0 ∷ 0 ∷ 2 ∷ 0 ∷ 0 ∷ []))
+    ∷ (runs printedJob 2 ⇒ says (Stopped (Layout 4) 2) true (0 ∷ 0 ∷ 0 ∷ 0 ∷ 0 ∷ 2 ∷ 0 ∷ 0 ∷ []))
+    ∷ (runs printedJob 1 ⇒ says (Stopped Nothing 1) true untouched)
+    -- "L 3: none, 2 steps. L 1: none, 0 steps, also at budget 0."
+    ∷ (runs (squares 2 3) 1000000 ⇒ says (Infeasible 2) true untouched)
+    ∷ (runs (squares 2 1) 1000000 ⇒ says (Infeasible 0) true untouched)
+    ∷ (runs (squares 2 1) 0 ⇒ says (Infeasible 0) true untouched)
+    -- "Gap 1: L 5 gives 5; L 4 none."
+    ∷ (runs (gapSquares 1 2 5) 1000000 ⇒ says (Shortest 5 4) true (0 ∷ 0 ∷ 0 ∷ 0 ∷ 0 ∷ 3 ∷ 0 ∷ 0 ∷ []))
+    ∷ (runs (gapSquares 1 2 4) 1000000 ⇒ says (Infeasible 3) true untouched)
+    -- "Squares at (0,0) and (2,0) meet without conflict; (1,0) conflicts."
+    ∷ (conflicts 0 2 0 ⇒ isConflict false)
+    ∷ (conflicts 0 1 0 ⇒ isConflict true)
+    ∷ (checks printedJob (0 ∷ 0 ∷ 0 ∷ 0 ∷ 0 ∷ 2 ∷ 0 ∷ 0 ∷ []) ⇒ finds (C.Passes 4))
+    ∷ (checks printedJob (0 ∷ 0 ∷ 0 ∷ 0 ∷ 0 ∷ 1 ∷ 0 ∷ 0 ∷ []) ⇒ finds (C.Refused 11))
+    -- "Squares at (0,0) and (5,6): no conflict at gap 4, conflict at 5."
+    ∷ (conflicts 4 5 6 ⇒ isConflict false)
+    ∷ (conflicts 5 5 6 ⇒ isConflict true)
+    ∷ (checks (gapSquares 4 8 7) (0 ∷ 0 ∷ 0 ∷ 0 ∷ 0 ∷ 5 ∷ 6 ∷ 0 ∷ []) ⇒ finds (C.Passes 7))
+    ∷ (checks (gapSquares 5 8 7) (0 ∷ 0 ∷ 0 ∷ 0 ∷ 0 ∷ 5 ∷ 6 ∷ 0 ∷ []) ⇒ finds (C.Refused 11))
+    -- "Two triangles ..: shortest 2, both on dot (0,0)."
+    ∷ (runs triangles 1000000 ⇒ says (Shortest 2 2) true (0 ∷ 0 ∷ 0 ∷ 0 ∷ 1 ∷ 0 ∷ 0 ∷ 0 ∷ []))
+    -- "Strip ..: shortest 10, rows 0 and 1."
+    ∷ (runs strips 1000000 ⇒ says (Shortest 10 2) true (0 ∷ 0 ∷ 0 ∷ 0 ∷ 0 ∷ 0 ∷ 1 ∷ 0 ∷ []))
+    -- "Bar ..: turn mask 2 gives 1 at column 1; mask 1 none."
+    ∷ (runs (bar 2) 1000000 ⇒ says (Shortest 1 1) true (0 ∷ 1 ∷ 0 ∷ 1 ∷ []))
+    ∷ (runs (bar 1) 1000000 ⇒ says (Infeasible 0) true (7 ∷ 7 ∷ 7 ∷ 7 ∷ []))
+    -- "Classes of rank 5 gap 1 and rank 9 gap 3, in either file order: gap 1."
+    ∷ (runs (rankedSquares (0 ∷ 5 ∷ 1 ∷ 1 ∷ 9 ∷ 3 ∷ [])) 1000000 ⇒ says (Shortest 5 4) true (0 ∷ 0 ∷ 0 ∷ 0 ∷ 0 ∷ 3 ∷ 0 ∷ 0 ∷ []))
+    ∷ (runs (rankedSquares (1 ∷ 9 ∷ 3 ∷ 0 ∷ 5 ∷ 1 ∷ [])) 1000000 ⇒ says (Shortest 5 4) true (0 ∷ 0 ∷ 0 ∷ 0 ∷ 0 ∷ 3 ∷ 0 ∷ 0 ∷ []))
+    ∷ []

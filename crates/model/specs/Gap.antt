@@ -1,0 +1,40 @@
+-- Document 01, "Gap and conflict": the gap of a type and of a pair.
+use mathlib.Core.Bool.{Bool, cond}
+use mathlib.Core.List.{List, [], _∷_}
+use mathlib.Core.Option.{Option, none, some}
+use Prim.Native.Nat.{ℕ, max}
+use lib.Dec.{ltb}
+use Rattle.words.specs.Bits.{testBit}
+use Rattle.model.specs.Content.{SpacingClass, Kind, Job}
+use Rattle.model.specs.Lists.{keep}
+
+-- "class mask (bit i names class id i; zero means no class)"
+unfoldable pub names : Kind → SpacingClass → Bool
+names k c = testBit (k .classes) (c .id)
+
+-- The class of smaller rank number.
+unfoldable pub better : SpacingClass → SpacingClass → SpacingClass
+better c d = cond (ltb (d .rank) (c .rank)) d c
+
+-- The best-ranked of c and the classes.
+unfoldable pub bestFrom : SpacingClass → List SpacingClass → SpacingClass
+bestFrom c [] = c
+bestFrom c (d ∷ ds) = bestFrom (better c d) ds
+
+-- The class with the smallest rank number, if there is a class.
+unfoldable pub bestRanked : List SpacingClass → Option SpacingClass
+bestRanked [] = none
+bestRanked (c ∷ cs) = some (bestFrom c cs)
+
+-- The gap of the class, "and 0 if it has no class".
+unfoldable pub gapOr0 : Option SpacingClass → ℕ
+gapOr0 none = 0
+gapOr0 (some c) = c .gap
+
+-- "A type's gap is the gap of its class with the smallest rank number, and 0 if it has no class."
+unfoldable pub kindGap : Job → Kind → ℕ
+kindGap j k = gapOr0 (bestRanked (keep (names k) (j .classes)))
+
+-- "A pair's gap is the larger of the two."
+unfoldable pub pairGap : Job → Kind → Kind → ℕ
+pairGap j k m = max (kindGap j k) (kindGap j m)

@@ -1,0 +1,64 @@
+-- Names that open all definitions of a module, and one that opens them all, for theorems that compute with them: such a theorem
+-- says `unfolding opened`. The numbers mean nothing.
+use Prim.Native.Nat.{ℕ}
+use Rattle.integers.specs.Extrema.{maxZ, minZ}
+use Rattle.words.specs.Bits.{testBit, bitsWhere}
+use Rattle.words.specs.Number.{value, bytes, bytesOf, numberAt, withNumber, count, filled}
+use Rattle.model.specs.Lists.{all, any, keep, countOf, concat, sum, largest, rising, below, between, largestFrom, smallestFrom, largestZ, smallestZ}
+use Rattle.model.specs.Content.{pieceCount, kindCount, kindAt}
+use Rattle.model.specs.Grid.{columns, rows, dots, numberOf, placementOf, numberLimit, setWords}
+use Rattle.model.specs.Geometry.{quarterTurn, rotated, moved, vertexAt, following, cross, strictlyLeft, edgeSound, sound, outwardNormal, normals, negated, axes, directions, along, clearance, separates, separated, piecesConflict}
+use Rattle.model.specs.Gap.{names, better, bestFrom, bestRanked, gapOr0, kindGap, pairGap}
+use Rattle.model.specs.Candidate.{placedPart, placedParts, placedVertices, onBoard, admitted, isCandidate, candidates, natural, extent}
+use Rattle.model.specs.Format.{byteAt, wordAt, signed, trailerAt, boardAt, classesAt, kindsAt, kindsLength, classesStated, kindsStated, lengthStated, marked, boardSection, classesSection, kindsSection, inPlace, shareByte, boardOf, classAt, classesOf, byRisingId, joined, followed, many, vertices, readPart, headInRange, withParts, readKind, kindBytes, kindsGot, kindsIn, content, cause1, cause2, cause3, cause4, classInRange, distinct, cause5, namesPresent, kindsUnfit, cause6, vertexInRange, cause7, refusal}
+use Rattle.model.specs.Layout.{entryOf, entryNumber, entryKind, isEntry, entryExtent, conflict, inOrder, ordered, copies, demandMet, apart, passes, layoutLength}
+use Rattle.model.specs.Search.{pieces, candidateTable, free, abovePrevious, beats, staysBelow, live, copiesLeft, forwardCheck, then, completed, tryCandidates, searchPieces, searchFrom, lengthOf, stepsFrom, stepsNeeded, isStopped, stepsTaken, latest, bestAfter, held}
+use Rattle.model.specs.Services.{numbersIn, wordsIn, withNumbers, withWords, coordinate, vertexNumbers, partNumbers, kindNumbers, classNumbers, contentNumbers, readContent, read, cause12, rowBit, rowWords, rowContent, conflictRow, entryIn, layoutIn, cause11, check, workWords, cleared, entryNumbers, layoutNumbers, withLayout, heldAs, finishedAs, stepCount, verdict, runContent, run}
+
+unfoldable pub openedWords : ℕ
+unfolding maxZ minZ testBit bitsWhere value bytes bytesOf numberAt withNumber count filled
+openedWords = 0
+
+unfoldable pub openedLists : ℕ
+unfolding all any keep countOf concat sum largest rising below between largestFrom smallestFrom largestZ smallestZ
+openedLists = 0
+
+unfoldable pub openedContent : ℕ
+unfolding pieceCount kindCount kindAt
+openedContent = 0
+
+unfoldable pub openedGrid : ℕ
+unfolding columns rows dots numberOf placementOf numberLimit setWords
+openedGrid = 0
+
+unfoldable pub openedGeometry : ℕ
+unfolding quarterTurn rotated moved vertexAt following cross strictlyLeft edgeSound sound outwardNormal normals negated axes directions along clearance separates separated piecesConflict
+openedGeometry = 0
+
+unfoldable pub openedGap : ℕ
+unfolding names better bestFrom bestRanked gapOr0 kindGap pairGap
+openedGap = 0
+
+unfoldable pub openedCandidate : ℕ
+unfolding placedPart placedParts placedVertices onBoard admitted isCandidate candidates natural extent
+openedCandidate = 0
+
+unfoldable pub openedFormat : ℕ
+unfolding byteAt wordAt signed trailerAt boardAt classesAt kindsAt kindsLength classesStated kindsStated lengthStated marked boardSection classesSection kindsSection inPlace shareByte boardOf classAt classesOf byRisingId joined followed many vertices readPart headInRange withParts readKind kindBytes kindsGot kindsIn content cause1 cause2 cause3 cause4 classInRange distinct cause5 namesPresent kindsUnfit cause6 vertexInRange cause7 refusal
+openedFormat = 0
+
+unfoldable pub openedLayout : ℕ
+unfolding entryOf entryNumber entryKind isEntry entryExtent conflict inOrder ordered copies demandMet apart passes layoutLength
+openedLayout = 0
+
+unfoldable pub openedSearch : ℕ
+unfolding pieces candidateTable free abovePrevious beats staysBelow live copiesLeft forwardCheck then completed tryCandidates searchPieces searchFrom lengthOf stepsFrom stepsNeeded isStopped stepsTaken latest bestAfter held
+openedSearch = 0
+
+unfoldable pub openedServices : ℕ
+unfolding numbersIn wordsIn withNumbers withWords coordinate vertexNumbers partNumbers kindNumbers classNumbers contentNumbers readContent read cause12 rowBit rowWords rowContent conflictRow entryIn layoutIn cause11 check workWords cleared entryNumbers layoutNumbers withLayout heldAs finishedAs stepCount verdict runContent run
+openedServices = 0
+
+unfoldable pub opened : ℕ
+unfolding openedWords openedLists openedContent openedGrid openedGeometry openedGap openedCandidate openedFormat openedLayout openedSearch openedServices
+opened = 0

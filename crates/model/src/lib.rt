@@ -1,0 +1,133 @@
+// The answers of the services, and the paper's number and values of each.
+ghost use mathlib.Core.Path.{_≡_};
+ghost use Rattle.model.specs.Answers.{
+  runNumber,
+  runVerdict,
+  runLength,
+  runSteps,
+  writtenNumber,
+  writtenCount,
+  checkNumber,
+  checkLength,
+};
+
+// What read and row answer: the number of a refusal, or how many numbers or words they wrote.
+pub enum Written {
+    Refused(u8),
+    Count(u16),
+}
+
+// What check answers: the number of a refusal, or the length of the layout.
+pub enum Checked {
+    Refused(u8),
+    Passes(u16),
+}
+
+// What a stopped run holds: a layout of this length, or nothing.
+pub enum Held {
+    Layout(u16),
+    Nothing,
+}
+
+// What run answers. Shortest: the layout's length and the steps; Stopped: what it holds and the steps;
+// Infeasible, the paper's "none": no layout passes, and the steps.
+pub enum RunAnswer {
+    Refused(u8),
+    Shortest(u16, u32),
+    Stopped(Held, u32),
+    Infeasible(u32),
+}
+
+// The number of the refusal, and 0 where there is none.
+pub fn written_number(a: Written) -> u8
+    ensures { λ r. ⌜ r ≡ writtenNumber a ⌝ }
+{
+    match a {
+        Written::Refused(n) => n,
+        Written::Count(_) => 0,
+    }
+}
+
+// How many numbers or words were written.
+pub fn written_count(a: Written) -> u16
+    ensures { λ r. ⌜ r ≡ writtenCount a ⌝ }
+{
+    match a {
+        Written::Refused(_) => 0,
+        Written::Count(n) => n,
+    }
+}
+
+// The number of the refusal, and 0 where there is none.
+pub fn check_number(a: Checked) -> u8
+    ensures { λ r. ⌜ r ≡ checkNumber a ⌝ }
+{
+    match a {
+        Checked::Refused(n) => n,
+        Checked::Passes(_) => 0,
+    }
+}
+
+// The length of the layout that passes.
+pub fn check_length(a: Checked) -> u16
+    ensures { λ r. ⌜ r ≡ checkLength a ⌝ }
+{
+    match a {
+        Checked::Refused(_) => 0,
+        Checked::Passes(n) => n,
+    }
+}
+
+// The number of the refusal, 10 for none, and 0 otherwise.
+pub fn run_number(a: RunAnswer) -> u8
+    ensures { λ r. ⌜ r ≡ runNumber a ⌝ }
+{
+    match a {
+        RunAnswer::Refused(n) => n,
+        RunAnswer::Shortest(_, _) => 0,
+        RunAnswer::Stopped(_, _) => 0,
+        RunAnswer::Infeasible(_) => 10,
+    }
+}
+
+// The length of the layout that is held, and 0 where none is.
+pub fn run_length(a: RunAnswer) -> u16
+    ensures { λ r. ⌜ r ≡ runLength a ⌝ }
+{
+    match a {
+        RunAnswer::Refused(_) => 0,
+        RunAnswer::Shortest(n, _) => n,
+        RunAnswer::Stopped(h, _) => match h {
+            Held::Layout(n) => n,
+            Held::Nothing => 0,
+        },
+        RunAnswer::Infeasible(_) => 0,
+    }
+}
+
+// The steps taken, and 0 for a refusal.
+pub fn run_steps(a: RunAnswer) -> u32
+    ensures { λ r. ⌜ r ≡ runSteps a ⌝ }
+{
+    match a {
+        RunAnswer::Refused(_) => 0,
+        RunAnswer::Shortest(_, s) => s,
+        RunAnswer::Stopped(_, s) => s,
+        RunAnswer::Infeasible(s) => s,
+    }
+}
+
+// How the run ended: 0 finished or refused, 1 stopped with a layout, 2 stopped with nothing.
+pub fn run_verdict(a: RunAnswer) -> u8
+    ensures { λ r. ⌜ r ≡ runVerdict a ⌝ }
+{
+    match a {
+        RunAnswer::Refused(_) => 0,
+        RunAnswer::Shortest(_, _) => 0,
+        RunAnswer::Stopped(h, _) => match h {
+            Held::Layout(_) => 1,
+            Held::Nothing => 2,
+        },
+        RunAnswer::Infeasible(_) => 0,
+    }
+}
