@@ -1,1 +1,4 @@
 pub mod Boards
+pub mod Lists
+pub mod Numbers
+pub mod Passing

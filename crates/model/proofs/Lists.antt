@@ -1,0 +1,70 @@
+-- Laws of the list words of specs/Lists.
+use mathlib.Core.Bool.{Bool, true, false, _&&_, _||_}
+use mathlib.Core.List.{List, [], _∷_, _++_}
+use mathlib.Core.Path.{_≡_, refl, sym, ap, _∙_}
+use Prim.Native.Nat.{ℕ, zero, suc, _+_, _<_, _≤_}
+use native.Mathlib.Nat.{not-suc-le-zero, le-of-suc-le-suc, add-zero, add-suc, suc-add, zero-add}
+use native.Mathlib.Omega.{arith}
+use lib.ListN.{length, getD}
+use Rattle.model.specs.Lists.{all, any, keep, countOf, rising, below}
+
+-- Both of two tests hold.
+pub and-left : (a b : Bool) → (a && b) ≡ true → a ≡ true
+and-left true b e = refl
+and-left false b e = e
+
+pub and-right : (a b : Bool) → (a && b) ≡ true → b ≡ true
+and-right true b e = e
+and-right false true e = refl
+and-right false false e = e
+
+pub and-both : (a b : Bool) → a ≡ true → b ≡ true → (a && b) ≡ true
+and-both a b p q = rw (p, q)
+
+-- All four of four tests hold.
+pub and-four : (a b c d : Bool) → (a && b && c && d) ≡ true → (a ≡ true) × (b ≡ true) × (c ≡ true) × (d ≡ true)
+and-four a b c d e =
+    let abc = and-left (a && b && c) d e in
+    let ab = and-left (a && b) c abc in
+    (and-left a b ab, and-right a b ab, and-right (a && b) c abc, and-right (a && b && c) d e)
+
+module _ {A : Type 0} where
+  -- What holds of all elements holds of each, and the other way round.
+  pub all-at : (p : A → Bool) (xs : List A) (d : A) → all p xs ≡ true → (i : ℕ) → i < length xs → p (getD xs i d) ≡ true
+  unfolding all
+  all-at p [] d e i h = absurd (not-suc-le-zero h)
+  all-at p (x ∷ xs) d e zero h = and-left (p x) (all p xs) e
+  all-at p (x ∷ xs) d e (suc i) h = all-at p xs d (and-right (p x) (all p xs) e) i (le-of-suc-le-suc h)
+
+  pub all-of : (p : A → Bool) (xs : List A) (d : A) → ((i : ℕ) → i < length xs → p (getD xs i d) ≡ true) → all p xs ≡ true
+  unfolding all
+  all-of p [] d f = refl
+  all-of p (x ∷ xs) d f =
+      and-both (p x) (all p xs) (f zero (omega arith)) (all-of p xs d (λ i h. f (suc i) (omega arith)))
+
+-- The numbers from i on, k of them.
+pub length-rising : (i k : ℕ) → length (rising i k) ≡ k
+unfolding rising
+length-rising i zero = refl
+length-rising i (suc k) = ap suc (length-rising (suc i) k)
+
+pub getD-rising : (i k m d : ℕ) → m < k → getD (rising i k) m d ≡ i + m
+unfolding rising
+getD-rising i zero m d h = absurd (not-suc-le-zero h)
+getD-rising i (suc k) zero d h = sym (add-zero i)
+getD-rising i (suc k) (suc m) d h = getD-rising (suc i) k m d (le-of-suc-le-suc h) ∙ suc-add i m ∙ sym (add-suc i m)
+
+pub length-below : (n : ℕ) → length (below n) ≡ n
+unfolding below
+length-below n = length-rising 0 n
+
+pub getD-below : (n i d : ℕ) → i < n → getD (below n) i d ≡ i
+unfolding below
+getD-below n i d h = getD-rising 0 n i d h ∙ zero-add i
+
+-- A test of every number below n.
+pub all-below : (p : ℕ → Bool) (n : ℕ) → all p (below n) ≡ true → (i : ℕ) → i < n → p i ≡ true
+all-below p n e i h = rw (getD-below n i 0 h) at (all-at p (below n) 0 e i (rw (length-below n) h))
+
+pub below-all : (p : ℕ → Bool) (n : ℕ) → ((i : ℕ) → i < n → p i ≡ true) → all p (below n) ≡ true
+below-all p n f = all-of p (below n) 0 (λ i h. let k : i < n = rw (length-below n) at h in rw (getD-below n i 0 k) (f i k))
