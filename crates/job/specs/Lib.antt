@@ -1,2 +1,3 @@
 pub mod Trailer
+pub mod Board
 pub mod View

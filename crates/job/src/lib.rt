@@ -1,6 +1,8 @@
 // Reading a job: the sender's refusals 1 to 7, what the layers above use of an accepted job, and the read service.
 
+mod board;
 mod fields;
+mod sections;
 mod trailer;
 
 // What the layers above use of an accepted job: numbers, and where each part's bytes begin. Of each array the first
