@@ -1,2 +1,3 @@
-pub mod Boards
 pub mod Bools
+pub mod ClassLaws
+pub mod Ranges

@@ -1,3 +1,4 @@
 pub mod Trailer
 pub mod Board
+pub mod Classes
 pub mod View

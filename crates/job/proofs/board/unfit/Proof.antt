@@ -6,7 +6,7 @@ use Rattle.model.specs.Grid.{dots, columns, rows}
 use Rattle.model.specs.Lists.{between}
 use Rattle.model.proofs.Lists.{and-left, and-right}
 use Rattle.job.specs.Board.{unfitBoard, boardFrom}
-use Rattle.job.proofs.Boards.{between-bounds, dots-fit}
+use Rattle.job.proofs.Ranges.{between-bounds, dots-fit}
 use Rattle.job.proofs.Bools.{fails-some, fails-none}
 use borrow.Author.Needs.{needs}
 use Rattle.job.proofs.board.unfit.Statement.{statement}

@@ -1,10 +1,11 @@
--- The ranges of a board's fields.
-use mathlib.Core.Bool.{Bool, true, false, not, _&&_, _||_}
+-- Numbers in a range.
+use mathlib.Core.Bool.{true}
 use mathlib.Core.Path.{_≡_}
-use Prim.Native.Nat.{ℕ, _*_, _≤_, _<_, _^_}
-use native.Mathlib.Nat.{mul-le-mul, le-trans}
+use Prim.Native.Nat.{ℕ, _*_, _≤_}
+use native.Mathlib.Nat.{mul-le-mul}
 use native.Mathlib.Omega.{arith}
 use borrow.Author.Tests.{leb-true}
+use lib.Dec.{leb}
 use mir.Syntax.{w64}
 use mir.Val.{Fits}
 use Rattle.model.specs.Lists.{between}
@@ -13,10 +14,7 @@ use Rattle.model.proofs.Lists.{and-left, and-right}
 -- What lies from lo to hi.
 pub between-bounds : (lo hi n : ℕ) → between lo hi n ≡ true → (lo ≤ n) × (n ≤ hi)
 unfolding between
-between-bounds lo hi n e = (leb-true lo n (and-left _ _ e), leb-true n hi (and-right (leb-true-test) _ e))
-  where
-    leb-true-test : Bool
-    leb-true-test = lib.Dec.leb lo n
+between-bounds lo hi n e = (leb-true lo n (and-left _ _ e), leb-true n hi (and-right (leb lo n) _ e))
 
 -- The product of two numbers of at most 1001 fits.
 pub dots-fit : (a b : ℕ) → a ≤ 1001 → b ≤ 1001 → Fits w64 (a * b)
