@@ -1,3 +1,4 @@
 pub mod Bools
 pub mod ClassLaws
 pub mod Ranges
+pub mod RecordLaws

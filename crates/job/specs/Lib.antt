@@ -1,4 +1,5 @@
 pub mod Trailer
 pub mod Board
 pub mod Classes
+pub mod Records
 pub mod View

@@ -3,7 +3,6 @@ use crate::fields;
 ghost use mathlib.Core.Path.{_≡_};
 ghost use Prim.Native.Nat.{_+_, _/_, _≤_, _<_};
 ghost use lib.ListN.{length};
-ghost use Rattle.model.specs.Lists.{between};
 ghost use Rattle.job.specs.Board.{BoardIn, boardUnfit};
 
 // Width, length and step as they stand in the bytes.
@@ -24,13 +23,6 @@ pub fn read_board(job: &[u8], at: usize) -> Board
     }
 }
 
-// A board field is in range.
-fn in_range(n: usize) -> bool
-    ensures { λ r. ⌜ r ≡ between 1 1000 n ⌝ }
-{
-    (1 <= n) & (n <= 1000)
-}
-
 // How many multiples of the step there are from 0 up to n: the rows of a width, the columns of a length.
 pub fn multiples(n: usize, step: usize) -> usize
     requires { ⌜ (1 ≤ step) × (n ≤ 1000) ⌝ }
@@ -45,7 +37,7 @@ pub fn unfit(job: &[u8], at: usize) -> bool
     ensures { λ r. ⌜ r ≡ boardUnfit (now (job .entry)) at ⌝ }
 {
     let b = read_board(job, at);
-    if in_range(b.width) & in_range(b.length) & in_range(b.step) {
+    if fields::in_range(1, 1000, b.width) & fields::in_range(1, 1000, b.length) & fields::in_range(1, 1000, b.step) {
         return 1024 < multiples(b.length, b.step) * multiples(b.width, b.step);
     }
     true

@@ -3,6 +3,7 @@ ghost use mathlib.Core.Path.{_≡_};
 ghost use Prim.Native.Nat.{_+_, _≤_, _<_};
 ghost use lib.ListN.{length};
 ghost use Rattle.model.specs.Format.{byteAt, wordAt};
+ghost use Rattle.model.specs.Lists.{between};
 
 // A byte as a size.
 fn from_byte(x: u8) -> usize
@@ -32,4 +33,11 @@ pub fn word(s: &[u8], i: usize) -> usize
     ensures { λ r. ⌜ (r ≡ wordAt (now (s .entry)) i) × (r < 65536) ⌝ }
 {
     from_word(words::numbers::get_u16(s, i))
+}
+
+// The number lies from lo to hi, both included.
+pub fn in_range(lo: usize, hi: usize, n: usize) -> bool
+    ensures { λ r. ⌜ r ≡ between lo hi n ⌝ }
+{
+    (lo <= n) & (n <= hi)
 }

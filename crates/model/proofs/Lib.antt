@@ -4,3 +4,4 @@ pub mod Lists
 pub mod Numbers
 pub mod Passing
 pub mod Readers
+pub mod Records

@@ -12,11 +12,6 @@ use Rattle.model.specs.Content.{Kind}
 use Rattle.model.specs.Format.{Got, bad, got, joined, followed, many, kindsIn}
 
 module _ {A : Type 0} where
-  -- The bytes that were taken: none where nothing could be read.
-  unfoldable pub sizeOf : Got A → ℕ
-  sizeOf bad = 0
-  sizeOf (got a k) = k
-
   -- A record behind those that were read.
   unfoldable pub appended : List A → ℕ → Got A → Got (List A)
   appended xs m bad = bad
@@ -110,6 +105,30 @@ module _ {A : Type 0} where
 
     pub many-length : (n : ℕ) (s : List ℕ) (xs : List A) (m : ℕ) → many f n s ≡ got xs m → length xs ≡ n
     many-length n s xs m e = subst (Counted n) e (counted n s)
+
+    -- Records of at least c bytes each take at least c bytes each together.
+    module _ (c : ℕ) (each : (s : List ℕ) (a : A) (k : ℕ) → f s ≡ got a k → c ≤ k) where
+      abbrev Least : ℕ → Got (List A) → Type 0
+      Least n bad = Unit {0}
+      Least n (got xs m) = n * c ≤ m
+
+      least-joined : (n : ℕ) (a : A) (k : ℕ) (g : Got (List A)) → c ≤ k → Least n g → Least (suc n) (joined a k g)
+      unfolding joined
+      least-joined n a k bad h l = tt
+      least-joined n a k (got xs m) h l = omega arith
+
+      least-followed : (n : ℕ) → ((s : List ℕ) → Least n (many f n s)) → (s : List ℕ) (g : Got A) → f s ≡ g → Least (suc n) (followed g (many f n) s)
+      unfolding followed
+      least-followed n ih s bad e = tt
+      least-followed n ih s (got a k) e = least-joined n a k (many f n (drop k s)) (each s a k e) (ih (drop k s))
+
+      least : (n : ℕ) (s : List ℕ) → Least n (many f n s)
+      unfolding many
+      least zero s = omega arith
+      least (suc n) s = least-followed n (least n) s (f s) refl
+
+      pub many-least : (n : ℕ) (s : List ℕ) (xs : List A) (m : ℕ) → many f n s ≡ got xs m → n * c ≤ m
+      many-least n s xs m e = subst (Least n) e (least n s)
 
 -- The kinds that were read.
 pub kinds-got : (g : Got (List Kind)) (ks : List Kind) (m : ℕ) → g ≡ got ks m → kindsIn g ≡ ks

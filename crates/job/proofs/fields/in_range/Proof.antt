@@ -1,7 +1,7 @@
 use mathlib.Core.Path.{refl}
 use Rattle.model.specs.Lists.{between}
-use Rattle.job.proofs.board.in_range.Statement.{statement}
-use Rattle.job.proofs.board.in_range.Tie as tie
+use Rattle.job.proofs.fields.in_range.Statement.{statement}
+use Rattle.job.proofs.fields.in_range.Tie as tie
 
 returns : tie.Need-returns
 unfolding between
