@@ -11,9 +11,9 @@ use lib.Seq.{take-all}
 use Rattle.model.specs.Content.{Part, Kind, noKind}
 use Rattle.model.specs.Format.{byteAt, Got, bad, got, many, readPart, readKind, headInRange, withParts, vertices}
 use Rattle.model.specs.Lists.{between}
-use Rattle.model.proofs.Lists.{and-right}
+use Rattle.model.proofs.Lists.{and-right, and-four}
 use Rattle.model.proofs.Readers.{many-none, many-more, many-bad, many-least}
-use Rattle.model.proofs.Records.{PartRead, part-read, KindRead, kind-read}
+use Rattle.model.proofs.Records.{between-both, PartRead, part-read, KindRead, kind-read}
 use Rattle.job.specs.Records.{sizeOf, valueOf, valuesOf, Reads}
 
 -- A piece of a slice from a place to its end.
@@ -139,3 +139,47 @@ kind-none s e = go (readKind s) refl e
     go : (g : Got Kind) → readKind s ≡ g → sizeOf g ≡ 0 → g ≡ bad
     go bad q h = refl
     go (got k m) q h = let z = kind-read s k m q .head in let y : m ≡ 0 = sym (size-is (got k m) k m refl) ∙ h in absurd (omega arith)
+
+pub record HeadFits (s : List ℕ) : Type 0 where
+  pub whole : 4 ≤ length s
+  pub partsLeast : 1 ≤ byteAt s 3
+  pub partsMost : byteAt s 3 ≤ 6
+
+pub head-fits : (s : List ℕ) → headInRange s ≡ true → HeadFits s
+unfolding headInRange
+head-fits s e =
+    let tests = and-four (leb 4 (length s)) (between 1 12 (byteAt s 0)) (between 1 15 (byteAt s 1)) (between 1 6 (byteAt s 3)) e in
+    let n = between-both 1 6 (byteAt s 3) (tests .3) in
+    record { whole = leb-true _ _ (tests .0); partsLeast = n .0; partsMost = n .1 }
+
+-- The size of a kind, from the size of its parts.
+module _ (s : List ℕ) where
+  pub kind-headless : headInRange s ≡ false → 0 ≡ sizeOf (readKind s)
+  unfolding readKind sizeOf
+  kind-headless e = rw (e, readKind)
+
+  readKind-parts : headInRange s ≡ true → readKind s ≡ withParts s (many readPart (byteAt s 3) (drop 4 s))
+  unfolding readKind
+  readKind-parts e = rw (e, readKind)
+
+  size-parts : (g : Got (List Part)) → 0 < sizeOf g → 4 + sizeOf g ≡ sizeOf (withParts s g)
+  unfolding sizeOf withParts
+  size-parts bad h = absurd (omega arith)
+  size-parts (got ps m) h = refl
+
+  pub kind-taken : (r : ℕ) → headInRange s ≡ true → r ≡ sizeOf (many readPart (byteAt s 3) (take (length s - 4) (drop 4 s))) → (r ≡ 0 → ⊥)
+      → 4 + r ≡ sizeOf (readKind s)
+  kind-taken r h e z =
+      let q : r ≡ sizeOf (many readPart (byteAt s 3) (drop 4 s)) = e ∙ ap (λ l. sizeOf (many readPart (byteAt s 3) l)) (tail s 4) in
+      ap (λ x. 4 + x) q ∙ size-parts (many readPart (byteAt s 3) (drop 4 s)) (omega arith) ∙ sym (ap sizeOf (readKind-parts h))
+
+  no-parts : (g : Got (List Part)) → many readPart (byteAt s 3) (drop 4 s) ≡ g → 1 ≤ byteAt s 3 → sizeOf g ≡ 0 → 0 ≡ sizeOf (withParts s g)
+  unfolding sizeOf withParts
+  no-parts bad q h e = refl
+  no-parts (got ps m) q h e = absurd (omega (arith, parts-least _ m _ (reads-from _ ps m q) h))
+
+  pub kind-refused : (r : ℕ) → headInRange s ≡ true → r ≡ sizeOf (many readPart (byteAt s 3) (take (length s - 4) (drop 4 s))) → r ≡ 0
+      → 0 ≡ sizeOf (readKind s)
+  kind-refused r h e z =
+      let q : r ≡ sizeOf (many readPart (byteAt s 3) (drop 4 s)) = e ∙ ap (λ l. sizeOf (many readPart (byteAt s 3) l)) (tail s 4) in
+      no-parts (many readPart (byteAt s 3) (drop 4 s)) refl (head-fits s h .partsLeast) (sym q ∙ z) ∙ sym (ap sizeOf (readKind-parts h))
