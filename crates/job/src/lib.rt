@@ -3,6 +3,7 @@
 mod board;
 mod classes;
 mod fields;
+mod kinds;
 mod records;
 mod sections;
 mod trailer;
