@@ -1,5 +1,6 @@
 pub mod Bools
 pub mod ClassLaws
 pub mod KindLaws
+pub mod PartLaws
 pub mod Ranges
 pub mod RecordLaws

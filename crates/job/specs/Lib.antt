@@ -3,4 +3,5 @@ pub mod Board
 pub mod Classes
 pub mod Records
 pub mod Kinds
+pub mod Parts
 pub mod View

@@ -4,6 +4,7 @@ mod board;
 mod classes;
 mod fields;
 mod kinds;
+mod parts;
 mod records;
 mod sections;
 mod trailer;
