@@ -1,5 +1,6 @@
 pub mod Bools
 pub mod ClassLaws
+pub mod GapLaws
 pub mod KindLaws
 pub mod PartLaws
 pub mod Ranges

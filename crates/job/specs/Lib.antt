@@ -4,4 +4,5 @@ pub mod Classes
 pub mod Records
 pub mod Kinds
 pub mod Parts
+pub mod Gaps
 pub mod View

@@ -3,6 +3,7 @@
 mod board;
 mod classes;
 mod fields;
+mod gaps;
 mod kinds;
 mod parts;
 mod records;
