@@ -5,4 +5,5 @@ pub mod Records
 pub mod Kinds
 pub mod Parts
 pub mod Gaps
+pub mod Places
 pub mod View

@@ -6,6 +6,7 @@ mod fields;
 mod gaps;
 mod kinds;
 mod parts;
+mod places;
 mod records;
 mod sections;
 mod trailer;

@@ -1,3 +1,4 @@
+pub mod Accepted
 pub mod Boards
 pub mod Folds
 pub mod Lists
