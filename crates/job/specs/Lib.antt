@@ -6,4 +6,5 @@ pub mod Kinds
 pub mod Parts
 pub mod Gaps
 pub mod Places
+pub mod Table
 pub mod View

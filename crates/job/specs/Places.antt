@@ -16,4 +16,5 @@ pub record FoundAt (s : List ℕ) (base o : ℕ) (P : Part) : Type 0 where
 -- The places of the first n parts of the bytes s stand in a table from entry `first` on; the entries before are as they were.
 pub record Placed (s : List ℕ) (n base first : ℕ) (before table : List ℕ) : Type 0 where
   pub found : (i : ℕ) → i < n → FoundAt s base (getD table (first + i) 0) (getD (valuesOf (many readPart n s)) i [])
+  pub size : length table ≡ length before
   pub kept : (j : ℕ) → j < first → getD table j 0 ≡ getD before j 0

@@ -9,6 +9,7 @@ mod parts;
 mod places;
 mod records;
 mod sections;
+mod table;
 mod trailer;
 
 // What the layers above use of an accepted job: numbers, and where each part's bytes begin. Of each array the first

@@ -23,7 +23,7 @@ or-right true true e = e
 or-right true false e = refl
 or-right false b e = e
 
--- None of the causes holds.
+-- None of the first six causes holds.
 pub record NoCause (s : List ℕ) : Type 0 where
   pub no1 : cause1 s ≡ false
   pub no2 : cause2 s ≡ false
@@ -40,56 +40,64 @@ cond-rest : (b : Bool) (n m : ℕ) → cond b (suc n) m ≡ 0 → m ≡ 0
 cond-rest true n m e = absurd (omega arith)
 cond-rest false n m e = e
 
--- The refusal, cause by cause.
-abbrev from7 : List ℕ → ℕ
-from7 s = cond (cause7 s) 7 0
+-- The refusal, cause by cause, with r behind the sixth.
+abbrev from6 : List ℕ → ℕ → ℕ
+from6 s r = cond (cause6 s) 6 r
 
-abbrev from6 : List ℕ → ℕ
-from6 s = cond (cause6 s) 6 (from7 s)
+abbrev from5 : List ℕ → ℕ → ℕ
+from5 s r = cond (cause5 s) 5 (from6 s r)
 
-abbrev from5 : List ℕ → ℕ
-from5 s = cond (cause5 s) 5 (from6 s)
+abbrev from4 : List ℕ → ℕ → ℕ
+from4 s r = cond (cause4 s) 4 (from5 s r)
 
-abbrev from4 : List ℕ → ℕ
-from4 s = cond (cause4 s) 4 (from5 s)
+abbrev from3 : List ℕ → ℕ → ℕ
+from3 s r = cond (cause3 s) 3 (from4 s r)
 
-abbrev from3 : List ℕ → ℕ
-from3 s = cond (cause3 s) 3 (from4 s)
+abbrev from2 : List ℕ → ℕ → ℕ
+from2 s r = cond (cause2 s) 2 (from3 s r)
 
-abbrev from2 : List ℕ → ℕ
-from2 s = cond (cause2 s) 2 (from3 s)
+abbrev pub from1 : List ℕ → ℕ → ℕ
+from1 s r = cond (cause1 s) 1 (from2 s r)
 
-module _ (s : List ℕ) (e : refusal s ≡ 0) where
-  rest2 : from2 s ≡ 0
-  unfolding refusal
-  rest2 = cond-rest (cause1 s) 0 (from2 s) e
+module _ (s : List ℕ) (r : ℕ) (e : from1 s r ≡ 0) where
+  rest2 : from2 s r ≡ 0
+  rest2 = cond-rest (cause1 s) 0 (from2 s r) e
 
-  rest3 : from3 s ≡ 0
-  rest3 = cond-rest (cause2 s) 1 (from3 s) rest2
+  rest3 : from3 s r ≡ 0
+  rest3 = cond-rest (cause2 s) 1 (from3 s r) rest2
 
-  rest4 : from4 s ≡ 0
-  rest4 = cond-rest (cause3 s) 2 (from4 s) rest3
+  rest4 : from4 s r ≡ 0
+  rest4 = cond-rest (cause3 s) 2 (from4 s r) rest3
 
-  rest5 : from5 s ≡ 0
-  rest5 = cond-rest (cause4 s) 3 (from5 s) rest4
+  rest5 : from5 s r ≡ 0
+  rest5 = cond-rest (cause4 s) 3 (from5 s r) rest4
 
-  rest6 : from6 s ≡ 0
-  rest6 = cond-rest (cause5 s) 4 (from6 s) rest5
+  rest6 : from6 s r ≡ 0
+  rest6 = cond-rest (cause5 s) 4 (from6 s r) rest5
 
-  pub no-cause : NoCause s
-  unfolding refusal
-  no-cause =
+  pub rest7 : r ≡ 0
+  rest7 = cond-rest (cause6 s) 5 r rest6
+
+  pub none-before : NoCause s
+  none-before =
       record {
-        no1 = cond-none (cause1 s) 0 (from2 s) e;
-        no2 = cond-none (cause2 s) 1 (from3 s) rest2;
-        no3 = cond-none (cause3 s) 2 (from4 s) rest3;
-        no4 = cond-none (cause4 s) 3 (from5 s) rest4;
-        no5 = cond-none (cause5 s) 4 (from6 s) rest5;
-        no6 = cond-none (cause6 s) 5 (from7 s) rest6;
+        no1 = cond-none (cause1 s) 0 (from2 s r) e;
+        no2 = cond-none (cause2 s) 1 (from3 s r) rest2;
+        no3 = cond-none (cause3 s) 2 (from4 s r) rest3;
+        no4 = cond-none (cause4 s) 3 (from5 s r) rest4;
+        no5 = cond-none (cause5 s) 4 (from6 s r) rest5;
+        no6 = cond-none (cause6 s) 5 r rest6;
       }
 
-  pub no-cause7 : cause7 s ≡ false
-  no-cause7 = cond-none (cause7 s) 6 0 (cond-rest (cause6 s) 5 (from7 s) rest6)
+pub refusal-is : (s : List ℕ) → refusal s ≡ from1 s (cond (cause7 s) 7 0)
+unfolding refusal
+refusal-is s = refl
+
+pub no-cause : (s : List ℕ) → refusal s ≡ 0 → NoCause s
+no-cause s e = none-before s (cond (cause7 s) 7 0) (sym (refusal-is s) ∙ e)
+
+pub no-cause7 : (s : List ℕ) → refusal s ≡ 0 → cause7 s ≡ false
+no-cause7 s e = cond-none (cause7 s) 6 0 (rest7 s (cond (cause7 s) 7 0) (sym (refusal-is s) ∙ e))
 
 -- ---- Sections
 
