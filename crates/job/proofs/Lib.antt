@@ -6,3 +6,4 @@ pub mod PartLaws
 pub mod PlaceLaws
 pub mod Ranges
 pub mod RecordLaws
+pub mod TableLaws
