@@ -1,4 +1,5 @@
 pub mod Bools
+pub mod CauseLaws
 pub mod ClassLaws
 pub mod GapLaws
 pub mod KindLaws

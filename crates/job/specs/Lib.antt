@@ -7,4 +7,5 @@ pub mod Parts
 pub mod Gaps
 pub mod Places
 pub mod Table
+pub mod Refusal
 pub mod View

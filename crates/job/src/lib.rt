@@ -1,6 +1,7 @@
 // Reading a job: the sender's refusals 1 to 7, what the layers above use of an accepted job, and the read service.
 
 mod board;
+mod causes;
 mod classes;
 mod fields;
 mod gaps;
