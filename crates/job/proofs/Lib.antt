@@ -8,3 +8,4 @@ pub mod PlaceLaws
 pub mod Ranges
 pub mod RecordLaws
 pub mod TableLaws
+pub mod ViewLaws

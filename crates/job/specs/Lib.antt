@@ -8,4 +8,5 @@ pub mod Gaps
 pub mod Places
 pub mod Table
 pub mod Refusal
+pub mod Soundness
 pub mod View

@@ -1,5 +1,6 @@
 // Reading a job: the sender's refusals 1 to 7, what the layers above use of an accepted job, and the read service.
 
+mod accepted;
 mod board;
 mod causes;
 mod classes;
@@ -12,6 +13,7 @@ mod records;
 mod sections;
 mod table;
 mod trailer;
+
 
 // What the layers above use of an accepted job: numbers, and where each part's bytes begin. Of each array the first
 // `kinds` entries count; of `part_at` the entries t * 6 + i for part i of kind t.
