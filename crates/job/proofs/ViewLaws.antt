@@ -7,11 +7,11 @@ use native.Mathlib.Omega.{arith}
 use lib.ListN.{length, getD, take, drop, length-take, length-drop}
 use lib.Seq.{getD-take, getD-drop, take-all, drop-drop}
 use Rattle.model.specs.Content.{Part, Kind, noKind, kindAt, kindCount, pieceCount}
-use Rattle.model.specs.Format.{byteAt, wordAt, boardAt, Got, got, many, readPart, readKind, vertices, kindsAt, kindsLength, kindsStated, kindBytes, kindsGot, content, boardOf, classesAt, classesStated, cause6, cause7}
+use Rattle.model.specs.Format.{byteAt, wordAt, boardAt, Got, got, many, readPart, readKind, vertices, kindsAt, kindsLength, kindsStated, kindBytes, kindsGot, content, boardOf, classesAt, classesStated, cause1, cause2, cause3, cause4, cause5, cause6, cause7, refusal}
 use Rattle.model.specs.Gap.{kindGap}
 use Rattle.model.specs.Lists.{any, sum}
 use Rattle.model.specs.Grid.{rows, columns}
-use Rattle.model.proofs.Accepted.{NoCause, none-before, Sections, sections, BoardFits, board-fits, classes-distinct, KindsFit, kinds-fit}
+use Rattle.model.proofs.Accepted.{NoCause, none-before, refusal-is, Sections, sections, BoardFits, board-fits, classes-distinct, KindsFit, kinds-fit}
 use Rattle.model.proofs.Folds.{any-take-more}
 use Rattle.model.proofs.Readers.{many-length}
 use Rattle.model.proofs.Records.{byte-behind, byte-first, length-vertices, vertices-same, PartRead, part-read}
@@ -156,15 +156,15 @@ module _ (s : List ℕ) (e : refusalTo6 s ≡ 0) where
           kinds = ek ∙ sym kind-count;
           pieces = b .demanded ∙ ap (λ l. sum (map (λ k. k .demand) l)) vs;
           kind = λ t h.
-            let st = subst (λ l. Stored (classesFrom s o m) (take (base + size - base) (drop base s)) base (v .demands) (v .rotations) (v .gaps) (v .parts) (v .«part_at») t (getD l t noKind)) vs (b .stored t (let q = kind-count in omega arith)) in
-            record {
-              demand = st .demand;
-              rotations = st .rotations;
-              gap = st .gap ∙ gap-in o m _ eo em;
-              parts = st .parts;
-              fewParts = st .fewParts;
-              part = λ i q. part-at s _ _ (subst₂ (λ l c. FoundAt l c (getD (v .«part_at») (t * 6 + i) 0) (getD (kindAt (content s) t .parts) i [])) (list-is s base size eb es) eb (st .part i q));
-            };
+              let st = subst (λ l. Stored (classesFrom s o m) (take (base + size - base) (drop base s)) base (v .demands) (v .rotations) (v .gaps) (v .parts) (v .«part_at») t (getD l t noKind)) vs (b .stored t (let q = kind-count in omega arith)) in
+              record {
+                demand = st .demand;
+                rotations = st .rotations;
+                gap = st .gap ∙ gap-in o m _ eo em;
+                parts = st .parts;
+                fewParts = st .fewParts;
+                part = λ i q. part-at s _ _ (subst₂ (λ l c. FoundAt l c (getD (v .«part_at») (t * 6 + i) 0) (getD (kindAt (content s) t .parts) i [])) (list-is s base size eb es) eb (st .part i q));
+              };
         }
 
 -- The board that was read is that of the job.
@@ -180,3 +180,34 @@ unfolding badAt badPart
 part-judged s o n r en er =
     er ∙ ap (λ l. unfitFrom l n) (tail s o) ∙ unfit-same (drop o s) n
     ∙ rw (drop-drop 1 o s, en)
+
+-- ---- The refusal
+
+abbrev sixth : Bool → Bool → Bool → Bool → Bool → Bool → ℕ → ℕ
+sixth a b c d e f r = cond a 1 (cond b 2 (cond c 3 (cond d 4 (cond e 5 (cond f 6 r)))))
+
+pub refusal-six : (s : List ℕ) → (refusalTo6 s ≡ 0 → ⊥) → refusalTo6 s ≡ refusal s
+unfolding refusalTo6
+refusal-six s h = sym (refusal-is s ∙ same (cause1 s) (cause2 s) (cause3 s) (cause4 s) (cause5 s) (cause6 s) h)
+  where
+    same : (a b c d e f : Bool) → (sixth a b c d e f 0 ≡ 0 → ⊥) → sixth a b c d e f (cond (cause7 s) 7 0) ≡ sixth a b c d e f 0
+    same true b c d e f h = refl
+    same false true c d e f h = refl
+    same false false true d e f h = refl
+    same false false false true e f h = refl
+    same false false false false true f h = refl
+    same false false false false false true h = refl
+    same false false false false false false h = absurd (h refl)
+
+pub refusal-seven : (s : List ℕ) (t : Bool) → refusalTo6 s ≡ 0 → cause7 s ≡ t → refusal s ≡ cond t 7 0
+refusal-seven s t e q =
+    let n = no-six s e in
+    refusal-is s ∙ rw (n .no1, n .no2, n .no3, n .no4, n .no5, n .no6, q)
+
+pub few-kinds : (s : List ℕ) → refusalTo6 s ≡ 0 → kindCount (content s) ≤ 8
+unfolding kindCount kindsGot
+few-kinds s e =
+    let k = kinds-in s e in
+    let q : length (content s .kinds) ≡ kindsStated s = many-length readKind (kindsStated s) (kindBytes s) _ _ (k .reads) in
+    let m = k .most in
+    omega arith

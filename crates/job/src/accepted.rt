@@ -1,10 +1,10 @@
 // The view of a job that gives none of the causes 1 to 6, and cause 7 read through it.
+use crate::View;
 use crate::board;
 use crate::fields;
 use crate::parts;
 use crate::table;
 use crate::trailer;
-use crate::View;
 ghost use mathlib.Core.Path.{_≡_};
 ghost use Prim.Native.Nat.{_+_, _*_, _≤_, _<_};
 ghost use lib.ListN.{length};
@@ -22,7 +22,14 @@ pub fn view_of(job: &[u8]) -> View
     let b = board::read_board(job, t.board);
     let base = t.kinds;
     let end = base + t.kinds_length;
-    let table = table::read_kinds(job, t.classes, t.class_count, &job[base..end], base, t.kind_count);
+    let table = table::read_kinds(
+        job,
+        t.classes,
+        t.class_count,
+        &job[base..end],
+        base,
+        t.kind_count,
+    );
     let demands = table.demands;
     let rotations = table.rotations;
     let gaps = table.gaps;

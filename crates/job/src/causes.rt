@@ -33,7 +33,8 @@ fn kinds_refused(job: &[u8]) -> bool
     let t = trailer::read_trailer(job);
     let base = t.kinds;
     let end = base + t.kinds_length;
-    !fields::in_range(1, 8, t.kind_count) | kinds::unfit(job, t.classes, t.class_count, &job[base..end], t.kind_count)
+    !fields::in_range(1, 8, t.kind_count)
+        | kinds::unfit(job, t.classes, t.class_count, &job[base..end], t.kind_count)
 }
 
 // The number of the first of the causes 1 to 6, and 0 where there is none. Each is looked at only after those before it.

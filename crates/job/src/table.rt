@@ -41,7 +41,13 @@ pub fn read_kinds(job: &[u8], at: usize, n: usize, list: &[u8], base: usize, kin
         rotations[t] = fields::byte(list, here + 1);
         gaps[t] = gaps::kind_gap(job, at, n, fields::byte(list, here + 2));
         parts[t] = count;
-        places::place_parts(&list[here + 4..], count, base + here + 4, t * 6, &mut part_at);
+        places::place_parts(
+            &list[here + 4..],
+            count,
+            base + here + 4,
+            t * 6,
+            &mut part_at,
+        );
         pieces += demand;
         here += records::kind_size(&list[here..]);
         t += 1;

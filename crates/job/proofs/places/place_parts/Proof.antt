@@ -12,7 +12,7 @@ use Rattle.job.proofs.places.place_parts.Statement.{statement}
 use Rattle.job.proofs.places.place_parts.Tie as tie
 
 abbrev Inv-loop : tie.InvT-loop
-Inv-loop parts n base first table₀ here₀ i₀ table here i = ((i ≤ n) × (here ≤ length parts) ) × (Reads (many readPart i parts) here × Placed parts i base first table₀ table)
+Inv-loop parts n base first table₀ here₀ i₀ table here i = ((i ≤ n) × (here ≤ length parts)) × (Reads (many readPart i parts) here × Placed parts i base first table₀ table)
 
 abbrev μ-loop : tie.MeasureT-loop
 μ-loop parts n base first table₀ here₀ i₀ table here i = n - i
@@ -54,10 +54,13 @@ loop-less : tie.Need-loop-less Inv-loop μ-loop
 loop-less c = search needs
 
 loop-again : tie.Need-loop-again Inv-loop μ-loop
-loop-again c =
-    (omega (arith, tail-length (c .before .before .before .before .before .args .parts .now) (c .before .before .before .loop .here)),
-    (reads-next (c .before .before .before .before .before .args .parts .now) (c .before .before .before .before .before .args .n) (c .before .before .before .before .before .args .base) (c .before .before .before .before .before .args .first) (c .before .before .before .before .before .args .table .now) (c .before .before .before .loop .i) (c .before .before .before .loop .here) _ _ (c .before .before .before .before .before .pre .1) (c .before .before .loop-test .taken) (c .before .before .before .loop .inv .1 .0) (c .part-size .ensures .0),
-    placed-more (c .before .before .before .before .before .args .parts .now) (c .before .before .before .before .before .args .n) (c .before .before .before .before .before .args .base) (c .before .before .before .before .before .args .first) (c .before .before .before .before .before .args .table .now) (c .before .before .before .loop .i) (c .before .before .before .loop .here) _ (c .before .before .before .loop .table) (c .before .before .before .before .before .pre .1) (c .before .before .loop-test .taken) (c .before .before .before .loop .inv .1 .0) (omega arith) (c .before .before .before .loop .inv .1 .1)))
+loop-again c = (
+  omega (arith, tail-length (c .before .before .before .before .before .args .parts .now) (c .before .before .before .loop .here)),
+  (
+    reads-next (c .before .before .before .before .before .args .parts .now) (c .before .before .before .before .before .args .n) (c .before .before .before .before .before .args .base) (c .before .before .before .before .before .args .first) (c .before .before .before .before .before .args .table .now) (c .before .before .before .loop .i) (c .before .before .before .loop .here) _ _ (c .before .before .before .before .before .pre .1) (c .before .before .loop-test .taken) (c .before .before .before .loop .inv .1 .0) (c .part-size .ensures .0),
+    placed-more (c .before .before .before .before .before .args .parts .now) (c .before .before .before .before .before .args .n) (c .before .before .before .before .before .args .base) (c .before .before .before .before .before .args .first) (c .before .before .before .before .before .args .table .now) (c .before .before .before .loop .i) (c .before .before .before .loop .here) _ (c .before .before .before .loop .table) (c .before .before .before .before .before .pre .1) (c .before .before .loop-test .taken) (c .before .before .before .loop .inv .1 .0) (omega arith) (c .before .before .before .loop .inv .1 .1),
+  ),
+)
 
 returns : tie.Need-returns Inv-loop μ-loop
 returns c =

@@ -127,10 +127,13 @@ loop-again c =
     let cs = classesFrom (c .before .before .before .before .before .before .before .before .before .before .before .before .before .before .args .job .now) (c .before .before .before .before .before .before .before .before .before .before .before .before .before .before .args .at) (c .before .before .before .before .before .before .before .before .before .before .before .before .before .before .args .n) in
     let l = tail-length s (c .before .before .before .before .before .before .before .before .before .before .before .loop .here) in
     let b = c .before .before .before .before .before .before .before .before .before .before .before .loop .inv .1 .1 in
-    let z = c .before .before .before .before .before .before .before .before .before .before .before .loop .inv .1 .0 in
-    (omega (arith, l),
-    ((simp length-set (z .0), simp length-set (z .1), simp length-set (z .2), simp length-set (z .3), c .before .before .place-parts .ensures .size ∙ z .4),
-    built-more cs s (c .before .before .before .before .before .before .before .before .before .before .before .before .before .before .args .base) (c .before .before .before .before .before .before .before .before .before .before .before .before .before .before .args .kinds) _ (c .before .before .before .before .before .before .before .before .before .before .before .before .before .before .pre .1 .0) (c .before .before .before .before .before .before .before .before .before .before .before .loop .t) (c .before .before .before .before .before .before .before .before .before .before .before .loop .here) (c .before .before .before .before .before .before .before .before .before .before .before .loop .pieces) (c .before .before .before .before .before .before .before .before .before .before .before .loop .demands) (c .before .before .before .before .before .before .before .before .before .before .before .loop .rotations) (c .before .before .before .before .before .before .before .before .before .before .before .loop .gaps) (c .before .before .before .before .before .before .before .before .before .before .before .loop .parts) (c .before .before .before .before .before .before .before .before .before .before .before .loop .part-at) _ (c .before .before .before .before .before .before .before .before .before .byte .result) (c .before .before .before .before .before .before .before .byte3 .result) (c .before .before .before .before .before .kind-gap .result) (c .before .before .before .before .before .before .before .before .byte2 .result) (c .kind-size .result) 0 (c .before .before .before .before .before .before .before .before .before .before .loop-test .taken) (omega arith) (omega arith) (omega arith) (omega arith) b (c .before .before .before .before .before .before .before .before .before .byte .ensures .0) (c .before .before .before .before .before .before .before .byte3 .ensures .0) (c .before .before .before .before .before .before .before .before .byte2 .ensures .0) (gap-of (c .before .before .before .before .before .before .before .before .before .before .before .before .before .before .args .job .now) s (c .before .before .before .before .before .before .before .before .before .before .before .before .before .before .args .at) (c .before .before .before .before .before .before .before .before .before .before .before .before .before .before .args .n) (c .before .before .before .before .before .before .before .before .before .before .before .loop .here) (c .before .before .before .before .before .before .byte4 .result) (c .before .before .before .before .before .kind-gap .result) (c .before .before .before .before .before .before .before .before .before .before .before .before .before .before .pre .1 .1) (c .before .before .before .before .before .kind-gap .ensures) (c .before .before .before .before .before .before .byte4 .ensures .0)) (c .before .before .place-parts .ensures) (c .kind-size .ensures .0)))
+    let z = c .before .before .before .before .before .before .before .before .before .before .before .loop .inv .1 .0 in (
+      omega (arith, l),
+      (
+        (simp length-set (z .0), simp length-set (z .1), simp length-set (z .2), simp length-set (z .3), c .before .before .place-parts .ensures .size ∙ z .4),
+        built-more cs s (c .before .before .before .before .before .before .before .before .before .before .before .before .before .before .args .base) (c .before .before .before .before .before .before .before .before .before .before .before .before .before .before .args .kinds) _ (c .before .before .before .before .before .before .before .before .before .before .before .before .before .before .pre .1 .0) (c .before .before .before .before .before .before .before .before .before .before .before .loop .t) (c .before .before .before .before .before .before .before .before .before .before .before .loop .here) (c .before .before .before .before .before .before .before .before .before .before .before .loop .pieces) (c .before .before .before .before .before .before .before .before .before .before .before .loop .demands) (c .before .before .before .before .before .before .before .before .before .before .before .loop .rotations) (c .before .before .before .before .before .before .before .before .before .before .before .loop .gaps) (c .before .before .before .before .before .before .before .before .before .before .before .loop .parts) (c .before .before .before .before .before .before .before .before .before .before .before .loop .part-at) _ (c .before .before .before .before .before .before .before .before .before .byte .result) (c .before .before .before .before .before .before .before .byte3 .result) (c .before .before .before .before .before .kind-gap .result) (c .before .before .before .before .before .before .before .before .byte2 .result) (c .kind-size .result) 0 (c .before .before .before .before .before .before .before .before .before .before .loop-test .taken) (omega arith) (omega arith) (omega arith) (omega arith) b (c .before .before .before .before .before .before .before .before .before .byte .ensures .0) (c .before .before .before .before .before .before .before .byte3 .ensures .0) (c .before .before .before .before .before .before .before .before .byte2 .ensures .0) (gap-of (c .before .before .before .before .before .before .before .before .before .before .before .before .before .before .args .job .now) s (c .before .before .before .before .before .before .before .before .before .before .before .before .before .before .args .at) (c .before .before .before .before .before .before .before .before .before .before .before .before .before .before .args .n) (c .before .before .before .before .before .before .before .before .before .before .before .loop .here) (c .before .before .before .before .before .before .byte4 .result) (c .before .before .before .before .before .kind-gap .result) (c .before .before .before .before .before .before .before .before .before .before .before .before .before .before .pre .1 .1) (c .before .before .before .before .before .kind-gap .ensures) (c .before .before .before .before .before .before .byte4 .ensures .0)) (c .before .before .place-parts .ensures) (c .kind-size .ensures .0),
+      ),
+    )
 
 returns : tie.Need-returns Inv-loop μ-loop
 returns c = built-end (classesFrom (c .before .before .before .before .args .job .now) (c .before .before .before .before .args .at) (c .before .before .before .before .args .n)) (c .before .before .before .before .args .list .now) (c .before .before .before .before .args .base) (c .before .before .before .before .args .kinds) _ (c .before .before .before .before .pre .1 .0) (c .before .loop .t) (c .before .loop .here) _ _ _ _ _ _ (omega arith) (c .before .loop .inv .1 .1)
