@@ -1,8 +1,10 @@
 // Soundness of a part: cause 7 of refusal. Each function receives a piece of the job that begins at the part's first byte: the number
 // of corners, then x and y of each.
 use crate::fields;
+ghost use mathlib.Core.Bool.{_||_};
 ghost use mathlib.Core.Path.{_≡_};
 ghost use Prim.Native.Nat.{_+_, _*_, _≤_, _<_};
+ghost use lib.Dec.{eqb};
 ghost use lib.IntN.{negsuc, _-ℤ_};
 ghost use lib.ListN.{length};
 ghost use lib.Signed.{leZ};
@@ -41,6 +43,14 @@ fn next(i: usize, n: usize) -> usize
     if i + 1 == n { 0 } else { i + 1 }
 }
 
+// Corner k is not looked at for the edge from p to q: it is one of the two. Every other one is, neighbour of the edge or not.
+fn spared(n: usize, p: usize, q: usize, k: usize) -> bool
+    requires { ⌜ (n ≤ 8) × (k < n) ⌝ }
+    ensures { λ r. ⌜ r ≡ (eqb k p || eqb k q) ⌝ }
+{
+    (k == p) | (k == q)
+}
+
 // Every corner but p and q lies strictly left of the edge from p to q, also those that are no neighbours of the edge.
 fn edge_sound(part: &[u8], n: usize, p: usize, q: usize) -> bool
     requires { ⌜ ((n ≤ 8) × (n * 2 + 1 ≤ length (now part))) × ((p < n) × (q < n)) ⌝ }
@@ -49,7 +59,7 @@ fn edge_sound(part: &[u8], n: usize, p: usize, q: usize) -> bool
     let mut ok = true;
     let mut k = 0;
     while k < n {
-        ok = ok & ((k == p) | (k == q) | strictly_left(part, p, q, k));
+        ok = ok & (spared(n, p, q, k) | strictly_left(part, p, q, k));
         k += 1;
     }
     ok

@@ -1,4 +1,5 @@
 pub mod Accepted
+pub mod AcceptedKinds
 pub mod Boards
 pub mod Folds
 pub mod Lists
@@ -6,3 +7,4 @@ pub mod Numbers
 pub mod Passing
 pub mod Readers
 pub mod Records
+pub mod Refusals

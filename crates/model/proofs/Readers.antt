@@ -3,10 +3,10 @@ use mathlib.Core.Bool.{Bool, true, false}
 use mathlib.Core.List.{List, [], _∷_, _++_}
 use mathlib.Core.Path.{_≡_, refl, sym, ap, subst, _∙_}
 use Prim.Native.Nat.{ℕ, zero, suc, _+_, _-_, _*_, _<_, _≤_}
-use native.Mathlib.Nat.{add-zero, zero-add, add-assoc}
+use native.Mathlib.Nat.{add-zero, zero-add, add-assoc, not-suc-le-zero, le-of-suc-le-suc}
 use native.Mathlib.Numerals.{add-one}
 use native.Mathlib.Omega.{arith}
-use lib.ListN.{length, drop, length-append}
+use lib.ListN.{length, getD, drop, length-append}
 use lib.Seq.{drop-drop}
 use Rattle.model.specs.Content.{Kind}
 use Rattle.model.specs.Format.{Got, bad, got, joined, followed, many, kindsIn}
@@ -129,6 +129,34 @@ module _ {A : Type 0} where
 
       pub many-least : (n : ℕ) (s : List ℕ) (xs : List A) (m : ℕ) → many f n s ≡ got xs m → n * c ≤ m
       many-least n s xs m e = subst (Least n) e (least n s)
+
+    -- What holds of each record that can be read holds of all that were.
+    module _ (d : A) (P : A → Type 0) (each : (s : List ℕ) (a : A) (k : ℕ) → f s ≡ got a k → P a) where
+      abbrev Each : Got (List A) → Type 0
+      Each bad = Unit {0}
+      Each (got xs m) = (i : ℕ) → i < length xs → P (getD xs i d)
+
+      each-joined : (a : A) (k : ℕ) (g : Got (List A)) → P a → Each g → Each (joined a k g)
+      unfolding joined
+      each-joined a k bad p e = tt
+      each-joined a k (got xs m) p e = more
+        where
+          more : (i : ℕ) → i < length (a ∷ xs) → P (getD (a ∷ xs) i d)
+          more zero h = p
+          more (suc i) h = e i (le-of-suc-le-suc h)
+
+      each-followed : (n : ℕ) → ((s : List ℕ) → Each (many f n s)) → (s : List ℕ) (g : Got A) → f s ≡ g → Each (followed g (many f n) s)
+      unfolding followed
+      each-followed n ih s bad e = tt
+      each-followed n ih s (got a k) e = each-joined a k (many f n (drop k s)) (each s a k e) (ih (drop k s))
+
+      each-read : (n : ℕ) (s : List ℕ) → Each (many f n s)
+      unfolding many
+      each-read zero s = λ i h. absurd (not-suc-le-zero h)
+      each-read (suc n) s = each-followed n (each-read n) s (f s) refl
+
+      pub many-each : (n : ℕ) (s : List ℕ) (xs : List A) (m : ℕ) → many f n s ≡ got xs m → (i : ℕ) → i < length xs → P (getD xs i d)
+      many-each n s xs m e = subst Each e (each-read n s)
 
 -- The kinds that were read.
 pub kinds-got : (g : Got (List Kind)) (ks : List Kind) (m : ℕ) → g ≡ got ks m → kindsIn g ≡ ks

@@ -17,6 +17,9 @@ abbrev μ-loop : tie.MeasureT-loop
 loop-holds : tie.Need-loop-holds Inv-loop μ-loop
 loop-holds c = (omega arith, all-none _)
 
+spared-requires : tie.Need-spared-requires Inv-loop μ-loop
+spared-requires c κs = search needs
+
 strictly-left-requires : tie.Need-strictly-left-requires Inv-loop μ-loop
 strictly-left-requires c κs = search needs
 
@@ -27,7 +30,7 @@ loop-less : tie.Need-loop-less Inv-loop μ-loop
 loop-less c = search needs
 
 loop-again : tie.Need-loop-again Inv-loop μ-loop
-loop-again c = (omega arith, cc (corner-more (c .before .before .before .before .args .part .now) (c .before .before .before .before .args .p) (c .before .before .before .before .args .q) (c .before .before .loop .k)))
+loop-again c = (omega arith, cc (corner-more (c .before .before .before .before .before .args .part .now) (c .before .before .before .before .before .args .p) (c .before .before .before .before .before .args .q) (c .before .before .before .loop .k)))
 
 returns : tie.Need-returns Inv-loop μ-loop
 unfolding edgeSoundFrom
@@ -36,4 +39,13 @@ returns c = let e : c .before .loop .k ≡ c .before .before .before .args .n = 
 pub edge-sound-spec : {M : Type 1} → statement M
 edge-sound-spec =
     tie.close
-    (tie.spec Inv-loop μ-loop loop-holds strictly-left-requires add-k loop-less loop-again returns)
+    (tie.spec
+    Inv-loop
+    μ-loop
+    loop-holds
+    spared-requires
+    strictly-left-requires
+    add-k
+    loop-less
+    loop-again
+    returns)

@@ -1,0 +1,129 @@
+-- What holds of the kinds of an accepted job: numbers in range, parts that are sound, and small gaps.
+use mathlib.Core.Bool.{Bool, true, false, not, cond, _&&_, _||_}
+use mathlib.Core.List.{List, [], _∷_, _++_, map}
+use mathlib.Core.Option.{Option, none, some}
+use mathlib.Core.Path.{_≡_, refl, sym, ap, _∙_}
+use Prim.Native.Nat.{ℕ, zero, suc, _+_, _*_, _-_, _<_, _≤_}
+use native.Mathlib.Omega.{arith}
+use borrow.Author.Tests.{leb-true, not-false}
+use lib.Dec.{leb, ltb, eqb}
+use lib.ListN.{length, getD}
+use Rattle.model.specs.Content.{SpacingClass, Part, Kind, noKind, kindAt, kindCount, pieceCount}
+use Rattle.model.specs.Format.{byteAt, Got, got, many, readPart, readKind, kindsGot, kindBytes, kindsStated, content, classesOf, byRisingId, classInRange, vertexInRange, refusal, cause7}
+use Rattle.model.specs.Gap.{names, better, bestFrom, bestRanked, gapOr0, kindGap}
+use Rattle.model.specs.Geometry.{sound}
+use Rattle.model.specs.Lists.{all, any, keep, concat, below}
+use Rattle.model.proofs.Accepted.{NoCause, no-cause, no-cause7, KindsFit, kinds-fit, classes-in-range, or-left, or-right}
+use Rattle.model.proofs.Folds.{any-at, all-append}
+use Rattle.model.proofs.Lists.{and-left, and-right, and-both}
+use Rattle.model.proofs.Readers.{many-length, many-each}
+use Rattle.model.proofs.Records.{length-vertices, PartRead, part-read, KindRead, kind-read}
+
+-- ---- Numbers
+
+pub record KindInRange (k : Kind) : Type 0 where
+  pub demandLeast : 1 ≤ k .demand
+  pub demandMost : k .demand ≤ 12
+  pub rotationsLeast : 1 ≤ k .rotations
+  pub rotationsMost : k .rotations ≤ 15
+  pub partsLeast : 1 ≤ length (k .parts)
+  pub partsMost : length (k .parts) ≤ 6
+  pub corners : (i : ℕ) → i < length (k .parts) → (3 ≤ length (getD (k .parts) i [])) × (length (getD (k .parts) i []) ≤ 8)
+
+part-corners : (s : List ℕ) (P : Part) (k : ℕ) → readPart s ≡ got P k → (3 ≤ length P) × (length P ≤ 8)
+part-corners s P k e =
+    let r = part-read s P k e in
+    let l : length P ≡ byteAt s 0 = ap length (r .value) ∙ length-vertices (byteAt s 0) _ in
+    let a = r .least in
+    let b = r .most in
+    (omega arith, omega arith)
+
+kind-in-range : (s : List ℕ) (k : Kind) (m : ℕ) → readKind s ≡ got k m → KindInRange k
+kind-in-range s k m e =
+    let r = kind-read s k m e in
+    record {
+      demandLeast = rw (r .demand) (r .demandLeast);
+      demandMost = rw (r .demand) (r .demandMost);
+      rotationsLeast = rw (r .rotations) (r .rotationsLeast);
+      rotationsMost = rw (r .rotations) (r .rotationsMost);
+      partsLeast = rw (r .partCount) (r .partsLeast);
+      partsMost = rw (r .partCount) (r .partsMost);
+      corners = many-each readPart [] (λ P. (3 ≤ length P) × (length P ≤ 8)) part-corners _ _ _ _ (r .parts);
+    }
+
+-- A part that gives no cause 7.
+pub record PartSound (P : Part) : Type 0 where
+  pub isSound : sound P ≡ true
+  pub inRange : all vertexInRange P ≡ true
+
+module _ (s : List ℕ) (e : refusal s ≡ 0) where
+  fits : KindsFit s
+  fits = kinds-fit s (no-cause s e .no6)
+
+  pub kind-count : kindCount (content s) ≡ kindsStated s
+  unfolding kindCount kindsGot
+  kind-count = many-length readKind (kindsStated s) (kindBytes s) _ _ (fits .reads)
+
+  pub kinds-least : 1 ≤ kindCount (content s)
+  kinds-least = rw kind-count (fits .least)
+
+  pub kinds-most : kindCount (content s) ≤ 8
+  kinds-most = rw kind-count (fits .most)
+
+  pub pieces-most : pieceCount (content s) ≤ 12
+  pieces-most = fits .pieces
+
+  pub kind-ranges : (t : ℕ) → t < kindCount (content s) → KindInRange (kindAt (content s) t)
+  unfolding kindCount kindAt kindsGot
+  kind-ranges t h = many-each readKind noKind KindInRange kind-in-range (kindsStated s) (kindBytes s) _ _ (fits .reads) t h
+
+  -- ---- Parts
+
+  pub parts-sound : (t i : ℕ) → t < kindCount (content s) → i < length (kindAt (content s) t .parts) → PartSound (getD (kindAt (content s) t .parts) i [])
+  unfolding kindCount kindAt cause7 content
+  parts-sound t i h l =
+      let k = any-at (λ k. any (λ P. not (sound P) || not (all vertexInRange P)) (k .parts)) (content s .kinds) noKind (no-cause7 s e) t h in
+      let p = any-at (λ P. not (sound P) || not (all vertexInRange P)) (kindAt (content s) t .parts) [] k i l in
+      record {
+        isSound = not-false _ (or-left _ _ p);
+        inRange = not-false _ (or-right (not (sound (getD (kindAt (content s) t .parts) i []))) _ p);
+      }
+
+-- ---- Gaps
+
+module _ (p : SpacingClass → Bool) where
+  all-keep : (q : SpacingClass → Bool) (cs : List SpacingClass) → all p cs ≡ true → all p (keep q cs) ≡ true
+  unfolding all keep
+  all-keep q [] e = refl
+  all-keep q (c ∷ cs) e = go (q c) (all-keep q cs (and-right (p c) _ e))
+    where
+      go : (b : Bool) → all p (keep q cs) ≡ true → all p (cond b (c ∷ keep q cs) (keep q cs)) ≡ true
+      go true ih = and-both (p c) (all p (keep q cs)) (and-left (p c) (all p cs) e) ih
+      go false ih = ih
+
+  all-risen : (cs : List SpacingClass) (is : List ℕ) → all p cs ≡ true → all p (concat (map (λ i. keep (λ c. eqb (c .id) i) cs) is)) ≡ true
+  unfolding all concat
+  all-risen cs [] e = refl
+  all-risen cs (i ∷ is) e = all-append p (keep (λ c. eqb (c .id) i) cs) _ ∙ and-both _ _ (all-keep (λ c. eqb (c .id) i) cs e) (all-risen cs is e)
+
+  best-from : (c : SpacingClass) (cs : List SpacingClass) → p c ≡ true → all p cs ≡ true → p (bestFrom c cs) ≡ true
+  unfolding all bestFrom better
+  best-from c [] h e = h
+  best-from c (d ∷ cs) h e = go (ltb (d .rank) (c .rank)) (best-from c cs h (and-right (p d) _ e)) (best-from d cs (and-left _ _ e) (and-right (p d) _ e))
+    where
+      go : (b : Bool) → p (bestFrom c cs) ≡ true → p (bestFrom d cs) ≡ true → p (bestFrom (cond b d c) cs) ≡ true
+      go true a b = b
+      go false a b = a
+
+gap-small : (cs : List SpacingClass) → all classInRange cs ≡ true → gapOr0 (bestRanked cs) ≤ 63
+unfolding all bestRanked gapOr0 classInRange
+gap-small [] e = omega arith
+gap-small (c ∷ cs) e =
+    let b = best-from classInRange c cs (and-left _ _ e) (and-right (classInRange c) _ e) in
+    leb-true (bestFrom c cs .gap) 63 (and-right (leb (bestFrom c cs .id) 7 && leb (bestFrom c cs .rank) 255) _ b)
+
+pub gap-most : (s : List ℕ) → refusal s ≡ 0 → (k : Kind) → kindGap (content s) k ≤ 63
+unfolding kindGap content byRisingId
+gap-most s e k =
+    gap-small (keep (names k) (byRisingId (classesOf s)))
+    (all-keep classInRange (names k) _ (all-risen classInRange (classesOf s) (below 8) (classes-in-range s (no-cause s e .no5))))
