@@ -11,7 +11,7 @@ use Rattle.model.specs.Format.{byteAt, wordAt, boardAt, Got, got, many, readPar
 use Rattle.model.specs.Gap.{kindGap}
 use Rattle.model.specs.Lists.{any, sum}
 use Rattle.model.specs.Grid.{rows, columns}
-use Rattle.model.proofs.Accepted.{NoCause, none-before, refusal-is, Sections, sections, BoardFits, board-fits, classes-distinct, KindsFit, kinds-fit}
+use Rattle.model.proofs.Causes.{NoCause, none-before, refusal-is, Sections, sections, BoardFits, board-fits, classes-distinct, KindsFit, kinds-fit}
 use Rattle.model.proofs.Folds.{any-take-more}
 use Rattle.model.proofs.Readers.{many-length}
 use Rattle.model.proofs.Records.{byte-behind, byte-first, length-vertices, vertices-same, PartRead, part-read}

@@ -1,4 +1,4 @@
-pub mod Accepted
+pub mod Causes
 pub mod AcceptedKinds
 pub mod Boards
 pub mod Folds

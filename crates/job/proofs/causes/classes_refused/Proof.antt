@@ -1,6 +1,6 @@
 use mathlib.Core.Path.{_∙_}
 use native.Mathlib.Omega.{arith}
-use Rattle.model.proofs.Accepted.{size-least, sections}
+use Rattle.model.proofs.Causes.{size-least, sections}
 use Rattle.job.proofs.CauseLaws.{classes-cause}
 use Rattle.job.proofs.causes.classes_refused.Statement.{statement}
 use Rattle.job.proofs.causes.classes_refused.Tie as tie

@@ -1,6 +1,6 @@
 use mathlib.Core.Bool.{true, false}
 use mathlib.Core.Path.{_≡_, sym, _∙_}
-use Rattle.model.proofs.Accepted.{size-least}
+use Rattle.model.proofs.Causes.{size-least}
 use Rattle.job.proofs.CauseLaws.{at-1, at-2, at-3, at-4, at-5, at-6}
 use borrow.Author.Needs.{needs}
 use Rattle.job.proofs.causes.first_of_six.Statement.{statement}

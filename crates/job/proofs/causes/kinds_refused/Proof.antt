@@ -1,6 +1,6 @@
 use mathlib.Core.Path.{_∙_}
 use native.Mathlib.Omega.{arith}
-use Rattle.model.proofs.Accepted.{Sections, size-least, sections}
+use Rattle.model.proofs.Causes.{Sections, size-least, sections}
 use Rattle.job.proofs.CauseLaws.{kinds-cause}
 use borrow.Author.Needs.{needs}
 use Rattle.job.proofs.causes.kinds_refused.Statement.{statement}
