@@ -70,14 +70,18 @@ runVerdict (Infeasible steps) = 0
 
 -- ---- At the C interface an answer is one number of 64 bits: number, verdict, length or count, and steps, in 8, 8, 16 and 32 bits
 
+-- The four fields as one number.
 abbrev pub fields : ℕ → ℕ → ℕ → ℕ → ℕ
 fields number verdict len steps = number + 256 * verdict + 65536 * len + 4294967296 * steps
 
+-- read and row.
 abbrev pub writtenWord : Written → ℕ
 writtenWord a = fields (writtenNumber a) 0 (writtenCount a) 0
 
+-- check.
 abbrev pub checkWord : Checked → ℕ
 checkWord a = fields (checkNumber a) 0 (checkLength a) 0
 
+-- run.
 abbrev pub runWord : RunAnswer → ℕ
 runWord a = fields (runNumber a) (runVerdict a) (runLength a) (runSteps a)

@@ -43,6 +43,7 @@ pub record Marked : Type 0 where
   pub question : Question
   pub expected : Answer
 
+-- A question with its answer.
 abbrev pub _⇒_ : Question → Answer → Marked
 q ⇒ a = record { question = q; expected = a }
 
@@ -53,6 +54,7 @@ infix 4 _⇒_
 unfoldable pub numbersOf : List ℕ → List ℕ
 numbersOf s = map (λ i. numberAt 2 s (i * 2)) (below (numbersIn s))
 
+-- What a run told and left, as an answer of the table.
 unfoldable pub saidBy : RunOutcome → Answer
 saidBy r = says (r .answer) (all (eqb 0) (r .work)) (numbersOf (r .out))
 
@@ -140,6 +142,7 @@ untouched = 7 ∷ 7 ∷ 7 ∷ 7 ∷ 7 ∷ 7 ∷ 7 ∷ 7 ∷ []
 
 -- ---- The table. Steps that the paper does not print were counted by hand
 
+-- The boards that document 01 marks with a star.
 unfoldable pub boards : List Marked
 boards =
     -- "W 2, L 4 .. The program prints exactly": `shortest 4 3`, `0 0 0 0`, `0 2 0 0`

@@ -65,6 +65,7 @@ firstLine (Infeasible steps) = line (noneWord ∷ decimal steps ∷ [])
 unfoldable pub entryLine : L.Entry → List ℕ
 entryLine e = line (map decimal (entryNumbers e))
 
+-- The lines of a layout.
 unfoldable pub entryLines : L.Layout → List ℕ
 entryLines es = concat (map entryLine es)
 
