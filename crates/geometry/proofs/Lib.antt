@@ -5,3 +5,4 @@ pub mod Lowest
 pub mod EdgeLaws
 pub mod BoxLaws
 pub mod PairLaws
+pub mod TurnLaws

@@ -1,3 +1,4 @@
+-- `geometry::along::lowest` meets its contract: the loop keeps the least of the vertices that it has passed, which with the rest comes to the least of all. Assumes nothing.
 use mathlib.Core.List.{List, map}
 use mathlib.Core.Path.{_≡_, refl, _∙_, ap}
 use Prim.Native.Nat.{_-_, _/_, _≤_}
@@ -18,10 +19,6 @@ use Rattle.geometry.proofs.Lowest.{Lowering, lowest-none, lowest-first,
 use Rattle.geometry.proofs.Sizes.{small-as}
 use Rattle.geometry.proofs.along.lowest.Statement.{statement}
 use Rattle.geometry.proofs.along.lowest.Tie as tie
-use Rattle.geometry.proofs.along.lowest.Reads as reads
-use Rattle.geometry.proofs.along.lowest.Lts as lts
-use Rattle.geometry.proofs.along.lesser.Reads as lesser-reads
-use Rattle.geometry.proofs.along.vertex_along.Reads as vertex-along-reads
 
 abbrev Inv-loop : tie.InvT-loop
 Inv-loop p a b n least₀ k₀ least k =
@@ -30,15 +27,12 @@ Inv-loop p a b n least₀ k₀ least k =
 abbrev μ-loop : tie.MeasureT-loop
 μ-loop p a b n least₀ k₀ least k = n - k
 
--- src/along.rt:56:9
 returns : tie.Need-returns Inv-loop μ-loop
 returns c = lowest-none (along (direction (c .before .args .a) (c .before .args .b))) (partOf (now (c .before .args .p))) (omega (arith, part-length (now (c .before .args .p))))
 
--- src/along.rt:58:9
 vertex-along-requires : tie.Need-vertex-along-requires Inv-loop μ-loop
 vertex-along-requires c κs = search needs
 
--- src/along.rt:60:5
 loop-holds : tie.Need-loop-holds Inv-loop μ-loop
 loop-holds c = (
   omega arith,
@@ -47,23 +41,18 @@ loop-holds c = (
       (lowest-first _ (partOf (now (c .before .before .args .p))) (omega (arith, part-length (now (c .before .before .args .p)))) (c .vertex-along .ensures)),
 )
 
--- src/along.rt:61:31
 vertex-along-requires-2 : tie.Need-vertex-along-requires-2 Inv-loop μ-loop
 vertex-along-requires-2 c κs = search needs
 
--- src/along.rt:61:9
 lesser-requires : tie.Need-lesser-requires Inv-loop μ-loop
 lesser-requires c κs = search needs
 
--- src/along.rt:62:9
 add-k : tie.Need-add-k Inv-loop μ-loop
 add-k c = search needs
 
--- src/along.rt:60:5
 loop-less : tie.Need-loop-less Inv-loop μ-loop
 loop-less c = search needs
 
--- src/along.rt:60:5
 loop-again : tie.Need-loop-again Inv-loop μ-loop
 loop-again c = (
   omega arith,
@@ -75,7 +64,6 @@ loop-again c = (
     part : (c : tie.After-lesser Inv-loop μ-loop) → List ℤ
     part c = now (c .before .before .before .before .before .before .args .p)
 
--- src/along.rt:51:1
 returns-2 : tie.Need-returns-2 Inv-loop μ-loop
 returns-2 c =
     small-as

@@ -1,3 +1,4 @@
+-- `geometry::along::reach` meets its contract: no sum or difference wraps, and the sum is the definition's, with the two moves as one. Assumes nothing.
 use mathlib.Core.Path.{_≡_, _∙_}
 use denote.Ref.{now}
 use Rattle.geometry.specs.Flat.{partOf}
@@ -5,45 +6,32 @@ use Rattle.geometry.proofs.Sizes.{reaches, reach-is}
 use borrow.Author.Needs.{needs}
 use Rattle.geometry.proofs.along.reach.Statement.{statement}
 use Rattle.geometry.proofs.along.reach.Tie as tie
-use Rattle.geometry.proofs.along.reach.Reads as reads
-use Rattle.geometry.proofs.along.reach.Lts as lts
-use Rattle.geometry.proofs.along.gap_along.Reads as gap-along-reads
-use Rattle.geometry.proofs.along.lowest.Reads as lowest-reads
-use Rattle.geometry.proofs.along.project.Reads as project-reads
 
 -- the function's entry
 abbrev start : tie.After-gap-along → tie.Start
 start c = c .before .before .before .before
 
--- src/along.rt:71:5
 lowest-requires : tie.Need-lowest-requires
 lowest-requires c κs = search needs
 
--- src/along.rt:71:23
 project-requires : tie.Need-project-requires
 project-requires c κs = search needs
 
--- src/along.rt:71:5
 add-result : tie.Need-add-result
 add-result c = search reaches
 
--- src/along.rt:71:47
 project-requires-2 : tie.Need-project-requires-2
 project-requires-2 c κs = search needs
 
--- src/along.rt:71:5
 sub-result : tie.Need-sub-result
 sub-result c = search reaches
 
--- src/along.rt:71:71
 gap-along-requires : tie.Need-gap-along-requires
 gap-along-requires c κs = search needs
 
--- src/along.rt:71:5
 sub-result-2 : tie.Need-sub-result-2
 sub-result-2 c = search reaches
 
--- src/along.rt:68:1
 returns : tie.Need-returns
 returns c =
     (search reaches)

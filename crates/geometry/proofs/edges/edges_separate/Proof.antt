@@ -1,3 +1,5 @@
+-- `geometry::edges::edges_separate` meets its contract: the outer loop has tried the edges before k, and none of their normals separates; the inner loop has found no vertex before i beyond
+-- the limit. A vertex beyond it gives the direction up; when there is none, the direction separates and the label is left. Assumes nothing.
 use mathlib.Core.Bool.{Bool, true, false}
 use mathlib.Core.List.{map}
 use mathlib.Core.Path.{_≡_, refl, sym, _∙_, ap}
@@ -23,12 +25,6 @@ use Rattle.geometry.proofs.EdgeLaws.{Remaining, remaining-all, remainin
 use Rattle.geometry.proofs.Flat.{part-length}
 use Rattle.geometry.proofs.edges.edges_separate.Statement.{statement}
 use Rattle.geometry.proofs.edges.edges_separate.Tie as tie
-use Rattle.geometry.proofs.edges.edges_separate.Reads as reads
-use Rattle.geometry.proofs.edges.edges_separate.Lts as lts
-use Rattle.geometry.proofs.along.reach.Reads as reach-reads
-use Rattle.geometry.proofs.along.vertex_along.Reads as vertex-along-reads
-use Rattle.geometry.proofs.edges.normal_x.Reads as normal-x-reads
-use Rattle.geometry.proofs.edges.normal_y.Reads as normal-y-reads
 
 abbrev Inv-loop : tie.InvT-loop
 Inv-loop p px py q qx qy gap n found₀ k a b limit i₀ found i =

@@ -1,3 +1,4 @@
+-- `geometry::edges::next_vertex` meets its contract: the place of the next vertex is within the slice exactly if there is a next vertex. Assumes nothing.
 use native.Mathlib.Omega.{arith}
 use denote.Ref.{now}
 use Rattle.geometry.specs.Flat.{partOf}
@@ -6,26 +7,19 @@ use Rattle.geometry.proofs.Flat.{part-length}
 use borrow.Author.Needs.{needs}
 use Rattle.geometry.proofs.edges.next_vertex.Statement.{statement}
 use Rattle.geometry.proofs.edges.next_vertex.Tie as tie
-use Rattle.geometry.proofs.edges.next_vertex.Reads as reads
-use Rattle.geometry.proofs.edges.next_vertex.Lts as lts
 
--- src/edges.rt:26:8
 mul-if1 : tie.Need-mul-if1
 mul-if1 c = search needs
 
--- src/edges.rt:26:8
 add-if1 : tie.Need-add-if1
 add-if1 c = search needs
 
--- src/edges.rt:26:30
 add-result : tie.Need-add-result
 add-result c = search needs
 
--- src/edges.rt:22:1
 returns : tie.Need-returns
 returns c = (next-inside (partOf (now (c .before .args .p))) (c .before .args .k) (omega (arith, part-length (now (c .before .args .p)))), omega arith)
 
--- src/edges.rt:22:1
 returns-2 : tie.Need-returns-2
 returns-2 c = (next-first (partOf (now (c .before .args .p))) (c .before .args .k) (omega (arith, part-length (now (c .before .args .p)))), omega arith)
 

@@ -1,3 +1,4 @@
+-- `geometry::extents::smaller` meets its contract: each arm is one of the two cases of the smaller. Assumes nothing.
 use mathlib.Core.Path.{sym, _∙_}
 use mir.Syntax.{w16}
 use mir.ValLaws.{toZ-ofZ}
@@ -6,14 +7,10 @@ use Rattle.integers.proofs.Machine.{le-held, le-failed}
 use Rattle.integers.proofs.Order.{<ℤ-≤ℤ}
 use Rattle.geometry.proofs.extents.smaller.Statement.{statement}
 use Rattle.geometry.proofs.extents.smaller.Tie as tie
-use Rattle.geometry.proofs.extents.smaller.Reads as reads
-use Rattle.geometry.proofs.extents.smaller.Lts as lts
 
--- src/along.rt:44:1
 returns : tie.Need-returns
 returns c = toZ-ofZ w16 (c .before .args .a) (c .before .fits .a) ∙ sym (min-left (c .before .args .a) (c .before .args .b) (le-held w16 (c .before .args .a) (c .before .args .b) (c .before .fits .a) (c .before .fits .b) (c .if1 .taken)))
 
--- src/along.rt:44:1
 returns-2 : tie.Need-returns-2
 returns-2 c = toZ-ofZ w16 (c .before .args .b) (c .before .fits .b) ∙ sym (min-right (c .before .args .a) (c .before .args .b) (<ℤ-≤ℤ (le-failed w16 (c .before .args .a) (c .before .args .b) (c .before .fits .a) (c .before .fits .b) (c .if1 .left))))
 

@@ -1,3 +1,4 @@
+-- `geometry::pairs::apart_at` meets its contract: the answer is the first test that holds, and the last one's where the others fail. Assumes nothing.
 use mathlib.Core.Bool.{Bool}
 use mathlib.Core.Path.{_≡_, sym, _∙_}
 use denote.Ref.{now}
@@ -12,11 +13,6 @@ use Rattle.geometry.proofs.PairLaws.{first-held, second-held, third-dec
 use borrow.Author.Needs.{needs}
 use Rattle.geometry.proofs.pairs.apart_at.Statement.{statement}
 use Rattle.geometry.proofs.pairs.apart_at.Tie as tie
-use Rattle.geometry.proofs.pairs.apart_at.Reads as reads
-use Rattle.geometry.proofs.pairs.apart_at.Lts as lts
-use Rattle.geometry.proofs.edges.edges_separate.Reads as edges-separate-reads
-use Rattle.geometry.proofs.extents.bounds.Reads as bounds-reads
-use Rattle.geometry.proofs.pairs.axes_separate.Reads as axes-separate-reads
 
 bounds-requires : tie.Need-bounds-requires
 bounds-requires c κs = search needs

@@ -1,3 +1,4 @@
+-- `geometry::pairs::axes_separate` meets its contract: the four tests are the definition's four. Assumes nothing.
 use mathlib.Core.Path.{_≡_, _∙_}
 use lib.IntN.{pos}
 use Rattle.geometry.specs.Boxes.{clearOf, boxesApart}
@@ -5,9 +6,6 @@ use Rattle.geometry.proofs.BoxLaws.{or-four}
 use borrow.Author.Needs.{needs}
 use Rattle.geometry.proofs.pairs.axes_separate.Statement.{statement}
 use Rattle.geometry.proofs.pairs.axes_separate.Tie as tie
-use Rattle.geometry.proofs.pairs.axes_separate.Reads as reads
-use Rattle.geometry.proofs.pairs.axes_separate.Lts as lts
-use Rattle.geometry.proofs.pairs.clear_of.Reads as clear-of-reads
 
 clear-of-requires : tie.Need-clear-of-requires
 clear-of-requires c κs = search needs

@@ -1,3 +1,4 @@
+-- `geometry::pairs::clear_of` meets its contract: no sum wraps, and the test is the definition's. Assumes nothing.
 use mathlib.Core.Path.{_≡_, sym, _∙_, ap, subst}
 use native.Mathlib.Nat.{lt-of-lt-of-le}
 use lib.Dec.{lit≤}
@@ -10,8 +11,6 @@ use Rattle.geometry.proofs.Sizes.{axis, padded-fits}
 use borrow.Author.Needs.{needs}
 use Rattle.geometry.proofs.pairs.clear_of.Statement.{statement}
 use Rattle.geometry.proofs.pairs.clear_of.Tie as tie
-use Rattle.geometry.proofs.pairs.clear_of.Reads as reads
-use Rattle.geometry.proofs.pairs.clear_of.Lts as lts
 
 cast-result : tie.Need-cast-result
 cast-result c = search axis

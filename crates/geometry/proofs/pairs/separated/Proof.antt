@@ -1,3 +1,4 @@
+-- `geometry::pairs::separated` meets its contract: the test as it is computed is the model's, whether the second part has a vertex or not. Assumes nothing.
 use mathlib.Core.Path.{_∙_}
 use native.Mathlib.Omega.{arith}
 use denote.Ref.{now}
@@ -7,9 +8,6 @@ use Rattle.geometry.proofs.PairLaws.{apart-empty, apart-moved}
 use borrow.Author.Needs.{needs}
 use Rattle.geometry.proofs.pairs.separated.Statement.{statement}
 use Rattle.geometry.proofs.pairs.separated.Tie as tie
-use Rattle.geometry.proofs.pairs.separated.Reads as reads
-use Rattle.geometry.proofs.pairs.separated.Lts as lts
-use Rattle.geometry.proofs.pairs.apart_at.Reads as apart-at-reads
 
 apart-at-requires : tie.Need-apart-at-requires
 apart-at-requires c κs = search needs
