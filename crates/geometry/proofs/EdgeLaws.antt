@@ -1,20 +1,19 @@
 -- The edges of a part one after the other, and the vertices of a part against a limit along a direction. Assumes nothing.
-use mathlib.Core.Bool.{Bool, true, false, cond, _||_}
+use mathlib.Core.Bool.{Bool, true, false, _||_}
 use mathlib.Core.List.{List, [], _∷_, map}
 use mathlib.Core.Path.{_≡_, refl, sym, ap, _∙_}
-use Prim.Native.Nat.{ℕ, zero, suc, _+_, _-_, _*_, _≤_, _<_}
-use native.Mathlib.Nat.{not-suc-le-zero, sub-zero}
+use Prim.Native.Nat.{ℕ, suc, _+_, _-_, _*_, _≤_, _<_}
+use native.Mathlib.Nat.{sub-zero}
 use native.Mathlib.Numerals.{add-one}
 use native.Mathlib.Omega.{arith}
 use borrow.Author.Tests.{eq-eqb, ne-eqb}
-use lib.Dec.{eqb}
 use lib.IntN.{ℤ, pos, _-ℤ_}
-use lib.ListN.{length, length-map, getD, List·getD-map}
+use lib.ListN.{length, getD}
 use lib.Signed.{leZ, _≤ℤ_, _<ℤ_}
-use Rattle.integers.proofs.Order.{leZ-true, le-leZ, lt-leZ, ≤ℤ-trans, clash}
+use Rattle.integers.proofs.Order.{leZ-true, le-leZ, clash}
 use Rattle.model.specs.Content.{Vertex, vertex, Part, origin}
 use Rattle.model.specs.Geometry.{Direction, direction, vertexAt, following, outwardNormal, normals}
-use Rattle.model.specs.Lists.{all, any, rising, below, largestZ}
+use Rattle.model.specs.Lists.{any, rising, below, largestZ}
 use Rattle.model.proofs.Box.{all-below-bound}
 use Rattle.model.proofs.Lists.{all-at, all-of}
 use Rattle.model.proofs.Tests.{any-map}

@@ -1,12 +1,12 @@
 -- Quarter turns by their number, and that no turned coordinate wraps. Assumes nothing.
-use mathlib.Core.Path.{_≡_, refl, sym, ap, _∙_, subst}
+use mathlib.Core.Path.{_≡_, sym, ap, _∙_, subst}
 use Prim.Native.Nat.{ℕ, _<_}
 use lib.IntN.{ℤ, pos, negℤ, natAbs, _-ℤ_, +ℤ-idl, negℤ-negℤ}
 use mir.Syntax.{w16}
 use mir.Val.{SFits}
 use Rattle.integers.proofs.Absolute.{natAbs-negℤ}
 use Rattle.integers.proofs.Sizes.{fits-natAbs}
-use Rattle.model.specs.Content.{Vertex, vertex}
+use Rattle.model.specs.Content.{vertex}
 use Rattle.model.specs.Geometry.{quarterTurn, rotated}
 
 module _ (x y : ℤ) where

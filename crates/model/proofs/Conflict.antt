@@ -1,10 +1,10 @@
 -- Conflict is symmetric: of parts, of pieces and of the entries of a layout. Assumes nothing.
-use mathlib.Core.Bool.{Bool, true, false, not, _||_, or-comm}
-use mathlib.Core.List.{List, [], _∷_, _++_, map}
+use mathlib.Core.Bool.{true, false, not, _||_, or-comm}
+use mathlib.Core.List.{List, [], _∷_, _++_, map, List·Permᴰ}
 use mathlib.Core.Path.{_≡_, refl, sym, ap, _∙_}
 use Prim.Native.Nat.{ℕ, _+_, _*_}
 use native.Mathlib.Nat.{max-comm}
-use lib.IntN.{ℤ, pos, negℤ, natAbs, _+ℤ_, _-ℤ_, _*ℤ_}
+use lib.IntN.{ℤ, pos, negℤ, natAbs, _+ℤ_}
 use lib.Signed.{leZ}
 use Rattle.integers.proofs.Absolute.{natAbs-negℤ}
 use Rattle.integers.proofs.Solver.{ring, _⊞_, _⊟_, _⊠_, ⊖_, _≈_}
@@ -16,7 +16,7 @@ use Rattle.model.specs.Layout.{Entry, entryKind, conflict}
 use Rattle.model.specs.Lists.{any, largestZ, smallestZ}
 use Rattle.model.specs.Opened.{opened}
 use Rattle.model.proofs.Extremes.{leZ-same, largest-negated, smallest-negated}
-use Rattle.model.proofs.Tests.{any-append, any-swap, any-map, any-same, any-pair}
+use Rattle.model.proofs.Tests.{any-append, any-swap, any-reordered, any-map, any-same, any-pair}
 
 -- ---- the opposite direction
 
@@ -63,6 +63,16 @@ axes-swap gap P Q =
     any-swap (separates gap P Q) (_ ∷ _ ∷ []) (_ ∷ _ ∷ [])
     ∙ any-map (separates gap P Q) negated axes
     ∙ any-same (λ d. separates gap P Q (negated d)) (separates gap Q P) (separates-negated gap P Q) axes
+
+-- The order in which the directions are tried changes no answer.
+pub separated-reordered : (gap : ℕ) (P Q : Part) (ds : List Direction) → List·Permᴰ (directions P Q) ds → separated gap P Q ≡ any (separates gap P Q) ds
+unfolding separated
+separated-reordered gap P Q ds d = any-reordered (separates gap P Q) d
+
+-- So the axis directions may come first.
+pub axes-first : (gap : ℕ) (P Q : Part) → separated gap P Q ≡ any (separates gap P Q) (axes ++ (normals P ++ map negated (normals Q)))
+unfolding separated directions
+axes-first gap P Q = any-swap (separates gap P Q) (normals P ++ map negated (normals Q)) axes
 
 -- A square in the corner that a triangle leaves free: of all directions only the negated normal of the triangle's long edge separates it from
 -- the triangle, and that edge's normal the triangle from it.

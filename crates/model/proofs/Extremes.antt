@@ -3,9 +3,9 @@
 use mathlib.Core.Bool.{Bool, true, false, _&&_, and-assoc}
 use mathlib.Core.List.{List, [], _∷_, _++_, map}
 use mathlib.Core.Path.{_≡_, refl, sym, ap, _∙_}
-use Prim.Native.Nat.{ℕ, zero, suc, _<_}
+use Prim.Native.Nat.{_<_}
 use native.Mathlib.Nat.{not-suc-le-zero}
-use lib.IntN.{ℤ, pos, negℤ, _+ℤ_, _-ℤ_}
+use lib.IntN.{ℤ, negℤ, _+ℤ_, _-ℤ_}
 use lib.ListN.{length, length-map}
 use lib.Signed.{leZ, _≤ℤ_, _<ℤ_, <ℤ-≤ℤ-trans}
 use Rattle.integers.specs.Extrema.{maxZ, minZ}
@@ -13,7 +13,7 @@ use Rattle.integers.proofs.Solver.{_⊟_, _≈_, _≲_, _≺_}
 use Rattle.integers.proofs.Certificates.{order, _⊢_by_, hyp, _⊕_}
 use Rattle.integers.proofs.Order.{≤ℤ-trans, ≤ℤ-<ℤ-trans, ≤ℤ-antisym, leZ-true, leZ-false, le-leZ, lt-leZ}
 use Rattle.integers.proofs.Extrema.{max-upper-left, max-upper-right, max-least, max-+ℤ, min-lower-left, min-lower-right, min-greatest, min-+ℤ, negℤ-max, negℤ-min}
-use Rattle.model.specs.Lists.{all, concat, largestFrom, smallestFrom, largestZ, smallestZ}
+use Rattle.model.specs.Lists.{all, largestFrom, smallestFrom, largestZ, smallestZ}
 
 -- ---- tests of order
 

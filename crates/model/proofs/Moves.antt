@@ -2,7 +2,7 @@
 -- changes nothing; what counts is how far one is moved against the other. Each part has a vertex: of none the largest is 0 wherever it is moved.
 -- Assumes nothing.
 use mathlib.Core.Bool.{Bool, true, false, not, cond, _||_}
-use mathlib.Core.List.{List, [], _∷_, _++_, map, map-map}
+use mathlib.Core.List.{List, [], _∷_, map, map-map}
 use mathlib.Core.Path.{_≡_, refl, sym, ap, _∙_}
 use Prim.Native.Nat.{ℕ, zero, suc, _+_, _*_, _<_}
 use native.Mathlib.Omega.{arith}
@@ -10,12 +10,12 @@ use native.Mathlib.Nat.{not-suc-le-zero, le-of-suc-le-suc}
 use borrow.Author.Tests.{eqb-false}
 use lib.Dec.{eqb}
 use lib.IntN.{ℤ, pos, _+ℤ_, _-ℤ_, _*ℤ_, +ℤ-idr, +ℤ-invr}
-use lib.ListN.{length, length-map, getD}
+use lib.ListN.{length, length-map}
 use lib.Signed.{leZ}
 use Rattle.integers.proofs.Solver.{ring, _⊞_, _⊟_, _⊠_, _≈_}
 use Rattle.model.specs.Candidate.{placedPart}
-use Rattle.model.specs.Content.{Vertex, vertex, Part, Board, origin}
-use Rattle.model.specs.Geometry.{Direction, direction, rotated, moved, vertexAt, following, outwardNormal, normals, negated, axes, directions, along, clearance, separates, separated, piecesConflict}
+use Rattle.model.specs.Content.{Vertex, vertex, Part, Board}
+use Rattle.model.specs.Geometry.{Direction, direction, rotated, moved, vertexAt, following, outwardNormal, normals, directions, along, clearance, separates, separated, piecesConflict}
 use Rattle.model.specs.Grid.{Placement}
 use Rattle.model.specs.Lists.{any, rising, below, largestZ, smallestZ}
 use Rattle.model.proofs.Extremes.{leZ-same, largest-through, smallest-through}

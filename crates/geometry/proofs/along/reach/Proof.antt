@@ -1,5 +1,5 @@
 -- `geometry::along::reach` meets its contract: no sum or difference wraps, and the sum is the definition's, with the two moves as one. Assumes nothing.
-use mathlib.Core.Path.{_≡_, _∙_}
+use mathlib.Core.Path.{_∙_}
 use denote.Ref.{now}
 use Rattle.geometry.specs.Flat.{partOf}
 use Rattle.geometry.proofs.Sizes.{reaches, reach-is}
