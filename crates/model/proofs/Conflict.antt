@@ -64,16 +64,6 @@ axes-swap gap P Q =
     ∙ any-map (separates gap P Q) negated axes
     ∙ any-same (λ d. separates gap P Q (negated d)) (separates gap Q P) (separates-negated gap P Q) axes
 
--- The order in which the directions are tried changes no answer.
-pub separated-reordered : (gap : ℕ) (P Q : Part) (ds : List Direction) → List·Permᴰ (directions P Q) ds → separated gap P Q ≡ any (separates gap P Q) ds
-unfolding separated
-separated-reordered gap P Q ds d = any-reordered (separates gap P Q) d
-
--- So the axis directions may come first.
-pub axes-first : (gap : ℕ) (P Q : Part) → separated gap P Q ≡ any (separates gap P Q) (axes ++ (normals P ++ map negated (normals Q)))
-unfolding separated directions
-axes-first gap P Q = any-swap (separates gap P Q) (normals P ++ map negated (normals Q)) axes
-
 -- A square in the corner that a triangle leaves free: of all directions only the negated normal of the triangle's long edge separates it from
 -- the triangle, and that edge's normal the triangle from it.
 abbrev squareInCorner : Part
@@ -85,6 +75,16 @@ triangle = vertex (pos 0) (pos 0) ∷ vertex (pos 10) (pos 0) ∷ vertex (pos 0)
 pub long-edge-separates : (separated 1 squareInCorner triangle ≡ true) × (separated 1 triangle squareInCorner ≡ true) × (separated 2 squareInCorner triangle ≡ false)
 unfolding opened
 long-edge-separates = (refl, refl, refl)
+
+-- The order in which the directions are tried changes no answer.
+pub separated-reordered : (gap : ℕ) (P Q : Part) (ds : List Direction) → List·Permᴰ (directions P Q) ds → separated gap P Q ≡ any (separates gap P Q) ds
+unfolding separated
+separated-reordered gap P Q ds d = any-reordered (separates gap P Q) d
+
+-- So the axis directions may come first.
+pub axes-first : (gap : ℕ) (P Q : Part) → separated gap P Q ≡ any (separates gap P Q) (axes ++ (normals P ++ map negated (normals Q)))
+unfolding separated directions
+axes-first gap P Q = any-swap (separates gap P Q) (normals P ++ map negated (normals Q)) axes
 
 -- The three groups of directions, each tried by itself; the negated normals of Q as Q's own with the parts changed over.
 pub separated-groups : (gap : ℕ) (P Q : Part)
