@@ -45,13 +45,28 @@ pub map-append : {A B : Type 0} (f : A → B) (xs ys : List A) → map f (xs ++ 
 map-append f [] ys = refl
 map-append f (x ∷ xs) ys = ap (λ zs. f x ∷ zs) (map-append f xs ys)
 
--- ---- An entry's line
+-- ---- A line, as its words with what ends each
 
--- Four words and their ends.
+pub line-two : (a b : List ℕ) → line (a ∷ b ∷ []) ≡ (a ++ 32 ∷ []) ++ (b ++ 10 ∷ [])
+unfolding line
+line-two a b = simp append-assoc
+
+pub line-three : (a b c : List ℕ) → line (a ∷ b ∷ c ∷ []) ≡ (a ++ 32 ∷ []) ++ (b ++ 32 ∷ []) ++ (c ++ 10 ∷ [])
+unfolding line
+line-three a b c = simp append-assoc
+
+pub line-four : (a b c d : List ℕ) → line (a ∷ b ∷ c ∷ d ∷ []) ≡ (a ++ 32 ∷ []) ++ (b ++ 32 ∷ []) ++ (c ++ 32 ∷ []) ++ (d ++ 10 ∷ [])
+unfolding line
+line-four a b c d = simp append-assoc
+
+-- An entry's line.
 pub entry-line : (e : Entry) → entryLine e
-    ≡ decimal (e .kind) ++ 32 ∷ (decimal (e .place .column) ++ 32 ∷ (decimal (e .place .row) ++ 32 ∷ (decimal (e .place .rotation) ++ 10 ∷ [])))
-unfolding entryLine line entryNumbers
-entry-line e = refl
+    ≡ (decimal (e .kind) ++ 32 ∷ [])
+    ++ (decimal (e .place .column) ++ 32 ∷ [])
+    ++ (decimal (e .place .row) ++ 32 ∷ [])
+    ++ (decimal (e .place .rotation) ++ 10 ∷ [])
+unfolding entryLine entryNumbers
+entry-line e = line-four (decimal (e .kind)) (decimal (e .place .column)) (decimal (e .place .row)) (decimal (e .place .rotation))
 
 module _ (s : List ℕ) (known : AreBytes s) where
   -- A number of two bytes has at most five digits.
