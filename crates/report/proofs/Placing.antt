@@ -2,7 +2,7 @@
 use mathlib.Core.List.{List, [], _∷_, _++_, append-assoc}
 use mathlib.Core.Path.{_≡_, refl, sym, ap, _∙_}
 use Prim.Native.Nat.{ℕ, suc, _+_, _<_, _≤_}
-use native.Mathlib.Nat.{add-assoc}
+use native.Mathlib.Nat.{add-assoc, zero-add}
 use native.Mathlib.Numerals.{add-one}
 use native.Mathlib.Omega.{arith}
 use lib.ListN.{length, take, drop, set, length-append, length-drop}
@@ -36,6 +36,9 @@ module _ (at : ℕ) (text s : List ℕ) (within : at ≤ length s) where
 pub placed-none : (at : ℕ) (s : List ℕ) → placedAt at [] s ≡ s
 unfolding placedAt
 placed-none at s = sym (paste-zero s at [])
+
+pub placed-nothing : (at : ℕ) (s : List ℕ) → Placed at [] s s at
+placed-nothing at s = record { buffer = sym (placed-none at s); end = omega arith }
 
 -- One byte is one store.
 pub placed-byte : (at b : ℕ) (s : List ℕ) → at < length s → set s at b ≡ placedAt at (b ∷ []) s
@@ -77,3 +80,8 @@ room {at} {m} {t} {s} {s′} u fits p =
     let same : length s′ ≡ length s = ap length (p .buffer) ∙ length-placed at t s (omega arith) (omega arith) in
     let end : m ≡ at + length t = p .end in
     omega arith
+
+-- A text at the front of a buffer.
+pub placed-front : {r : ℕ} {t s s′ : List ℕ} → Placed 0 t s s′ r → (r ≡ length t) × (s′ ≡ t ++ drop (length t) s)
+unfolding placedAt
+placed-front {r} {t} {s} {s′} p = (p .end ∙ zero-add (length t), p .buffer ∙ rw (zero-add (length t)))

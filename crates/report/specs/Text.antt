@@ -18,12 +18,12 @@ unfoldable pub linesIn : List ℕ → ℕ → List ℕ
 linesIn s k = entryLines (map (entryIn s) (below k))
 
 -- How many of so many entries follow a stopped run's first line: all, or none where nothing is held.
-unfoldable pub heldCount : Held → ℕ → ℕ
+abbrev pub heldCount : Held → ℕ → ℕ
 heldCount (Layout len) pieces = pieces
 heldCount Nothing pieces = 0
 
 -- How many of so many entries follow the first line.
-unfoldable pub shownCount : RunAnswer → ℕ → ℕ
+abbrev pub shownCount : RunAnswer → ℕ → ℕ
 shownCount (Refused n) pieces = 0
 shownCount (Shortest len steps) pieces = pieces
 shownCount (Stopped h steps) pieces = heldCount h pieces
