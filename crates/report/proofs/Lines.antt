@@ -1,7 +1,7 @@
 -- Laws of the lines of the entries that a buffer of numbers holds.
 use mathlib.Core.List.{List, [], _∷_, _++_, map}
 use mathlib.Core.Logic.{⊎-elim}
-use mathlib.Core.Path.{_≡_, refl, sym, ap, _∙_}
+use mathlib.Core.Path.{_≡_, refl, ap}
 use Prim.Native.Nat.{ℕ, zero, suc, _+_, _*_, _<_, _≤_}
 use native.Mathlib.Omega.{arith}
 use lib.ListN.{length, length-append}
@@ -9,7 +9,7 @@ use Rattle.words.proofs.Cases.{le-or-lt}
 use Rattle.words.specs.Bytes.{AreBytes}
 use Rattle.words.specs.Number.{numberAt}
 use Rattle.model.specs.Lists.{concat, rising, below}
-use Rattle.model.specs.Output.{decimal, entryLine, entryLines}
+use Rattle.model.specs.Output.{entryLine, entryLines}
 use Rattle.model.specs.Services.{entryIn}
 use Rattle.model.proofs.Printing.{below-last, map-append, lines-append, lines-one, entry-line, entry-short}
 use Rattle.report.specs.Text.{numberThen, linesIn}

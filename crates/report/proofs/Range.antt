@@ -1,7 +1,5 @@
 -- The numbers of an answer fit their types: what owning the answer tells of them, and how long its first line can be.
-use mathlib.Core.List.{List, [], _∷_, _++_}
-use mathlib.Core.Path.{_≡_, refl, sym, ap, _∙_}
-use Prim.Native.Nat.{ℕ, _+_, _<_, _≤_}
+use Prim.Native.Nat.{_<_, _≤_}
 use native.Mathlib.Omega.{arith}
 use denote.Enum.Declared.{row}
 use denote.Enum.Laws.{vals, owed}
@@ -13,7 +11,7 @@ use Rattle.model.proofs.Held.Laws as held-laws
 use Rattle.model.proofs.RunAnswer as answer-type
 use Rattle.model.proofs.RunAnswer.Laws as answer-laws
 use Rattle.model.proofs.Printing.{line-two, line-three}
-use Rattle.model.specs.Output.{decimal, line, shortestWord, stoppedWord, noneWord, refusedWord, heldWord, firstLine}
+use Rattle.model.specs.Output.{shortestWord, stoppedWord, noneWord, refusedWord, heldWord, firstLine}
 use Rattle.model.specs.declared.Held.{Held}
 use Rattle.model.specs.declared.Held.the-variants.{Layout, Nothing}
 use Rattle.model.specs.declared.RunAnswer.{RunAnswer}

@@ -1,20 +1,17 @@
 -- `report::render` meets its contract: the first line, and then the lines of the entries that are shown.
-use mathlib.Core.List.{List, [], _++_}
-use mathlib.Core.Path.{_≡_, sym, ap, _∙_}
+use mathlib.Core.List.{List, _++_}
+use mathlib.Core.Path.{_≡_, ap, _∙_}
 use Prim.Native.Nat.{ℕ, _+_, _*_, _≤_}
 use native.Mathlib.Omega.{arith}
 use lib.ListN.{length}
 use Rattle.model.specs.Output.{firstLine}
-use Rattle.report.specs.Text.{linesIn, shownCount}
+use Rattle.report.specs.Text.{linesIn}
 use Rattle.report.proofs.Placing.{placed-as, placed-then, placed-front, room}
 use Rattle.report.proofs.Range.{answer-range, first-short}
 use Rattle.report.proofs.Whole.{shown-few, rendered-parts, text-short}
 use borrow.Author.Needs.{needs}
 use Rattle.report.proofs.render.Statement.{statement}
 use Rattle.report.proofs.render.Tie as tie
-use Rattle.report.proofs.first.put_first_line.Reads as put-first-line-reads
-use Rattle.report.proofs.layout.put_entries.Reads as put-entries-reads
-use Rattle.report.proofs.layout.shown_count.Reads as shown-count-reads
 
 put-first-line-requires : tie.Need-put-first-line-requires
 put-first-line-requires c κs =

@@ -1,14 +1,10 @@
 -- `report::first::put_first_line` meets its contract, by the case of the answer.
-use mathlib.Core.Path.{_≡_, sym, ap}
+use mathlib.Core.Path.{sym, ap}
 use Rattle.model.specs.Output.{firstLine}
 use Rattle.report.proofs.Placing.{placed-as}
 use borrow.Author.Needs.{needs}
 use Rattle.report.proofs.first.put_first_line.Statement.{statement}
 use Rattle.report.proofs.first.put_first_line.Tie as tie
-use Rattle.report.proofs.first.put_none.Reads as put-none-reads
-use Rattle.report.proofs.first.put_refused.Reads as put-refused-reads
-use Rattle.report.proofs.first.put_shortest.Reads as put-shortest-reads
-use Rattle.report.proofs.first.put_stopped.Reads as put-stopped-reads
 
 enum-known-answer : tie.Need-enum-known-answer
 enum-known-answer c = search needs

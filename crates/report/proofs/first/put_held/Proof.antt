@@ -1,16 +1,12 @@
 -- `report::first::put_held` meets its contract, by what is held.
-use mathlib.Core.List.{List, [], _∷_, _++_}
-use mathlib.Core.Path.{_≡_, sym, ap}
-use Prim.Native.Nat.{ℕ, _+_, _≤_}
-use lib.ListN.{length}
-use Rattle.model.specs.Output.{decimal, heldWord}
+use mathlib.Core.List.{[], _∷_, _++_}
+use mathlib.Core.Path.{sym, ap}
+use Rattle.model.specs.Output.{heldWord}
 use Rattle.report.specs.Text.{numberThen}
 use Rattle.report.proofs.Placing.{placed-as}
 use borrow.Author.Needs.{needs}
 use Rattle.report.proofs.first.put_held.Statement.{statement}
 use Rattle.report.proofs.first.put_held.Tie as tie
-use Rattle.report.proofs.text.put_number.Reads as put-number-reads
-use Rattle.report.proofs.text.put_word.Reads as put-word-reads
 
 enum-known-held : tie.Need-enum-known-held
 enum-known-held c = search needs

@@ -1,18 +1,14 @@
 -- `report::first::put_none` meets its contract: the word, and the steps.
 use mathlib.Core.List.{[], _∷_, _++_}
-use mathlib.Core.Path.{_≡_, sym}
-use Prim.Native.Nat.{ℕ, _+_, _≤_}
+use mathlib.Core.Path.{sym}
 use native.Mathlib.Omega.{arith}
-use lib.ListN.{length}
-use Rattle.model.specs.Output.{decimal, line, noneWord}
+use Rattle.model.specs.Output.{decimal, noneWord}
 use Rattle.model.proofs.Printing.{line-two}
 use Rattle.report.specs.Text.{numberThen}
 use Rattle.report.proofs.Placing.{placed-as, placed-then, room, room-first}
 use borrow.Author.Needs.{needs}
 use Rattle.report.proofs.first.put_none.Statement.{statement}
 use Rattle.report.proofs.first.put_none.Tie as tie
-use Rattle.report.proofs.text.put_number.Reads as put-number-reads
-use Rattle.report.proofs.text.put_word.Reads as put-word-reads
 
 slice-aggregate-put-word : tie.Need-slice-aggregate-put-word
 slice-aggregate-put-word c = search needs

@@ -1,19 +1,14 @@
 -- `report::first::put_stopped` meets its contract: the word, what is held, and the steps.
 use mathlib.Core.List.{[], _∷_, _++_}
-use mathlib.Core.Path.{_≡_, sym}
-use Prim.Native.Nat.{ℕ, _+_, _≤_}
+use mathlib.Core.Path.{sym}
 use native.Mathlib.Omega.{arith}
-use lib.ListN.{length}
-use Rattle.model.specs.Output.{decimal, line, stoppedWord, heldWord}
+use Rattle.model.specs.Output.{decimal, stoppedWord, heldWord}
 use Rattle.model.proofs.Printing.{line-three}
 use Rattle.report.specs.Text.{numberThen}
 use Rattle.report.proofs.Placing.{placed-as, placed-then, room, room-first}
 use borrow.Author.Needs.{needs}
 use Rattle.report.proofs.first.put_stopped.Statement.{statement}
 use Rattle.report.proofs.first.put_stopped.Tie as tie
-use Rattle.report.proofs.first.put_held.Reads as put-held-reads
-use Rattle.report.proofs.text.put_number.Reads as put-number-reads
-use Rattle.report.proofs.text.put_word.Reads as put-word-reads
 
 slice-aggregate-put-word : tie.Need-slice-aggregate-put-word
 slice-aggregate-put-word c = search needs

@@ -1,7 +1,7 @@
 -- `report::layout::put_entries` meets its contract: the lines of the first i entries stand, until all do.
-use mathlib.Core.List.{List, [], _++_}
+use mathlib.Core.List.{List, _++_}
 use mathlib.Core.Path.{_≡_, refl, sym, ap, _∙_}
-use Prim.Native.Nat.{ℕ, suc, _+_, _*_, _-_, _<_, _≤_}
+use Prim.Native.Nat.{ℕ, suc, _+_, _-_, _<_, _≤_}
 use native.Mathlib.Numerals.{add-one}
 use native.Mathlib.Omega.{arith}
 use lib.ListN.{length}
@@ -14,7 +14,6 @@ use Rattle.report.proofs.Placing.{placed-as, placed-nothing, placed-the
 use borrow.Author.Needs.{needs}
 use Rattle.report.proofs.layout.put_entries.Statement.{statement}
 use Rattle.report.proofs.layout.put_entries.Tie as tie
-use Rattle.report.proofs.layout.put_entry.Reads as put-entry-reads
 
 abbrev Inv-loop : tie.InvT-loop
 Inv-loop dst₀ at numbers count next₀ i₀ dst next i = (i ≤ count) × Placed at (linesIn numbers i) dst₀ dst next × (length dst ≡ length dst₀)

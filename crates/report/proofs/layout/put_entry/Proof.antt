@@ -1,7 +1,7 @@
 -- `report::layout::put_entry` meets its contract: four numbers, each behind the one before it.
 use mathlib.Core.List.{_++_}
 use mathlib.Core.Path.{sym}
-use Prim.Native.Nat.{ℕ, _+_, _*_, _≤_}
+use Prim.Native.Nat.{_+_, _*_, _≤_}
 use native.Mathlib.Omega.{arith}
 use lib.ListN.{length}
 use Rattle.report.proofs.Lines.{stored, entry-stored}
@@ -9,7 +9,6 @@ use Rattle.report.proofs.Placing.{placed-as, placed-then, room, room-fi
 use borrow.Author.Needs.{needs}
 use Rattle.report.proofs.layout.put_entry.Statement.{statement}
 use Rattle.report.proofs.layout.put_entry.Tie as tie
-use Rattle.report.proofs.layout.put_stored.Reads as put-stored-reads
 
 mul-put-stored : tie.Need-mul-put-stored
 mul-put-stored c = search needs

@@ -1,13 +1,11 @@
 -- `report::layout::put_stored` meets its contract: the number that is read is the one that is put.
-use mathlib.Core.Path.{_≡_, ap}
+use mathlib.Core.Path.{ap}
 use Prim.Native.Nat.{ℕ}
 use Rattle.report.specs.Text.{numberThen}
 use Rattle.report.proofs.Placing.{placed-as}
 use borrow.Author.Needs.{needs}
 use Rattle.report.proofs.layout.put_stored.Statement.{statement}
 use Rattle.report.proofs.layout.put_stored.Tie as tie
-use Rattle.report.proofs.text.put_number.Reads as put-number-reads
-use Rattle.words.proofs.numbers.get_u16.Reads as get-u16-reads
 
 get-u16-requires : tie.Need-get-u16-requires
 get-u16-requires c κs = search needs

@@ -1,10 +1,9 @@
 -- `report::layout::shown_count` meets its contract, by the case of the answer.
-use mathlib.Core.Path.{_≡_, sym, ap, _∙_}
+use mathlib.Core.Path.{sym, ap, _∙_}
 use Rattle.report.specs.Text.{shownCount}
 use borrow.Author.Needs.{needs}
 use Rattle.report.proofs.layout.shown_count.Statement.{statement}
 use Rattle.report.proofs.layout.shown_count.Tie as tie
-use Rattle.report.proofs.layout.held_count.Reads as held-count-reads
 
 enum-told : tie.Need-enum-told
 enum-told c = search needs

@@ -1,6 +1,6 @@
 -- `report::text::put_number` meets its contract: the digits, and one byte behind them.
 use mathlib.Core.List.{[], _∷_}
-use Prim.Native.Nat.{ℕ, _+_, _≤_}
+use Prim.Native.Nat.{_+_, _≤_}
 use native.Mathlib.Omega.{arith}
 use lib.ListN.{length}
 use Rattle.model.specs.Output.{decimal}
@@ -9,8 +9,6 @@ use Rattle.report.proofs.Placing.{placed-then, room, room-first}
 use borrow.Author.Needs.{needs}
 use Rattle.report.proofs.text.put_number.Statement.{statement}
 use Rattle.report.proofs.text.put_number.Tie as tie
-use Rattle.report.proofs.text.put_byte.Reads as put-byte-reads
-use Rattle.report.proofs.text.put_digits.Reads as put-digits-reads
 
 put-digits-requires : tie.Need-put-digits-requires
 unfolding numberThen
