@@ -13,6 +13,7 @@ use Rattle.model.specs.Output.{entryLine, entryLines}
 use Rattle.model.specs.Services.{entryIn}
 use Rattle.model.proofs.Printing.{below-last, map-append, lines-append, lines-one, entry-line, entry-short}
 use Rattle.report.specs.Text.{numberThen, linesIn}
+use Rattle.report.proofs.Placing.{room-first}
 
 -- No entry has no line, and one entry more has its line at the end.
 pub lines-none : (s : List ℕ) → linesIn s 0 ≡ []
@@ -52,8 +53,31 @@ lines-short s known (suc k) =
 abbrev pub stored : List ℕ → ℕ → ℕ → List ℕ
 stored s i mark = numberThen (numberAt 2 s i) mark
 
+-- The first one, two and three numbers of entry i.
+abbrev pub oneOf : List ℕ → ℕ → List ℕ
+oneOf s i = stored s (i * 8) 32
+
+abbrev pub twoOf : List ℕ → ℕ → List ℕ
+twoOf s i = oneOf s i ++ stored s (i * 8 + 2) 32
+
+abbrev pub threeOf : List ℕ → ℕ → List ℕ
+threeOf s i = twoOf s i ++ stored s (i * 8 + 4) 32
+
 -- An entry's line is its four numbers.
-pub entry-stored : (s : List ℕ) (i : ℕ) → entryLine (entryIn s i)
-    ≡ stored s (i * 8) 32 ++ stored s (i * 8 + 2) 32 ++ stored s (i * 8 + 4) 32 ++ stored s (i * 8 + 6) 10
+pub entry-stored : (s : List ℕ) (i : ℕ) → entryLine (entryIn s i) ≡ threeOf s i ++ stored s (i * 8 + 6) 10
 unfolding numberThen entryIn
 entry-stored s i = entry-line (entryIn s i)
+
+-- Where the line fits, each number fits behind those before it.
+module _ (at n : ℕ) (s : List ℕ) (i : ℕ) (fits : at + length (entryLine (entryIn s i)) ≤ n) where
+  pub four-fit : at + length (threeOf s i ++ stored s (i * 8 + 6) 10) ≤ n
+  four-fit = rw (entry-stored s i) at fits
+
+  pub three-fit : at + length (threeOf s i) ≤ n
+  three-fit = room-first at n (threeOf s i) (stored s (i * 8 + 6) 10) four-fit
+
+  pub two-fit : at + length (twoOf s i) ≤ n
+  two-fit = room-first at n (twoOf s i) (stored s (i * 8 + 4) 32) three-fit
+
+  pub one-fits : at + length (oneOf s i) ≤ n
+  one-fits = room-first at n (oneOf s i) (stored s (i * 8 + 2) 32) two-fit
