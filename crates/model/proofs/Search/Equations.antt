@@ -7,7 +7,7 @@ use Prim.Native.Nat.{ℕ}
 use lib.ListN.{getD}
 use Rattle.model.specs.Content.{Job}
 use Rattle.model.specs.Layout.{Entry, Layout, entryOf, layoutLength}
-use Rattle.model.specs.Search.{Step, Searched, step, searched, then, live, forwardCheck, completed, tryCandidates, searchPieces, searchFrom, pieces, latest, bestAfter}
+use Rattle.model.specs.Search.{Step, Searched, step, searched, then, live, forwardCheck, completed, tryCandidates, searchPieces, searchFrom, pieces}
 
 module _ (j : Job) (cs : List (List ℕ)) (next : Layout → Option ℕ → Searched) (t : ℕ) (left : List ℕ) where
   -- No candidate left: nothing is done.
@@ -37,3 +37,13 @@ module _ (j : Job) (cs : List (List ℕ)) (next : Layout → Option ℕ → Sear
       (tryCandidates j cs next t left ns placed (next (entryOf j t n ∷ placed) best .best))
   unfolding tryCandidates
   tries-deep n ns placed best e f = rw (e, f, tryCandidates)
+
+-- Look-ahead before the first step: where it fails, the walk takes no step.
+pub search-back : (j : Job) (cs : List (List ℕ)) (best : Option ℕ) → forwardCheck j cs (pieces j) [] best ≡ false → searchFrom j cs best ≡ searched [] best
+unfolding searchFrom
+search-back j cs best e = rw (e, searchFrom)
+
+pub search-walks : (j : Job) (cs : List (List ℕ)) (best : Option ℕ) → forwardCheck j cs (pieces j) [] best ≡ true
+    → searchFrom j cs best ≡ searchPieces j cs (pieces j) [] best
+unfolding searchFrom
+search-walks j cs best e = rw (e, searchFrom)
