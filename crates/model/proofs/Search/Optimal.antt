@@ -14,6 +14,7 @@ use Rattle.model.specs.Content.{Job}
 use Rattle.model.specs.Layout.{Entry, Layout, entryOf, layoutLength}
 use Rattle.model.specs.Search.{Step, Searched, step, searched, then, free, abovePrevious, beats, live, forwardCheck, completed, tryCandidates, searchPieces, searchFrom, pieces, lengthOf, latest, bestAfter}
 use Rattle.model.proofs.Lists.{true-or-false, not-both}
+use Rattle.model.proofs.Sorted.{Above, Rising}
 use Rattle.model.proofs.Search.Completions.{length-reverse, Shorter, NoShorter, shorter-or-not, shorter-le, beats-shorter, shorter-beats, live-parts, live-first, Completes, CompletesWith, CompletesFrom, laid, laid-longer}
 use Rattle.model.proofs.Search.Equations.{tries-end, tries-dead, tries-back, tries-deep, search-back, search-walks}
 use Rattle.model.proofs.Search.ForwardCheck.{forward-keeps}
@@ -51,14 +52,6 @@ NotAfter [] [] = Unit {0}
 NotAfter [] (m ∷ ms) = ⊥
 NotAfter (n ∷ ns) [] = ⊥
 NotAfter (n ∷ ns) (m ∷ ms) = (n < m) ⊎ ((n ≡ m) × NotAfter ns ms)
-
--- Each number is above the one before it, and above all after it.
-abbrev pub Above : ℕ → List ℕ → Type 0
-Above n ms = (m : ℕ) → List·Memᴰ m ms → n < m
-
-abbrev pub Rising : List ℕ → Type 0
-Rising [] = Unit {0}
-Rising (n ∷ ns) = Above n ns × Rising ns
 
 -- The first completion is shorter, or as long and not after the second.
 abbrev pub Wins : Job → (List ℕ → Layout) → List ℕ → List ℕ → Type 0
