@@ -3,3 +3,5 @@ pub mod Equations
 pub mod Completions
 pub mod ForwardCheck
 pub mod Optimal
+pub mod Pieces
+pub mod Passing
