@@ -1,1 +1,4 @@
+-- The definitions that contracts and theorems cite.
+pub mod Absolute
+pub mod Byte
 pub mod Extrema

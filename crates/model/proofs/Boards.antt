@@ -1,14 +1,27 @@
 -- The marked boards of document 01 hold of the definitions: every question of the table has the answer that stands beside it.
-use mathlib.Core.List.{map}
+use mathlib.Core.List.{List, map}
 use mathlib.Core.Path.{_≡_, refl}
-use Rattle.model.specs.Boards.{Marked, answerTo, boards, numbersOf, saidBy, square, jobOf, squareType, squares, gapSquares, printedJob, triangles, strips, bar, rankedSquares}
+use Prim.Native.Nat.{ℕ}
+use Rattle.model.specs.Boards.{Marked, answerTo, boards, furtherBoards, numbersOf, saidBy, square, jobOf, squareType, squares, gapSquares, printedJob, printedText, triangles, strips, bar, rankedSquares, leftCorner, star}
 use Rattle.model.specs.Opened.{opened}
+
+-- Every question of the table has its expected answer.
+abbrev pub Hold : List Marked → Type 0
+Hold table = map (λ m. answerTo (m .question)) table ≡ map (λ m. m .expected) table
+
+unfoldable openedBoards : ℕ
+unfolding opened boards furtherBoards answerTo numbersOf saidBy square jobOf squareType squares gapSquares printedJob printedText triangles strips bar rankedSquares leftCorner star
+openedBoards = 0
 
 -- The paper prints the bytes of one job; the others are put together the same way.
 pub printed-like-the-others : squares 2 4 ≡ printedJob
-unfolding opened squares jobOf squareType printedJob
+unfolding openedBoards
 printed-like-the-others = refl
 
-pub boards-hold : map (λ m. answerTo (m .question)) boards ≡ map (λ m. m .expected) boards
-unfolding opened boards answerTo numbersOf saidBy square jobOf squareType squares gapSquares printedJob triangles strips bar rankedSquares
-boards-hold = refl
+pub marked-boards : Hold boards
+unfolding openedBoards
+marked-boards = refl
+
+pub further-boards : Hold furtherBoards
+unfolding openedBoards
+further-boards = refl

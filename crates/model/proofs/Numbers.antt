@@ -36,7 +36,9 @@ remainder m q r h = mul-add-mod-self-right q m r ∙ mod-eq-of-lt h
 pub placement-of-number : (b : Board) (p : Placement) → p .row < rows b → p .rotation < 4 → placementOf b (numberOf b p) ≡ p
 unfolding numberOf placementOf
 placement-of-number b p h k =
-    rw (quotient 4 (p .column * rows b + p .row) (p .rotation) k,
-        remainder 4 (p .column * rows b + p .row) (p .rotation) k,
-        quotient (rows b) (p .column) (p .row) h,
-        remainder (rows b) (p .column) (p .row) h)
+    rw (
+      quotient 4 (p .column * rows b + p .row) (p .rotation) k,
+      remainder 4 (p .column * rows b + p .row) (p .rotation) k,
+      quotient (rows b) (p .column) (p .row) h,
+      remainder (rows b) (p .column) (p .row) h,
+    )

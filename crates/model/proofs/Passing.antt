@@ -21,7 +21,7 @@ module _ (j : Job) where
   precedes e f h = go (eqb (e .kind) (f .kind)) refl h
     where
       go : (c : Bool) → eqb (e .kind) (f .kind) ≡ c
-        → cond c (ltb (entryNumber j e) (entryNumber j f)) (ltb (e .kind) (f .kind)) ≡ true → Precedes j e f
+          → cond c (ltb (entryNumber j e) (entryNumber j f)) (ltb (e .kind) (f .kind)) ≡ true → Precedes j e f
       go true q t = inr (eqb-true _ _ q, ltb-true _ _ t)
       go false q t = inl (ltb-true _ _ t)
 
@@ -66,12 +66,12 @@ module _ (j : Job) where
   unfolding passes demandMet
   passes-sound es t =
       let parts = and-four (ordered j es) (demandMet j es) (all (isEntry j) es) (apart j es) t in
-      record
-        { rising = ordered-at es (parts .0)
-        ; demanded = λ i h. eqb-true _ _ (all-below (λ t. eqb (copies t es) (kindAt j t .demand)) (kindCount j) (parts .1) i h)
-        ; offered = all-at (isEntry j) es noEntry (parts .2)
-        ; clear = apart-at es (parts .3)
-        }
+      record {
+        rising = ordered-at es (parts .0);
+        demanded = λ i h. eqb-true _ _ (all-below (λ t. eqb (copies t es) (kindAt j t .demand)) (kindCount j) (parts .1) i h);
+        offered = all-at (isEntry j) es noEntry (parts .2);
+        clear = apart-at es (parts .3);
+      }
 
   pub passes-complete : (es : Layout) → Passes j es → passes j es ≡ true
   unfolding passes demandMet

@@ -7,9 +7,10 @@ use lib.IntN.{ℤ, pos}
 use lib.ListN.{length, replicate}
 use Rattle.words.specs.Number.{bytes, bytesOf, numberAt}
 use Rattle.model.specs.Content.{Vertex, vertex, Part, pieceCount}
-use Rattle.model.specs.Format.{content}
+use Rattle.model.specs.Format.{content, refusal}
 use Rattle.model.specs.Geometry.{moved, piecesConflict}
 use Rattle.model.specs.Lists.{all, below}
+use Rattle.model.specs.Output.{program}
 use Rattle.model.specs.Services.{RunOutcome, run, check, numbersIn, workWords}
 use Rattle.model.specs.declared.Checked.{Checked}
 use Rattle.model.specs.declared.Checked.the-variants as C
@@ -19,23 +20,30 @@ use Rattle.model.specs.declared.RunAnswer.the-variants.{Shortest, Stoppe
 
 -- ---- Questions and answers
 
--- A run of a job at a budget; a check of a job and a layout's numbers; whether squares at (0,0) and (x,y) are in conflict at a gap.
+-- A run of a job at a budget; a check of a job and a layout's numbers; whether squares at (0,0) and (x,y) are in conflict at a gap;
+-- by which number a job's sender is refused; what the program prints of a job.
 pub data Question : Type 0 where
+  prints : List ℕ → Question
   runs : List ℕ → ℕ → Question
   checks : List ℕ → List ℕ → Question
   conflicts : ℕ → ℕ → ℕ → Question
+  sends : List ℕ → Question
 
--- What a run says, whether its work words are zero, and the answer numbers after it; what check says; whether there is conflict.
+-- What a run says, whether its work words are zero, and the answer numbers after it; what check says; whether there is conflict;
+-- the number of the refusal, 0 for an accepted job; the bytes printed.
 pub data Answer : Type 0 where
+  text : List ℕ → Answer
   says : RunAnswer → Bool → List ℕ → Answer
   finds : Checked → Answer
   isConflict : Bool → Answer
+  isRefused : ℕ → Answer
 
 -- A question, and document 01's answer to it.
 pub record Marked : Type 0 where
   pub question : Question
   pub expected : Answer
 
+-- A question with its answer.
 abbrev pub _⇒_ : Question → Answer → Marked
 q ⇒ a = record { question = q; expected = a }
 
@@ -46,6 +54,7 @@ infix 4 _⇒_
 unfoldable pub numbersOf : List ℕ → List ℕ
 numbersOf s = map (λ i. numberAt 2 s (i * 2)) (below (numbersIn s))
 
+-- What a run told and left, as an answer of the table.
 unfoldable pub saidBy : RunOutcome → Answer
 saidBy r = says (r .answer) (all (eqb 0) (r .work)) (numbersOf (r .out))
 
@@ -59,6 +68,8 @@ answerTo (runs s budget) =
     saidBy
     (run s budget (replicate (workWords (content s) * 8) 255) (bytesOf 2 (replicate (pieceCount (content s) * 4) 7)))
 answerTo (checks s ns) = finds (check s (bytesOf 2 ns))
+answerTo (prints s) = text (program s)
+answerTo (sends s) = isRefused (refusal s)
 answerTo (conflicts gap x y) = isConflict (piecesConflict gap (square ∷ []) (map (moved x y) square ∷ []))
 
 -- ---- Jobs
@@ -91,6 +102,16 @@ unfoldable pub printedJob : List ℕ
 printedJob =
     0x02 ∷ 0x00 ∷ 0x04 ∷ 0x00 ∷ 0x01 ∷ 0x00 ∷ 0x02 ∷ 0x01 ∷ 0x00 ∷ 0x01 ∷ 0x04 ∷ 0x00 ∷ 0x00 ∷ 0x02 ∷ 0x00 ∷ 0x02 ∷ 0x02 ∷ 0x00 ∷ 0x02 ∷ 0x00 ∷ 0x00 ∷ 0x00 ∷ 0x00 ∷ 0x06 ∷ 0x00 ∷ 0x0D ∷ 0x00 ∷ 0x00 ∷ 0x01 ∷ 0x21 ∷ 0x00 ∷ 0x44 ∷ 0x42 ∷ []
 
+-- "The program prints exactly": the bytes of its three lines.
+unfoldable pub printedText : List ℕ
+printedText =
+    -- `shortest 4 3`
+    (115 ∷ 104 ∷ 111 ∷ 114 ∷ 116 ∷ 101 ∷ 115 ∷ 116 ∷ 32 ∷ 52 ∷ 32 ∷ 51 ∷ 10 ∷ [])
+    -- `0 0 0 0`
+    ++ (48 ∷ 32 ∷ 48 ∷ 32 ∷ 48 ∷ 32 ∷ 48 ∷ 10 ∷ [])
+    -- `0 2 0 0`
+    ++ (48 ∷ 32 ∷ 50 ∷ 32 ∷ 48 ∷ 32 ∷ 48 ∷ 10 ∷ [])
+
 -- "Two triangles (0,0) (2,0) (2,2) and (0,0) (2,2) (0,2), one each"
 unfoldable pub triangles : List ℕ
 triangles = jobOf 2 2 [] 2 (1 ∷ 1 ∷ 0 ∷ 1 ∷ 3 ∷ 0 ∷ 0 ∷ 2 ∷ 0 ∷ 2 ∷ 2 ∷ 1 ∷ 1 ∷ 0 ∷ 1 ∷ 3 ∷ 0 ∷ 0 ∷ 2 ∷ 2 ∷ 0 ∷ 2 ∷ [])
@@ -107,16 +128,27 @@ bar turns = jobOf 3 1 [] 1 (1 ∷ turns ∷ 0 ∷ 1 ∷ 4 ∷ 0 ∷ 0 ∷ 3 ∷ 
 unfoldable pub rankedSquares : List ℕ → List ℕ
 rankedSquares classes = jobOf 2 7 classes 1 (squareType 3)
 
+-- One triangle with a corner at (x, 0), x as a byte: -127 is 129 and -128 is 128.
+unfoldable pub leftCorner : ℕ → List ℕ
+leftCorner x = jobOf 30 30 [] 1 (1 ∷ 1 ∷ 0 ∷ 1 ∷ 3 ∷ x ∷ 0 ∷ 0 ∷ 0 ∷ 0 ∷ 1 ∷ [])
+
+-- "a five-pointed star .. each corner turns left": (0,10) (-6,-8) (10,3) (-10,3) (6,-8).
+unfoldable pub star : List ℕ
+star = jobOf 20 20 [] 1 (1 ∷ 1 ∷ 0 ∷ 1 ∷ 5 ∷ 0 ∷ 10 ∷ 250 ∷ 248 ∷ 10 ∷ 3 ∷ 246 ∷ 3 ∷ 6 ∷ 248 ∷ [])
+
 -- What a run leaves where it holds no layout of two pieces: the numbers that were there.
 abbrev untouched : List ℕ
 untouched = 7 ∷ 7 ∷ 7 ∷ 7 ∷ 7 ∷ 7 ∷ 7 ∷ 7 ∷ []
 
 -- ---- The table. Steps that the paper does not print were counted by hand
 
+-- The boards that document 01 marks with a star.
 unfoldable pub boards : List Marked
 boards =
-    -- "W 2, L 4 .. shortest 4 3"
-    (runs printedJob 1000000 ⇒ says (Shortest 4 3) true (0 ∷ 0 ∷ 0 ∷ 0 ∷ 0 ∷ 2 ∷ 0 ∷ 0 ∷ []))
+    -- "W 2, L 4 .. The program prints exactly": `shortest 4 3`, `0 0 0 0`, `0 2 0 0`
+    (prints printedJob ⇒ text printedText)
+    -- The same by run: the answer numbers hold the layout.
+    ∷ (runs printedJob 1000000 ⇒ says (Shortest 4 3) true (0 ∷ 0 ∷ 0 ∷ 0 ∷ 0 ∷ 2 ∷ 0 ∷ 0 ∷ []))
     -- "Budgets 3, 2, 1: shortest 4; stopped with 4; stopped with nothing."
     ∷ (runs printedJob 3 ⇒ says (Shortest 4 3) true (0 ∷ 0 ∷ 0 ∷ 0 ∷ 0 ∷ 2 ∷ 0 ∷ 0 ∷ []))
     ∷ (runs printedJob 2 ⇒ says (Stopped (Layout 4) 2) true (0 ∷ 0 ∷ 0 ∷ 0 ∷ 0 ∷ 2 ∷ 0 ∷ 0 ∷ []))
@@ -148,4 +180,19 @@ boards =
     -- "Classes of rank 5 gap 1 and rank 9 gap 3, in either file order: gap 1."
     ∷ (runs (rankedSquares (0 ∷ 5 ∷ 1 ∷ 1 ∷ 9 ∷ 3 ∷ [])) 1000000 ⇒ says (Shortest 5 4) true (0 ∷ 0 ∷ 0 ∷ 0 ∷ 0 ∷ 3 ∷ 0 ∷ 0 ∷ []))
     ∷ (runs (rankedSquares (1 ∷ 9 ∷ 3 ∷ 0 ∷ 5 ∷ 1 ∷ [])) 1000000 ⇒ says (Shortest 5 4) true (0 ∷ 0 ∷ 0 ∷ 0 ∷ 0 ∷ 3 ∷ 0 ∷ 0 ∷ []))
+    ∷ []
+
+-- Boards that document 01 does not mark, each here because it tells a wrong definition that no marked board would.
+unfoldable pub furtherBoards : List Marked
+furtherBoards =
+    -- "L 511, W 1: 1024 dots, accepted. L 512: refused 4."
+    (sends (squares 1 511) ⇒ isRefused 0)
+    ∷ (sends (squares 1 512) ⇒ isRefused 4)
+    -- "A corner at -127 is accepted, at -128 refused 7."
+    ∷ (sends (leftCorner 129) ⇒ isRefused 0)
+    ∷ (sends (leftCorner 128) ⇒ isRefused 7)
+    -- "Accepting a five-pointed star because each corner turns left" loses a nest.
+    ∷ (sends star ⇒ isRefused 7)
+    -- One candidate for two squares: look-ahead ends the walk before the first step.
+    ∷ (runs (squares 2 2) 1000000 ⇒ says (Infeasible 0) true untouched)
     ∷ []

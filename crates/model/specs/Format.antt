@@ -3,9 +3,10 @@ use mathlib.Core.Bool.{Bool, true, false, not, cond, _&&_, _||_}
 use mathlib.Core.List.{List, [], _∷_, map}
 use Prim.Native.Nat.{ℕ, zero, suc, _+_, _*_, _-_, min, max}
 use lib.Dec.{leb, ltb, eqb}
-use lib.IntN.{ℤ, pos, negsuc, _-ℤ_}
+use lib.IntN.{ℤ, negsuc}
 use lib.ListN.{length, getD, take, drop}
 use lib.Signed.{leZ}
+use Rattle.integers.specs.Byte.{signed}
 use Rattle.words.specs.Bits.{testBit}
 use Rattle.words.specs.Number.{numberAt}
 use Rattle.model.specs.Content.{Vertex, vertex, Part, Kind, kind, SpacingClass, spacingClass, Board, board, Job, job, pieceCount}
@@ -22,10 +23,6 @@ byteAt s i = getD s i 0
 -- "Two-byte numbers are unsigned, low byte first."
 unfoldable pub wordAt : List ℕ → ℕ → ℕ
 wordAt s i = numberAt 2 s i
-
--- "x and y as signed bytes": 128 to 255 stand for -128 to -1.
-unfoldable pub signed : ℕ → ℤ
-signed b = cond (ltb b 128) (pos b) (pos b -ℤ pos 256)
 
 -- ---- The trailer
 
@@ -83,6 +80,7 @@ boardSection s = section (boardAt s) 6
 unfoldable pub classesSection : List ℕ → Section
 classesSection s = section (classesAt s) (classesStated s * 3)
 
+-- "length of the type list in bytes"
 unfoldable pub kindsSection : List ℕ → Section
 kindsSection s = section (kindsAt s) (kindsLength s)
 
@@ -177,6 +175,7 @@ kindsGot s = many readKind (kindsStated s) (kindBytes s)
 
 -- ---- The content
 
+-- The types that were read.
 unfoldable pub kindsIn : Got (List Kind) → List Kind
 kindsIn bad = []
 kindsIn (got ks m) = ks

@@ -1,6 +1,7 @@
 -- Names that open all definitions of a module, and one that opens them all, for theorems that compute with them: such a theorem
 -- says `unfolding opened`. The numbers mean nothing.
 use Prim.Native.Nat.{ℕ}
+use Rattle.integers.specs.Byte.{signed}
 use Rattle.integers.specs.Extrema.{maxZ, minZ}
 use Rattle.words.specs.Bits.{testBit, bitsWhere}
 use Rattle.words.specs.Number.{value, bytes, bytesOf, numberAt, withNumber, count, filled}
@@ -10,13 +11,14 @@ use Rattle.model.specs.Grid.{columns, rows, dots, numberOf, placementOf,
 use Rattle.model.specs.Geometry.{quarterTurn, rotated, moved, vertexAt, following, cross, strictlyLeft, edgeSound, sound, outwardNormal, normals, negated, axes, directions, along, clearance, separates, separated, piecesConflict}
 use Rattle.model.specs.Gap.{names, better, bestFrom, bestRanked, gapOr0, kindGap, pairGap}
 use Rattle.model.specs.Candidate.{placedPart, placedParts, placedVertices, onBoard, admitted, isCandidate, candidates, natural, extent}
-use Rattle.model.specs.Format.{byteAt, wordAt, signed, trailerAt, boardAt, classesAt, kindsAt, kindsLength, classesStated, kindsStated, lengthStated, marked, boardSection, classesSection, kindsSection, inPlace, shareByte, boardOf, classAt, classesOf, byRisingId, joined, followed, many, vertices, readPart, headInRange, withParts, readKind, kindBytes, kindsGot, kindsIn, content, cause1, cause2, cause3, cause4, classInRange, distinct, cause5, namesPresent, kindsUnfit, cause6, vertexInRange, cause7, refusal}
+use Rattle.model.specs.Format.{byteAt, wordAt, trailerAt, boardAt, classesAt, kindsAt, kindsLength, classesStated, kindsStated, lengthStated, marked, boardSection, classesSection, kindsSection, inPlace, shareByte, boardOf, classAt, classesOf, byRisingId, joined, followed, many, vertices, readPart, headInRange, withParts, readKind, kindBytes, kindsGot, kindsIn, content, cause1, cause2, cause3, cause4, classInRange, distinct, cause5, namesPresent, kindsUnfit, cause6, vertexInRange, cause7, refusal}
 use Rattle.model.specs.Layout.{entryOf, entryNumber, entryKind, isEntry, entryExtent, conflict, inOrder, ordered, copies, demandMet, apart, passes, layoutLength}
 use Rattle.model.specs.Search.{pieces, candidateTable, free, abovePrevious, beats, staysBelow, live, copiesLeft, forwardCheck, then, completed, tryCandidates, searchPieces, searchFrom, lengthOf, stepsFrom, stepsNeeded, isStopped, stepsTaken, latest, bestAfter, held}
 use Rattle.model.specs.Services.{numbersIn, wordsIn, withNumbers, withWords, coordinate, vertexNumbers, partNumbers, kindNumbers, classNumbers, contentNumbers, readContent, read, cause12, rowBit, rowWords, rowContent, conflictRow, entryIn, layoutIn, cause11, check, workWords, cleared, entryNumbers, layoutNumbers, withLayout, heldAs, finishedAs, stepCount, verdict, runContent, run}
+use Rattle.model.specs.Output.{digitsBefore, decimal, line, shortestWord, stoppedWord, noneWord, refusedWord, heldWord, firstLine, entryLine, entryLines, heldLines, layoutLines, printed, program}
 
 unfoldable pub openedWords : ℕ
-unfolding maxZ minZ testBit bitsWhere value bytes bytesOf numberAt withNumber count filled
+unfolding signed maxZ minZ testBit bitsWhere value bytes bytesOf numberAt withNumber count filled
 openedWords = 0
 
 unfoldable pub openedLists : ℕ
@@ -44,7 +46,7 @@ unfolding placedPart placedParts placedVertices onBoard admitted isCandidate can
 openedCandidate = 0
 
 unfoldable pub openedFormat : ℕ
-unfolding byteAt wordAt signed trailerAt boardAt classesAt kindsAt kindsLength classesStated kindsStated lengthStated marked boardSection classesSection kindsSection inPlace shareByte boardOf classAt classesOf byRisingId joined followed many vertices readPart headInRange withParts readKind kindBytes kindsGot kindsIn content cause1 cause2 cause3 cause4 classInRange distinct cause5 namesPresent kindsUnfit cause6 vertexInRange cause7 refusal
+unfolding byteAt wordAt trailerAt boardAt classesAt kindsAt kindsLength classesStated kindsStated lengthStated marked boardSection classesSection kindsSection inPlace shareByte boardOf classAt classesOf byRisingId joined followed many vertices readPart headInRange withParts readKind kindBytes kindsGot kindsIn content cause1 cause2 cause3 cause4 classInRange distinct cause5 namesPresent kindsUnfit cause6 vertexInRange cause7 refusal
 openedFormat = 0
 
 unfoldable pub openedLayout : ℕ
@@ -59,6 +61,10 @@ unfoldable pub openedServices : ℕ
 unfolding numbersIn wordsIn withNumbers withWords coordinate vertexNumbers partNumbers kindNumbers classNumbers contentNumbers readContent read cause12 rowBit rowWords rowContent conflictRow entryIn layoutIn cause11 check workWords cleared entryNumbers layoutNumbers withLayout heldAs finishedAs stepCount verdict runContent run
 openedServices = 0
 
+unfoldable pub openedOutput : ℕ
+unfolding digitsBefore decimal line shortestWord stoppedWord noneWord refusedWord heldWord firstLine entryLine entryLines heldLines layoutLines printed program
+openedOutput = 0
+
 unfoldable pub opened : ℕ
-unfolding openedWords openedLists openedContent openedGrid openedGeometry openedGap openedCandidate openedFormat openedLayout openedSearch openedServices
+unfolding openedWords openedLists openedContent openedGrid openedGeometry openedGap openedCandidate openedFormat openedLayout openedSearch openedServices openedOutput
 opened = 0
