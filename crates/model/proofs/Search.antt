@@ -5,3 +5,4 @@ pub mod ForwardCheck
 pub mod Optimal
 pub mod Pieces
 pub mod Passing
+pub mod Walk

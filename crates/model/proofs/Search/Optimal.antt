@@ -15,7 +15,7 @@ use Rattle.model.specs.Layout.{Entry, Layout, entryOf, layoutLength}
 use Rattle.model.specs.Search.{Step, Searched, step, searched, then, free, abovePrevious, beats, live, forwardCheck, completed, tryCandidates, searchPieces, searchFrom, pieces, lengthOf, latest, bestAfter}
 use Rattle.model.proofs.Lists.{true-or-false, not-both}
 use Rattle.model.proofs.Sorted.{Above, Rising}
-use Rattle.model.proofs.Search.Completions.{length-reverse, Shorter, NoShorter, shorter-or-not, shorter-le, beats-shorter, shorter-beats, live-parts, live-first, Completes, CompletesWith, CompletesFrom, laid, laid-longer}
+use Rattle.model.proofs.Search.Completions.{length-reverse, Shorter, NoShorter, shorter-or-not, shorter-lt, shorter-le, beats-shorter, shorter-beats, live-parts, live-first, Completes, CompletesWith, CompletesFrom, laid, laid-longer}
 use Rattle.model.proofs.Search.Equations.{tries-end, tries-dead, tries-back, tries-deep, search-back, search-walks}
 use Rattle.model.proofs.Search.ForwardCheck.{forward-keeps}
 
@@ -84,12 +84,7 @@ none-shorter j P lay h f = stays refl (λ ns p. ⊎-elim (λ s. absurd (f ns p s
 
 -- ---- One candidate, and then the others
 
--- A length below that of the layout held is below one that is not.
-shorter-lt : (j : Job) (a b : ℕ) (h : Option Layout) → Shorter j a h → NoShorter j b h → a < b
-shorter-lt j a b none s f = absurd f
-shorter-lt j a b (some es) s f = omega arith
-
--- The same where the layout held is one laid the other way round.
+-- Lengths beside a layout held that was laid the other way round.
 shorter-laid : (j : Job) (a : ℕ) (h : Option Layout) (es : Layout) → h ≡ some (reverse es) → Shorter j a h → a < layoutLength j es
 shorter-laid j a h es e s = rw (length-reverse j es) at (subst (Shorter j a) e s)
 
