@@ -3,4 +3,5 @@ pub mod Lists
 pub mod Numbers
 pub mod Passing
 pub mod Sorted
+pub mod Accepted
 pub mod Search
