@@ -6,3 +6,5 @@ pub mod Optimal
 pub mod Pieces
 pub mod Passing
 pub mod Walk
+pub mod Budget
+pub mod Demand3

@@ -1,5 +1,5 @@
 -- The third demand, sentence by sentence, as one record over what a run leaves behind. It is written for a job's bytes, a budget and an
--- outcome; `demand3` (proofs/Demand3) says that what `run` leaves behind meets it, for every accepted job, every budget and long enough
+-- outcome; `demand3` (proofs/Search/Demand3) says that what `run` leaves behind meets it, for every accepted job, every budget and long enough
 -- buffers, whatever these hold.
 use mathlib.Core.List.{List, List·Memᴰ}
 use mathlib.Core.Logic.{_↔_}
