@@ -1,16 +1,15 @@
 -- A layout written into the answer numbers is read back from them.
-use mathlib.Core.List.{List, [], _∷_, _++_, map, append-assoc}
+use mathlib.Core.List.{List, [], _∷_, _++_, append-assoc}
 use mathlib.Core.Option.{some}
-use mathlib.Core.Path.{_≡_, refl, sym, ap, ap₂, _∙_, subst}
-use Prim.Native.Nat.{ℕ, zero, suc, _+_, _*_, _/_, _%_, _^_, _≤_, _<_}
+use mathlib.Core.Path.{_≡_, refl, sym, ap, ap₂, _∙_}
+use Prim.Native.Nat.{ℕ, zero, suc, _+_, _*_, _/_, _^_, _<_}
 use native.Mathlib.Nat.{not-suc-le-zero, le-of-suc-le-suc, zero-mul, suc-mul, add-comm, zero-add, div-lt-iff-lt-mul, pow-suc}
 use native.Mathlib.Omega.{arith}
-use lib.ListN.{length, getD, take, drop, length-map, List·getD-append}
+use lib.ListN.{length, getD, drop, length-map, List·getD-append}
 use lib.Seq.{take-at, drop-append-add, getD-append-add, ext-getD}
 use Rattle.words.specs.Number.{value, bytes, bytesOf, numberAt, filled}
 use Rattle.model.specs.Content.{Job, pieceCount}
-use Rattle.model.specs.Grid.{Placement, placement}
-use Rattle.model.specs.Layout.{Entry, entry, Layout, entryAt, noEntry}
+use Rattle.model.specs.Layout.{Entry, Layout, entryAt, noEntry}
 use Rattle.model.specs.Lists.{concat, below}
 use Rattle.model.specs.Services.{withNumbers, entryIn, layoutIn, entryNumbers, layoutNumbers, withLayout}
 use Rattle.model.proofs.Lists.{length-below, getD-map-below}
@@ -68,6 +67,7 @@ pub record Small (e : Entry) : Type 0 where
   pub rotation-fits : e .place .rotation < 65536
 
 module _ (es : Layout) (rest : List ℕ) (i : ℕ) (h : i < length es) where
+  -- Number c of entry i, at its place in the bytes.
   read-number : (c at : ℕ) → c < 4 → at ≡ (i * 4 + c) * 2 → getD (entryNumbers (entryAt es i)) c 0 < 65536
       → numberAt 2 (bytesOf 2 (layoutNumbers es) ++ rest) at ≡ getD (entryNumbers (entryAt es i)) c 0
   read-number c at l q b =

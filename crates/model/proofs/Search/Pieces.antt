@@ -1,24 +1,24 @@
 -- The pieces and the candidates of a job: which they are, in which order, and how many.
-use mathlib.Core.Bool.{Bool, true, false, _&&_}
-use mathlib.Core.List.{List, [], _∷_, map, List·Memᴰ, List·Memᴰ·not-nil}
+use mathlib.Core.Bool.{true, false}
+use mathlib.Core.List.{[], map, List·Memᴰ, List·Memᴰ·not-nil}
 use mathlib.Core.Logic.{_⊎_, inl, inr, ⊎-elim}
-use mathlib.Core.Path.{_≡_, refl, sym, ap, _∙_, subst}
-use Prim.Native.Nat.{ℕ, zero, suc, _+_, _*_, _/_, _%_, _^_, _≤_, _<_}
-use native.Mathlib.Nat.{not-suc-le-zero, le-of-suc-le-suc, add-zero, zero-add, suc-add, add-suc, div-eq-of-lt, zero-div, mul-le-mul-right, pow-le-pow-right}
+use mathlib.Core.Path.{_≡_, sym, ap, _∙_, subst}
+use Prim.Native.Nat.{ℕ, _/_, _%_, _^_, _≤_, _<_}
+use native.Mathlib.Nat.{div-eq-of-lt, zero-div, mul-le-mul-right, pow-le-pow-right}
 use native.Mathlib.Omega.{arith}
-use borrow.Author.Tests.{ltb-true, ltb-false, eqb-true, ne-eqb, lt-ltb}
+use borrow.Author.Tests.{ltb-true, ltb-false}
 use lib.Dec.{ltb, eqb}
 use lib.ListN.{length, getD, length-map, List·getD-eq-default}
 use Rattle.words.specs.Bits.{testBit}
 use Rattle.model.specs.Candidate.{admitted, isCandidate, candidates, placedVertices, onBoard}
 use Rattle.model.specs.Content.{Kind, Job, kindAt, kindCount, pieceCount, noKind}
-use Rattle.model.specs.Grid.{Placement, columns, rows, dots, numberOf, placementOf, numberLimit}
+use Rattle.model.specs.Grid.{Placement, columns, rows, dots, numberOf, numberLimit}
 use Rattle.model.specs.Layout.{Entry, entryOf, entryNumber, entryKind, isEntry}
-use Rattle.model.specs.Lists.{all, countOf, sum, rising, below}
+use Rattle.model.specs.Lists.{all, countOf, sum, below}
 use Rattle.model.specs.Search.{pieces, candidateTable}
-use Rattle.model.proofs.Lists.{and-four, length-below, getD-map-below, true-or-false, not-both}
-use Rattle.model.proofs.Numbers.{number-of-placement, placement-of-number}
-use Rattle.model.proofs.Sorted.{Rising, Ascending, mem-rising, rising-mem, mem-keep, keep-mem, keep-rises, countOf-none, mem-blocks, blocks-ascend, count-blocks, length-blocks}
+use Rattle.model.proofs.Lists.{and-four, length-below, getD-map-below, map-by-index, true-or-false, not-both}
+use Rattle.model.proofs.Numbers.{placement-of-number}
+use Rattle.model.proofs.Sorted.{Rising, Ascending, rising-mem, mem-keep, keep-mem, keep-rises, mem-blocks, blocks-ascend, count-blocks, length-blocks}
 
 -- What the theorems about the walk ask of a job, and every accepted job has: a piece, and turn masks of four bits.
 pub record Sensible (j : Job) : Type 0 where
@@ -26,20 +26,6 @@ pub record Sensible (j : Job) : Type 0 where
   pub turned : (t : ℕ) → kindAt j t .rotations < 16
 
 -- ---- Pieces
-
-module _ {A : Type 0} where
-  -- A function over numbers that rise from one more.
-  map-rising-suc : (f : ℕ → A) (i k : ℕ) → map f (rising (suc i) k) ≡ map (λ t. f (suc t)) (rising i k)
-  unfolding rising
-  map-rising-suc f i zero = refl
-  map-rising-suc f i (suc k) = ap {B = List A} (λ (r : List A). f (suc i) ∷ r) (map-rising-suc f (suc i) k)
-
--- A function of each element, by the element's index.
-map-by-index : {A : Type 0} (f : A → ℕ) (xs : List A) (d : A) → map (λ t. f (getD xs t d)) (rising 0 (length xs)) ≡ map f xs
-unfolding rising
-map-by-index f [] d = refl
-map-by-index f (x ∷ xs) d =
-    ap (λ (r : List ℕ). f x ∷ r) (map-rising-suc (λ t. f (getD (x ∷ xs) t d)) 0 (length xs) ∙ map-by-index f xs d)
 
 module _ (j : Job) where
   -- There are N pieces.
@@ -69,11 +55,13 @@ module _ (j : Job) where
   unfolding candidateTable
   table-at t h = getD-map-below (candidates j) (kindCount j) t [] h
 
+  -- It has no candidates of a type that is not there.
   table-beyond : (t : ℕ) → kindCount j ≤ t → getD (candidateTable j) t [] ≡ []
   unfolding candidateTable
   table-beyond t h =
       List·getD-eq-default (map (candidates j) (below (kindCount j))) [] (rw (length-map (below (kindCount j)) (candidates j), length-below (kindCount j)) h)
 
+  -- A type is there or not.
   in-table : (t : ℕ) → (t < kindCount j) ⊎ (kindCount j ≤ t)
   in-table t = ⊎-elim (λ e. inl (ltb-true t (kindCount j) e)) (λ e. inr (ltb-false t (kindCount j) e)) (true-or-false (ltb t (kindCount j)))
 
