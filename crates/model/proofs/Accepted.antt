@@ -13,7 +13,6 @@ use Rattle.model.specs.Content.{Part, Kind, Board, Job, kindAt, kindCoun
 use Rattle.model.specs.Format.{Got, bad, got, joined, followed, many, byteAt, readPart, headInRange, withParts, readKind, kindsStated, kindBytes, kindsGot, kindsIn, boardOf, content, cause1, cause2, cause3, cause4, cause5, cause6, cause7, kindsUnfit, classesOf, kindsLength, refusal}
 use Rattle.model.specs.Grid.{dots}
 use Rattle.model.specs.Lists.{between, sum}
-use Rattle.model.proofs.Search.Pieces.{Sensible}
 use Rattle.model.proofs.Lists.{and-left, and-right, and-four, or-left, or-right, not-both}
 
 -- ---- No cause is given
@@ -143,7 +142,12 @@ unfolding sum
 some-demand [] h f = absurd (not-suc-le-zero h)
 some-demand (k ∷ ks) h f = omega (arith, f k (List·Memᴰ·head refl) .demanded)
 
--- An accepted job has a piece, and turn masks of four bits.
+-- What the theorems about the walk ask of a job, and every accepted job has: a piece, and turn masks of four bits.
+pub record Sensible (j : Job) : Type 0 where
+  pub pieced : 0 < pieceCount j
+  pub turned : (t : ℕ) → kindAt j t .rotations < 16
+
+-- An accepted job has both.
 pub accepted-sensible : (s : List ℕ) → refusal s ≡ 0 → Sensible (content s)
 unfolding kindAt kindCount pieceCount
 accepted-sensible s e =

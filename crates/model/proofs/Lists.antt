@@ -72,11 +72,6 @@ below-all p n f = all-of p (below n) 0 (λ i h. let k : i < n = rw (length-below
 
 -- ---- Counting
 
--- A Bool is true or false.
-pub true-or-false : (b : Bool) → (b ≡ true) ⊎ (b ≡ false)
-true-or-false true = inl refl
-true-or-false false = inr refl
-
 -- A Bool that is not both.
 pub not-both : {b : Bool} → b ≡ true → b ≡ false → ⊥
 not-both p q = true≢false (sym p ∙ q)

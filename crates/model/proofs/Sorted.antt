@@ -10,7 +10,8 @@ use borrow.Author.Tests.{eqb-true, eqb-false, eq-eqb, ne-eqb}
 use lib.Dec.{eqb}
 use lib.ListN.{length, replicate, length-append, length-replicate}
 use Rattle.model.specs.Lists.{keep, countOf, concat, sum, rising}
-use Rattle.model.proofs.Lists.{true-or-false, not-both}
+use Rattle.words.proofs.Cases.{true-or-false}
+use Rattle.model.proofs.Lists.{not-both}
 
 -- ---- Strictly and weakly rising lists
 

@@ -13,7 +13,7 @@ use Rattle.model.specs.Demand3.{Completed, BestOf}
 use Rattle.model.specs.Layout.{Layout, layoutLength}
 use Rattle.model.specs.Search.{stepsFrom, stepsNeeded, isStopped, stepsTaken, bestAfter, held}
 use Rattle.model.proofs.Search.Completions.{NoShorter}
-use Rattle.model.proofs.Search.Pieces.{Sensible}
+use Rattle.model.proofs.Accepted.{Sensible}
 use Rattle.model.proofs.Search.Walk.{Laid, completed-laid, completed-no-shorter, best-of-steps}
 
 module _ (j : Job) (begin : Option Layout) (budget : ℕ) where

@@ -14,7 +14,8 @@ use Rattle.model.proofs.Lists.{and-left, mem-reverse, all-back}
 use Rattle.model.proofs.Search.Completions.{length-append, length-reverseAux, length-reverse, Shorter, shorter-beats, live-first, Completes, laid}
 use Rattle.model.proofs.Search.ForwardCheck.{forward-keeps}
 use Rattle.model.proofs.Search.Passing.{laid-entries, Leads, Leading, passing-leads, completes-of, entries-of}
-use Rattle.model.proofs.Search.Pieces.{Sensible, entry-of-number}
+use Rattle.model.proofs.Accepted.{Sensible}
+use Rattle.model.proofs.Search.Pieces.{entry-of-number}
 
 module _ (j : Job) (ok : Sensible j) where
   -- In a layout whose entries lead all after them, each of the first lead the others, and these lead all after them.

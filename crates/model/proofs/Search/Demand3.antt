@@ -14,10 +14,10 @@ use Rattle.model.specs.Layout.{Entry, Layout, entryAt, entryKind, isEntr
 use Rattle.model.specs.Search.{stepsNeeded, isStopped, stepsTaken, held}
 use Rattle.model.specs.Services.{RunOutcome, runOutcome, numbersIn, wordsIn, workWords, cleared, layoutIn, withLayout, heldAs, finishedAs, stepCount, verdict, runContent, run}
 use Rattle.model.specs.declared.RunAnswer.the-variants as R
-use Rattle.model.proofs.Accepted.{accepted-kinds, accepted-sensible, accepted-dots}
+use Rattle.model.proofs.Accepted.{Sensible, accepted-kinds, accepted-sensible, accepted-dots}
 use Rattle.model.proofs.ReadBack.{Small, read-layout}
 use Rattle.model.proofs.Search.Budget.{stopped-exactly, not-stopped-exactly, steps-taken, all-held, held-best, held-laid, held-none}
-use Rattle.model.proofs.Search.Pieces.{Sensible, admitted-parts, few-turns, entry-kind}
+use Rattle.model.proofs.Search.Pieces.{admitted-parts, few-turns, entry-kind}
 use Rattle.model.proofs.Search.Walk.{Laid, walk-finds}
 
 -- What run leaves behind where the job is accepted and the buffers are long enough.
@@ -68,13 +68,13 @@ module _ (s : List ℕ) (accepted : refusal s ≡ 0) (budget : ℕ) (work out : 
   finished-first : (es : Layout) → isStopped j none budget ≡ false → held j none budget ≡ some es → FirstOfShortest j es
   finished-first es e q =
       let f = walk-finds j ok none es (held-laid j ok budget es q .0) tt in
-      subst (FirstOfShortest j) (Option·some-injective (f .0) es (sym (f .1) ∙ sym (all-held j none budget e) ∙ q)) (f .2)
+      subst (FirstOfShortest j) (Option·some-injective (f .0) es (sym (f .2) ∙ sym (all-held j none budget e) ∙ q)) (f .3)
 
   -- Where it is not stopped and nothing is held, no layout passes.
   finished-none : isStopped j none budget ≡ false → held j none budget ≡ none → (fs : Layout) → Passes j fs → ⊥
   finished-none e q fs p =
       let f = walk-finds j ok none fs p tt in
-      Option·some-ne-none (f .0) (sym (f .1) ∙ sym (all-held j none budget e) ∙ q)
+      Option·some-ne-none (f .0) (sym (f .2) ∙ sym (all-held j none budget e) ∙ q)
 
   -- Stopped, with nothing held.
   stopped-nothing : isStopped j none budget ≡ true → held j none budget ≡ none → Demand3 s budget (outcome true none)

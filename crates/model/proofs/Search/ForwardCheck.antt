@@ -14,7 +14,8 @@ use Rattle.model.specs.Content.{Job, kindCount}
 use Rattle.model.specs.Layout.{Entry, Layout, entryOf, entryNumber, layoutLength}
 use Rattle.model.specs.Lists.{countOf}
 use Rattle.model.specs.Search.{abovePrevious, beats, live, copiesLeft, forwardCheck}
-use Rattle.model.proofs.Lists.{countOf-mono, countOf-more, below-all, true-or-false, not-both}
+use Rattle.words.proofs.Cases.{true-or-false}
+use Rattle.model.proofs.Lists.{countOf-mono, countOf-more, below-all, not-both}
 use Rattle.model.proofs.Search.Completions.{length-cons, beats-le, live-parts, live-of, free-tail, live-first, Completes, laid}
 
 module _ (j : Job) where

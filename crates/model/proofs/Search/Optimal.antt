@@ -13,7 +13,8 @@ use lib.ListN.{length, getD}
 use Rattle.model.specs.Content.{Job}
 use Rattle.model.specs.Layout.{Entry, Layout, entryOf, layoutLength}
 use Rattle.model.specs.Search.{Step, Searched, step, searched, then, live, forwardCheck, completed, tryCandidates, searchPieces, searchFrom, pieces, lengthOf, latest, bestAfter}
-use Rattle.model.proofs.Lists.{true-or-false, not-both}
+use Rattle.words.proofs.Cases.{true-or-false}
+use Rattle.model.proofs.Lists.{not-both}
 use Rattle.model.proofs.Sorted.{Above, Rising}
 use Rattle.model.proofs.Search.Completions.{length-reverse, Shorter, NoShorter, shorter-or-not, shorter-lt, shorter-le, beats-shorter, shorter-beats, live-parts, live-first, Completes, CompletesWith, CompletesFrom, laid}
 use Rattle.model.proofs.Search.Equations.{tries-end, tries-dead, tries-back, tries-deep, search-back, search-walks}

@@ -13,12 +13,14 @@ use Rattle.model.specs.Content.{Job, kindAt, kindCount, pieceCount}
 use Rattle.model.specs.Layout.{Entry, Layout, entryAt, entryOf, entryNumber, isEntry, conflict, inOrder, ordered, copies, demandMet, apart, passes, Precedes, Passes, Before}
 use Rattle.model.specs.Lists.{all, any, countOf}
 use Rattle.model.specs.Search.{pieces, candidateTable, free, abovePrevious}
-use Rattle.model.proofs.Lists.{and-left, and-right, and-both, and-four, below-all, all-mem, mem-map, true-or-false}
+use Rattle.words.proofs.Cases.{true-or-false}
+use Rattle.model.proofs.Lists.{and-left, and-right, and-both, and-four, below-all, all-mem, mem-map}
 use Rattle.model.proofs.Numbers.{number-of-placement}
 use Rattle.model.proofs.Passing.{passes-sound, passes-complete, precedes}
 use Rattle.model.proofs.Search.Completions.{free-cons, free-head, free-tail, Completes, laid}
 use Rattle.model.proofs.Search.Optimal.{NotAfter}
-use Rattle.model.proofs.Search.Pieces.{Sensible, length-pieces, pieces-ascend, mem-pieces, count-pieces, mem-table, entry-kind, entry-of-number, table-mem}
+use Rattle.model.proofs.Accepted.{Sensible}
+use Rattle.model.proofs.Search.Pieces.{length-pieces, pieces-ascend, mem-pieces, count-pieces, mem-table, entry-kind, entry-of-number, table-mem}
 use Rattle.model.proofs.Sorted.{Ascending, ascending-same, eqb-comm, countOf-none}
 
 module _ (j : Job) where

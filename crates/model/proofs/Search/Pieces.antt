@@ -3,10 +3,10 @@ use mathlib.Core.Bool.{true, false}
 use mathlib.Core.List.{[], map, List·Memᴰ, List·Memᴰ·not-nil}
 use mathlib.Core.Logic.{_⊎_, inl, inr, ⊎-elim}
 use mathlib.Core.Path.{_≡_, sym, ap, _∙_, subst}
-use Prim.Native.Nat.{ℕ, _/_, _%_, _^_, _≤_, _<_}
-use native.Mathlib.Nat.{div-eq-of-lt, zero-div, mul-le-mul-right, pow-le-pow-right}
+use Prim.Native.Nat.{ℕ, suc, _≤_, _<_}
+use native.Mathlib.Nat.{mul-le-mul-right}
 use native.Mathlib.Omega.{arith}
-use borrow.Author.Tests.{ltb-true, ltb-false}
+use borrow.Author.Tests.{ltb-true}
 use lib.Dec.{ltb, eqb}
 use lib.ListN.{length, getD, length-map, List·getD-eq-default}
 use Rattle.words.specs.Bits.{testBit}
@@ -16,14 +16,11 @@ use Rattle.model.specs.Grid.{Placement, columns, rows, dots, numberOf, n
 use Rattle.model.specs.Layout.{Entry, entryOf, entryNumber, entryKind, isEntry}
 use Rattle.model.specs.Lists.{all, countOf, sum, below}
 use Rattle.model.specs.Search.{pieces, candidateTable}
-use Rattle.model.proofs.Lists.{and-four, length-below, getD-map-below, map-by-index, true-or-false, not-both}
+use Rattle.words.proofs.Bit.{testBit-above, testBit-none}
+use Rattle.words.proofs.Cases.{le-or-lt}
+use Rattle.model.proofs.Lists.{and-four, length-below, getD-map-below, map-by-index, not-both}
 use Rattle.model.proofs.Numbers.{placement-of-number}
 use Rattle.model.proofs.Sorted.{Rising, Ascending, rising-mem, mem-keep, keep-mem, keep-rises, mem-blocks, blocks-ascend, count-blocks, length-blocks}
-
--- What the theorems about the walk ask of a job, and every accepted job has: a piece, and turn masks of four bits.
-pub record Sensible (j : Job) : Type 0 where
-  pub pieced : 0 < pieceCount j
-  pub turned : (t : ℕ) → kindAt j t .rotations < 16
 
 -- ---- Pieces
 
@@ -63,7 +60,7 @@ module _ (j : Job) where
 
   -- A type is there or not.
   in-table : (t : ℕ) → (t < kindCount j) ⊎ (kindCount j ≤ t)
-  in-table t = ⊎-elim (λ e. inl (ltb-true t (kindCount j) e)) (λ e. inr (ltb-false t (kindCount j) e)) (true-or-false (ltb t (kindCount j)))
+  in-table t = ⊎-elim (λ l. inl l) (λ l. inr (omega arith)) (le-or-lt (suc t) (kindCount j))
 
   -- "A piece tries its candidates in rising order."
   pub table-rises : (t : ℕ) → Rising (getD (candidateTable j) t [])
@@ -91,21 +88,15 @@ module _ (j : Job) where
 
   -- A mask of four bits allows no turn but the four.
   pub few-turns : (w i : ℕ) → w < 16 → testBit w i ≡ true → i < 4
-  unfolding testBit
-  few-turns w i h e = ⊎-elim (λ q. ltb-true i 4 q) (λ q. absurd (not-both e (none (ltb-false i 4 q)))) (true-or-false (ltb i 4))
-    where
-      none : 4 ≤ i → eqb (w / 2 ^ i % 2) 1 ≡ false
-      none l =
-          let big : 2 ^ 4 ≤ 2 ^ i = pow-le-pow-right (omega arith) l in
-          rw (div-eq-of-lt {n = w} {m = 2 ^ i} (omega arith))
+  few-turns w i h e = ⊎-elim (λ l. absurd (not-both e (testBit-above w 4 i h l))) (λ l. l) (le-or-lt 4 i)
 
   -- Where no type stands nothing is a candidate.
   pub entry-kind : (e : Entry) → isEntry j e ≡ true → e .kind < kindCount j
-  unfolding isEntry entryKind kindAt kindCount testBit
+  unfolding isEntry entryKind kindAt kindCount
   entry-kind e h = ⊎-elim (λ l. l) (λ l. absurd (not-both (admitted-parts (entryKind j e) (e .place) h .2) (none l))) (in-table (e .kind))
     where
       none : kindCount j ≤ e .kind → testBit (entryKind j e .rotations) (e .place .rotation) ≡ false
-      none l = rw (List·getD-eq-default (j .kinds) noKind l, zero-div (2 ^ (e .place .rotation)))
+      none l = rw (List·getD-eq-default (j .kinds) noKind l) (testBit-none (e .place .rotation))
 
   module _ (turned : (t : ℕ) → kindAt j t .rotations < 16) where
     -- A candidate is given by its type and its number.

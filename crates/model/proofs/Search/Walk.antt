@@ -2,7 +2,7 @@
 use mathlib.Core.Bool.{false}
 use mathlib.Core.List.{List, [], _∷_, _++_, map, reverse, List·Memᴰ·head, List·Memᴰ·tail, List·Memᴰ·cases-cons, List·Memᴰ·not-nil}
 use mathlib.Core.Logic.{_⊎_, inl, inr, ⊎-elim}
-use mathlib.Core.Option.{Option, none, some, Option·some-injective, Option·some-ne-none}
+use mathlib.Core.Option.{Option, none, some, Option·some-injective}
 use mathlib.Core.Path.{_≡_, refl, sym, ap, _∙_, subst, subst₂}
 use Prim.Native.Nat.{ℕ, zero, suc, _≤_, _<_}
 use native.Mathlib.Nat.{le-refl}
@@ -18,7 +18,8 @@ use Rattle.model.proofs.Search.Equations.{search-back}
 use Rattle.model.proofs.Search.ForwardCheck.{forward-keeps}
 use Rattle.model.proofs.Search.Optimal.{Improves, Falling, Wins, Found, stays, finds, Ran, search-ran}
 use Rattle.model.proofs.Search.Passing.{laid-layout, completion-passes, completion-length, passing-completes, not-after-before}
-use Rattle.model.proofs.Search.Pieces.{Sensible, length-pieces, table-rises}
+use Rattle.model.proofs.Accepted.{Sensible}
+use Rattle.model.proofs.Search.Pieces.{length-pieces, table-rises}
 
 -- ---- Completed layouts
 
@@ -149,11 +150,17 @@ module _ (j : Job) (ok : Sensible j) where
       → NoShorter j (layoutLength j es) (bestAfter h (take k (stepsFrom j h)))
   completed-no-shorter h k es c = falling-shortest j (Laid j) h (take k (stepsFrom j h)) (falling-take j (Laid j) h k (stepsFrom j h) (walk-falls h)) es c
 
+  -- What is held after steps and is shorter than what was held before them was completed by one of them.
+  held-completed : (h : Option Layout) (ss : List Step) (es : Layout) → bestAfter h ss ≡ some es → Shorter j (layoutLength j es) h → Completed ss es
+  held-completed h ss es e s =
+      ⊎-elim (λ q. absurd (shorter-not j _ h s (subst (NoShorter j (layoutLength j es)) (sym e ∙ q) (le-refl (layoutLength j es)))))
+      (λ r. subst (Completed ss) (Option·some-injective (r .0) es (sym (r .2) ∙ e)) (r .1)) (held-or-completed h ss)
+
   -- The best after the first k steps of a walk that begins with none is "the shortest that they completed".
   pub best-of-steps : (k : ℕ) (es : Layout) → bestAfter none (take k (stepsFrom j none)) ≡ some es → BestOf j (take k (stepsFrom j none)) es
   best-of-steps k es e =
       record {
-        completed = ⊎-elim (λ q. absurd (Option·some-ne-none es (sym e ∙ q))) (λ r. subst (Completed (take k (stepsFrom j none))) (Option·some-injective (r .0) es (sym (r .2) ∙ e)) (r .1)) (held-or-completed none (take k (stepsFrom j none)));
+        completed = held-completed none (take k (stepsFrom j none)) es e tt;
         shortest = λ fs c. subst (NoShorter j (layoutLength j fs)) e (completed-no-shorter none k fs c);
       }
 
@@ -223,12 +230,12 @@ module _ (j : Job) (ok : Sensible j) where
       go (stays e f) = inr (e, none-passes h f)
       go (finds ks c e s w) = inl (reverse (laid j (pieces j) ks []), e, wins-first ks c w, rw (length-reverse j (laid j (pieces j) ks [])) s)
 
-  -- If some layout passes that is shorter than the best that the walk begins with, the last layout that the walk completes is the first of
-  -- the shortest. While it begins with none, every layout is shorter.
+  -- If some layout passes that is shorter than the best that the walk begins with, the walk completes one, and the last that it completes
+  -- is the first of the shortest. While it begins with none, every layout is shorter.
   pub walk-finds : (h : Option Layout) (fs : Layout) → Passes j fs → Shorter j (layoutLength j fs) h
-      → (es : Layout) × (bestAfter h (stepsFrom j h) ≡ some es) × FirstOfShortest j es
+      → (es : Layout) × Completed (stepsFrom j h) es × (bestAfter h (stepsFrom j h) ≡ some es) × FirstOfShortest j es
   walk-finds h fs p s =
-      ⊎-elim (λ r. (r .0, r .1, r .2)) (λ r. absurd (shorter-not j _ h s (r .1 fs p))) (walk-ends h)
+      ⊎-elim (λ r. (r .0, held-completed h (stepsFrom j h) (r .0) (r .1) (r .3), r .1, r .2)) (λ r. absurd (shorter-not j _ h s (r .1 fs p))) (walk-ends h)
 
   -- If none does, the walk completes none, and the best that it began with stays. While it begins with none, this says that no layout
   -- passes.
@@ -250,8 +257,9 @@ module _ (j : Job) (ok : Sensible j) where
 
   -- ---- With no best to begin with
 
-  -- If some layout passes, the last layout that the walk completes is the first of the shortest.
-  pub some-passes : (fs : Layout) → Passes j fs → (es : Layout) × (bestAfter none (stepsFrom j none) ≡ some es) × FirstOfShortest j es
+  -- If some layout passes, the walk completes one, and the last that it completes is the first of the shortest.
+  pub some-passes : (fs : Layout) → Passes j fs
+      → (es : Layout) × Completed (stepsFrom j none) es × (bestAfter none (stepsFrom j none) ≡ some es) × FirstOfShortest j es
   some-passes fs p = walk-finds none fs p tt
 
   -- If none passes, the walk completes none.
@@ -261,9 +269,9 @@ module _ (j : Job) (ok : Sensible j) where
   -- ---- With a layout that passes to begin with (that it passes is not needed)
 
   module _ (begin : Layout) where
-    -- If a shorter one passes, the last layout that the walk completes is the first of the shortest.
+    -- If a shorter one passes, the walk completes one, and the last that it completes is the first of the shortest.
     pub shorter-passes : (fs : Layout) → Passes j fs → layoutLength j fs < layoutLength j begin
-        → (es : Layout) × (bestAfter (some begin) (stepsFrom j (some begin)) ≡ some es) × FirstOfShortest j es
+        → (es : Layout) × Completed (stepsFrom j (some begin)) es × (bestAfter (some begin) (stepsFrom j (some begin)) ≡ some es) × FirstOfShortest j es
     shorter-passes fs q l = walk-finds (some begin) fs q l
 
     -- Otherwise it completes none, and the one that it began with stays, which is as short as any.
