@@ -26,7 +26,7 @@ use Rattle.model.proofs.Search.ForwardCheck.{forward-keeps}
 pub bestAfter-append : (h : Option Layout) (ss rs : List Step) → bestAfter h (ss ++ rs) ≡ bestAfter (bestAfter h ss) rs
 unfolding bestAfter
 bestAfter-append h [] rs = refl
-bestAfter-append h (s ∷ ss) rs = bestAfter-append (latest h (s .completes)) ss rs
+bestAfter-append h (s ∷ ss) rs = bestAfter-append _ ss rs
 
 module _ (j : Job) (G : Layout → Type 0) where
   -- A layout that a step completes, if it does, has the property G and is shorter than the one held.

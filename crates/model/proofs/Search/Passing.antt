@@ -8,7 +8,7 @@ use native.Mathlib.Nat.{not-suc-le-zero, le-of-suc-le-suc}
 use native.Mathlib.Omega.{arith}
 use borrow.Author.Tests.{ltb-true, ltb-false, eqb-true, eqb-false, eq-eqb, ne-eqb, lt-ltb, not-true}
 use lib.Dec.{ltb, eqb}
-use lib.ListN.{length}
+use lib.ListN.{length, length-map}
 use Rattle.model.specs.Content.{Job, kindAt, kindCount, pieceCount}
 use Rattle.model.specs.Layout.{Entry, Layout, entryAt, entryOf, entryNumber, isEntry, conflict, inOrder, ordered, copies, demandMet, apart, passes, Precedes, Passes, Before}
 use Rattle.model.specs.Lists.{all, any, countOf}
@@ -248,6 +248,12 @@ module _ (j : Job) where
           let k : kindCount j ≤ t = ltb-false _ _ h in
           none t (map (λ e. e .kind) es) k (λ m i. let x = mem-map (λ e. e .kind) es m i in rw (x .2) (entry-kind j (x .0) (all-mem (isEntry j) es (x .0) a (x .1))))
           ∙ sym (none t (pieces j) k (mem-pieces j))
+
+  -- A layout that passes has N entries.
+  pub passing-length : (es : Layout) → Passes j es → length es ≡ pieceCount j
+  passing-length es p =
+      let l = passing-leads es p in
+      sym (length-map es (λ e. e .kind)) ∙ ap length (kinds-pieces es (l .1) (l .0) (p .demanded)) ∙ length-pieces j
 
   -- A layout that passes is laid by the completion of its numbers.
   pub passing-completes : Sensible j → (es : Layout) → Passes j es
