@@ -1,6 +1,7 @@
 -- Laws of the list words of specs/Lists.
-use mathlib.Core.Bool.{Bool, true, false, _&&_, _||_}
-use mathlib.Core.List.{List, [], _∷_, _++_}
+use mathlib.Core.Bool.{Bool, true, false, not, _&&_, _||_, true≢false}
+use mathlib.Core.List.{List, [], _∷_, _++_, List·Memᴰ, List·Memᴰ·head, List·Memᴰ·tail}
+use mathlib.Core.Logic.{_⊎_, inl, inr}
 use mathlib.Core.Path.{_≡_, refl, sym, ap, _∙_}
 use Prim.Native.Nat.{ℕ, zero, suc, _+_, _<_, _≤_}
 use native.Mathlib.Nat.{not-suc-le-zero, le-of-suc-le-suc, add-zero, add-suc, suc-add, zero-add}
@@ -68,3 +69,43 @@ all-below p n e i h = rw (getD-below n i 0 h) at (all-at p (below n) 0 e i (rw (
 
 pub below-all : (p : ℕ → Bool) (n : ℕ) → ((i : ℕ) → i < n → p i ≡ true) → all p (below n) ≡ true
 below-all p n f = all-of p (below n) 0 (λ i h. let k : i < n = rw (length-below n) at h in rw (getD-below n i 0 k) (f i k))
+
+-- ---- Counting
+
+-- A Bool is true or false.
+pub true-or-false : (b : Bool) → (b ≡ true) ⊎ (b ≡ false)
+true-or-false true = inl refl
+true-or-false false = inr refl
+
+-- A Bool that is not both.
+pub not-both : {b : Bool} → b ≡ true → b ≡ false → ⊥
+not-both p q = true≢false (sym p ∙ q)
+
+module _ {A : Type 0} where
+  -- A test that holds wherever another does counts no fewer.
+  pub countOf-mono : (p q : A → Bool) → ((x : A) → p x ≡ true → q x ≡ true) → (xs : List A) → countOf p xs ≤ countOf q xs
+  unfolding countOf
+  countOf-mono p q f [] = omega arith
+  countOf-mono p q f (x ∷ xs) = go (p x) (q x) refl refl (countOf-mono p q f xs)
+    where
+      go : (a b : Bool) → p x ≡ a → q x ≡ b → countOf p xs ≤ countOf q xs → countOf p (x ∷ xs) ≤ countOf q (x ∷ xs)
+      go true true d e h = rw (d, e) (omega arith)
+      go true false d e h = absurd (not-both (f x d) e)
+      go false true d e h = rw (d, e) (omega arith)
+      go false false d e h = rw (d, e) (omega arith)
+
+  -- And it counts more if it holds of an element of which the other does not.
+  pub countOf-more : (p q : A → Bool) → ((x : A) → p x ≡ true → q x ≡ true) → (xs : List A) (a : A) → List·Memᴰ a xs → p a ≡ false → q a ≡ true
+      → suc (countOf p xs) ≤ countOf q xs
+  unfolding countOf
+  countOf-more p q f (x ∷ xs) a (List·Memᴰ·head e) h k =
+      let hx : p x ≡ false = rw e at h in
+      let kx : q x ≡ true = rw e at k in
+      rw (hx, kx) (omega (arith, countOf-mono p q f xs))
+  countOf-more p q f (x ∷ xs) a (List·Memᴰ·tail m) h k = go (p x) (q x) refl refl (countOf-more p q f xs a m h k)
+    where
+      go : (a b : Bool) → p x ≡ a → q x ≡ b → suc (countOf p xs) ≤ countOf q xs → suc (countOf p (x ∷ xs)) ≤ countOf q (x ∷ xs)
+      go true true d e h = rw (d, e) (omega arith)
+      go true false d e h = absurd (not-both (f x d) e)
+      go false true d e h = rw (d, e) (omega arith)
+      go false false d e h = rw (d, e) (omega arith)
