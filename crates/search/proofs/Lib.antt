@@ -1,1 +1,5 @@
 pub mod Spending
+pub mod Tests
+pub mod Counting
+pub mod Extents
+pub mod LiveSets

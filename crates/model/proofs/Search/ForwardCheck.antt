@@ -19,7 +19,7 @@ use Rattle.model.proofs.Search.Completions.{length-cons, beats-le, live
 
 module _ (j : Job) where
   -- A number above a copy that is above the previous one is above that one too.
-  above-through : (es : Layout) (e f : Entry) → e .kind ≡ f .kind → entryNumber j e < entryNumber j f
+  pub above-through : (es : Layout) (e f : Entry) → e .kind ≡ f .kind → entryNumber j e < entryNumber j f
       → abovePrevious j es e ≡ true → abovePrevious j es f ≡ true
   unfolding abovePrevious
   above-through [] e f k l h = refl
@@ -38,7 +38,7 @@ module _ (j : Job) where
       go false q h ih = rw q (ih (rw q at h))
 
   -- What is above the previous copy after e was placed was so before.
-  pub above-before : (es : Layout) (e f : Entry) → abovePrevious j es e ≡ true → abovePrevious j (e ∷ es) f ≡ true → abovePrevious j es f ≡ true
+  above-before : (es : Layout) (e f : Entry) → abovePrevious j es e ≡ true → abovePrevious j (e ∷ es) f ≡ true → abovePrevious j es f ≡ true
   unfolding abovePrevious
   above-before es e f p h = go (eqb (e .kind) (f .kind)) refl
     where

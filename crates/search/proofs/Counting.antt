@@ -1,0 +1,71 @@
+-- Counting, keeping and numbers that rise.
+use mathlib.Core.Bool.{Bool, true, false, cond, _&&_}
+use mathlib.Core.List.{List, [], _∷_, _++_, map}
+use mathlib.Core.Path.{_≡_, refl, sym, ap, _∙_}
+use Prim.Native.Nat.{ℕ, zero, suc, _+_, _-_, _≤_, _<_}
+use native.Mathlib.Nat.{suc-add, add-suc, add-zero, zero-add, not-suc-le-zero, le-of-suc-le-suc}
+use native.Mathlib.Omega.{arith}
+use lib.ListN.{length, getD}
+use Rattle.model.specs.Lists.{all, keep, countOf, rising, below}
+
+module _ {A : Type 0} where
+  -- To count among the elements kept is to count those of which both tests hold.
+  pub countOf-keep : (p q : A → Bool) (xs : List A) → countOf p (keep q xs) ≡ countOf (λ x. q x && p x) xs
+  unfolding countOf keep
+  countOf-keep p q [] = refl
+  countOf-keep p q (x ∷ xs) = go (q x) (countOf-keep p q xs)
+    where
+      go : (b : Bool) → countOf p (keep q xs) ≡ countOf (λ x. q x && p x) xs
+          → countOf p (cond b (x ∷ keep q xs) (keep q xs)) ≡ cond (b && p x) 1 0 + countOf (λ x. q x && p x) xs
+      go true h = ap (λ (n : ℕ). cond (p x) 1 0 + n) h
+      go false h = h ∙ sym (zero-add (countOf (λ x. q x && p x) xs))
+
+  -- Tests that agree count alike.
+  pub countOf-same : (p q : A → Bool) → ((x : A) → p x ≡ q x) → (xs : List A) → countOf p xs ≡ countOf q xs
+  unfolding countOf
+  countOf-same p q f [] = refl
+  countOf-same p q f (x ∷ xs) = rw (f x, countOf-same p q f xs)
+
+  pub countOf-append : (p : A → Bool) (xs ys : List A) → countOf p (xs ++ ys) ≡ countOf p xs + countOf p ys
+  unfolding countOf
+  countOf-append p [] ys = sym (zero-add (countOf p ys))
+  countOf-append p (x ∷ xs) ys = rw (countOf-append p xs ys) (omega arith)
+
+-- The numbers below n, and then those from n on.
+pub rising-append : (i n k : ℕ) → rising i (n + k) ≡ rising i n ++ rising (i + n) k
+unfolding rising
+rising-append i zero k = rw (zero-add, add-zero)
+rising-append i (suc n) k = rw (suc-add, rising, rising-append (suc i) n k, suc-add, add-suc)
+
+-- A test that holds of no number from i on counts none of them.
+pub countOf-none : (p : ℕ → Bool) (i k : ℕ) → ((m : ℕ) → i ≤ m → p m ≡ false) → countOf p (rising i k) ≡ 0
+unfolding countOf rising
+countOf-none p i zero f = refl
+countOf-none p i (suc k) f = rw (f i (omega arith), countOf-none p (suc i) k (λ m l. f m (omega arith)))
+
+-- A test that holds of no number from n on counts the same below n and below any larger number.
+pub countOf-below : (p : ℕ → Bool) (n m : ℕ) → n ≤ m → ((i : ℕ) → n ≤ i → p i ≡ false) → countOf p (below m) ≡ countOf p (below n)
+unfolding below
+countOf-below p n m l f =
+    let e : n + (m - n) ≡ m = omega arith in
+    ap (λ (x : ℕ). countOf p (rising 0 x)) (sym e)
+    ∙ ap (countOf p) (rising-append 0 n (m - n))
+    ∙ countOf-append p (rising 0 n) (rising (0 + n) (m - n))
+    ∙ rw (countOf-none p (0 + n) (m - n) (λ i h. f i (omega arith))) (add-zero (countOf p (rising 0 n)))
+
+-- Tests that agree on the numbers below n hold of all of them alike.
+pub all-same : (p q : ℕ → Bool) (i n : ℕ) → ((m : ℕ) → i ≤ m → m < i + n → p m ≡ q m) → all p (rising i n) ≡ all q (rising i n)
+unfolding all rising
+all-same p q i zero f = refl
+all-same p q i (suc n) f = rw (f i (omega arith) (omega arith), all-same p q (suc i) n (λ m l h. f m (omega arith) (omega arith)))
+
+pub all-below-same : (p q : ℕ → Bool) (n : ℕ) → ((m : ℕ) → m < n → p m ≡ q m) → all p (below n) ≡ all q (below n)
+unfolding below
+all-below-same p q n f = all-same p q 0 n (λ m l h. f m (omega arith))
+
+-- What a function gives of number i, in the list of what it gives of the numbers below n.
+pub getD-map-rising : {B : Type 0} (f : ℕ → B) (i n m : ℕ) (d : B) → m < n → getD (map f (rising i n)) m d ≡ f (i + m)
+unfolding rising
+getD-map-rising f i zero m d h = absurd (not-suc-le-zero h)
+getD-map-rising f i (suc n) zero d h = ap f (sym (add-zero i))
+getD-map-rising f i (suc n) (suc m) d h = getD-map-rising f (suc i) n m d (le-of-suc-le-suc h) ∙ ap f (omega arith)
