@@ -3,3 +3,4 @@ pub mod Tests
 pub mod Counting
 pub mod Extents
 pub mod LiveSets
+pub mod Steps

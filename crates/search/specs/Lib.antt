@@ -1,2 +1,3 @@
 pub mod Spending
 pub mod LiveSets
+pub mod Steps
