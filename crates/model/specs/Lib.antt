@@ -10,5 +10,6 @@ pub mod Layout
 pub mod Search
 pub mod Answers
 pub mod Services
+pub mod Output
 pub mod Opened
 pub mod Boards
