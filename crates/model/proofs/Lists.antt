@@ -1,8 +1,8 @@
 -- Laws of the list words of specs/Lists.
 use mathlib.Core.Bool.{Bool, true, false, not, _&&_, _||_, true≢false}
-use mathlib.Core.List.{List, [], _∷_, _++_, List·Memᴰ, List·Memᴰ·head, List·Memᴰ·tail}
+use mathlib.Core.List.{List, [], _∷_, _++_, map, List·Memᴰ, List·Memᴰ·head, List·Memᴰ·tail}
 use mathlib.Core.Logic.{_⊎_, inl, inr}
-use mathlib.Core.Path.{_≡_, refl, sym, ap, _∙_}
+use mathlib.Core.Path.{_≡_, refl, sym, ap, _∙_, subst}
 use Prim.Native.Nat.{ℕ, zero, suc, _+_, _<_, _≤_}
 use native.Mathlib.Nat.{not-suc-le-zero, le-of-suc-le-suc, add-zero, add-suc, suc-add, zero-add}
 use native.Mathlib.Omega.{arith}
@@ -94,6 +94,12 @@ module _ {A : Type 0} where
       go false true d e h = rw (d, e) (omega arith)
       go false false d e h = rw (d, e) (omega arith)
 
+  -- What holds of all elements holds of each of them.
+  pub all-mem : (p : A → Bool) (xs : List A) (a : A) → all p xs ≡ true → List·Memᴰ a xs → p a ≡ true
+  unfolding all
+  all-mem p (x ∷ xs) a e (List·Memᴰ·head q) = subst (λ (y : A). p y ≡ true) (sym q) (and-left (p x) (all p xs) e)
+  all-mem p (x ∷ xs) a e (List·Memᴰ·tail d) = all-mem p xs a (and-right (p x) (all p xs) e) d
+
   -- And it counts more if it holds of an element of which the other does not.
   pub countOf-more : (p q : A → Bool) → ((x : A) → p x ≡ true → q x ≡ true) → (xs : List A) (a : A) → List·Memᴰ a xs → p a ≡ false → q a ≡ true
       → suc (countOf p xs) ≤ countOf q xs
@@ -109,3 +115,8 @@ module _ {A : Type 0} where
       go true false d e h = absurd (not-both (f x d) e)
       go false true d e h = rw (d, e) (omega arith)
       go false false d e h = rw (d, e) (omega arith)
+
+-- An element of a list of results is the result of an element.
+pub mem-map : {A B : Type 0} (f : A → B) (xs : List A) (b : B) → List·Memᴰ b (map f xs) → (a : A) × List·Memᴰ a xs × (b ≡ f a)
+mem-map f (x ∷ xs) b (List·Memᴰ·head q) = (x, List·Memᴰ·head refl, q)
+mem-map f (x ∷ xs) b (List·Memᴰ·tail d) = let r = mem-map f xs b d in (r .0, List·Memᴰ·tail (r .1), r .2)

@@ -2,3 +2,4 @@
 pub mod Equations
 pub mod Completions
 pub mod ForwardCheck
+pub mod Pieces

@@ -7,6 +7,7 @@ use native.Mathlib.Nat.{suc-add, add-suc, add-zero, zero-add, not-suc-le-zero, l
 use native.Mathlib.Omega.{arith}
 use lib.ListN.{length, getD}
 use Rattle.model.specs.Lists.{all, keep, countOf, rising, below}
+use Rattle.model.proofs.Sorted.{mem-rising, countOf-append, countOf-none}
 
 module _ {A : Type 0} where
   -- To count among the elements kept is to count those of which both tests hold.
@@ -26,22 +27,11 @@ module _ {A : Type 0} where
   countOf-same p q f [] = refl
   countOf-same p q f (x ∷ xs) = rw (f x, countOf-same p q f xs)
 
-  pub countOf-append : (p : A → Bool) (xs ys : List A) → countOf p (xs ++ ys) ≡ countOf p xs + countOf p ys
-  unfolding countOf
-  countOf-append p [] ys = sym (zero-add (countOf p ys))
-  countOf-append p (x ∷ xs) ys = rw (countOf-append p xs ys) (omega arith)
-
 -- The numbers below n, and then those from n on.
 pub rising-append : (i n k : ℕ) → rising i (n + k) ≡ rising i n ++ rising (i + n) k
 unfolding rising
 rising-append i zero k = rw (zero-add, add-zero)
 rising-append i (suc n) k = rw (suc-add, rising, rising-append (suc i) n k, suc-add, add-suc)
-
--- A test that holds of no number from i on counts none of them.
-pub countOf-none : (p : ℕ → Bool) (i k : ℕ) → ((m : ℕ) → i ≤ m → p m ≡ false) → countOf p (rising i k) ≡ 0
-unfolding countOf rising
-countOf-none p i zero f = refl
-countOf-none p i (suc k) f = rw (f i (omega arith), countOf-none p (suc i) k (λ m l. f m (omega arith)))
 
 -- A test that holds of no number from n on counts the same below n and below any larger number.
 pub countOf-below : (p : ℕ → Bool) (n m : ℕ) → n ≤ m → ((i : ℕ) → n ≤ i → p i ≡ false) → countOf p (below m) ≡ countOf p (below n)
@@ -51,7 +41,7 @@ countOf-below p n m l f =
     ap (λ (x : ℕ). countOf p (rising 0 x)) (sym e)
     ∙ ap (countOf p) (rising-append 0 n (m - n))
     ∙ countOf-append p (rising 0 n) (rising (0 + n) (m - n))
-    ∙ rw (countOf-none p (0 + n) (m - n) (λ i h. f i (omega arith))) (add-zero (countOf p (rising 0 n)))
+    ∙ rw (countOf-none p (rising (0 + n) (m - n)) (λ i h. f i (omega (arith, mem-rising (0 + n) (m - n) i h)))) (add-zero (countOf p (rising 0 n)))
 
 -- Tests that agree on the numbers below n hold of all of them alike.
 pub all-same : (p q : ℕ → Bool) (i n : ℕ) → ((m : ℕ) → i ≤ m → m < i + n → p m ≡ q m) → all p (rising i n) ≡ all q (rising i n)

@@ -51,6 +51,15 @@ shorter-or-not j n (some es) = go (ltb n (layoutLength j es)) refl
     go true e = inl (ltb-true _ _ e)
     go false e = inr (ltb-false _ _ e)
 
+-- A length below that of the layout held is below one that is not.
+pub shorter-lt : (j : Job) (a b : ℕ) (h : Option Layout) → Shorter j a h → NoShorter j b h → a < b
+shorter-lt j a b none s f = absurd f
+shorter-lt j a b (some es) s f = omega arith
+
+-- And it is not both.
+pub shorter-not : (j : Job) (n : ℕ) (h : Option Layout) → Shorter j n h → NoShorter j n h → ⊥
+shorter-not j n h s f = let l : n < n = shorter-lt j n n h s f in omega arith
+
 -- What is no longer than something shorter is shorter.
 pub shorter-le : (j : Job) (n m : ℕ) (h : Option Layout) → n ≤ m → Shorter j m h → Shorter j n h
 shorter-le j n m none l s = tt
