@@ -52,10 +52,3 @@ all-same p q i (suc n) f = rw (f i (omega arith) (omega arith), all-same p q (su
 pub all-below-same : (p q : ℕ → Bool) (n : ℕ) → ((m : ℕ) → m < n → p m ≡ q m) → all p (below n) ≡ all q (below n)
 unfolding below
 all-below-same p q n f = all-same p q 0 n (λ m l h. f m (omega arith))
-
--- What a function gives of number i, in the list of what it gives of the numbers below n.
-pub getD-map-rising : {B : Type 0} (f : ℕ → B) (i n m : ℕ) (d : B) → m < n → getD (map f (rising i n)) m d ≡ f (i + m)
-unfolding rising
-getD-map-rising f i zero m d h = absurd (not-suc-le-zero h)
-getD-map-rising f i (suc n) zero d h = ap f (sym (add-zero i))
-getD-map-rising f i (suc n) (suc m) d h = getD-map-rising f (suc i) n m d (le-of-suc-le-suc h) ∙ ap f (omega arith)

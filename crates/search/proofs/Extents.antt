@@ -3,9 +3,9 @@ use mathlib.Core.Bool.{Bool, true, false, _&&_}
 use mathlib.Core.List.{List, [], _∷_, map}
 use mathlib.Core.Path.{_≡_, refl, sym, ap, _∙_}
 use Prim.Native.Nat.{ℕ, zero, suc, _+_, _*_, _/_, _%_, max, _≤_, _<_}
-use native.Mathlib.Nat.{div-lt-iff-lt-mul}
+use native.Mathlib.Nat.{div-lt-iff-lt-mul, le-mul-of-pos-right}
 use native.Mathlib.Omega.{arith}
-use borrow.Author.Tests.{ltb-true}
+use borrow.Author.Tests.{lt-ltb}
 use lib.Dec.{ltb}
 use lib.IntN.{ℤ, pos, negsuc}
 use lib.Signed.{leZ, _≤ℤ_}
@@ -14,13 +14,14 @@ use Rattle.integers.proofs.Extrema.{max-least}
 use Rattle.integers.proofs.Order.{leZ-true, ≤ℤ-pos, pos-≤ℤ}
 use Rattle.words.specs.Bits.{testBit}
 use Rattle.model.specs.Candidate.{placedVertices, onBoard, admitted, isCandidate, natural, extent}
-use Rattle.model.specs.Content.{Vertex, Kind, Board, Job, kindAt}
+use Rattle.model.specs.Content.{Vertex, Kind, Board, Job, kindAt, kindCount}
 use Rattle.model.specs.Grid.{Placement, columns, rows, dots, placementOf, numberLimit, setWords}
 use Rattle.model.specs.Layout.{Entry, Layout, entryOf, entryKind, isEntry, entryExtent, layoutLength}
+use Rattle.model.specs.Services.{entryNumbers}
 use Rattle.model.specs.Lists.{all, largest, largestFrom, largestZ}
-use Rattle.model.proofs.Lists.{and-left, and-right, and-four}
-use Rattle.model.proofs.Numbers.{rows-positive}
-use Rattle.model.proofs.Search.Completions.{length-cons}
+use Rattle.model.proofs.Lists.{and-left, and-right, and-both, and-four}
+use Rattle.model.proofs.Numbers.{rows-positive, placement-rotation}
+use Rattle.model.proofs.Search.Pieces.{admitted-parts, entry-kind}
 
 -- ---- Ends
 
@@ -49,15 +50,12 @@ largestZ-le b (v ∷ vs) e =
     largestFrom-le b vs (v .x) (on-board-x b v (and-left (onBoard b v) (all (onBoard b) vs) e))
     (and-right (onBoard b v) (all (onBoard b) vs) e)
 
--- What is admitted: four tests.
-admitted-parts : (j : Job) (k : Kind) (p : Placement) → admitted j k p ≡ true
-    → (ltb (p .column) (columns (j .sheet)) ≡ true)
-    × (ltb (p .row) (rows (j .sheet)) ≡ true)
-    × (testBit (k .rotations) (p .rotation) ≡ true)
-    × (all (onBoard (j .sheet)) (placedVertices (j .sheet) k p) ≡ true)
+-- The corners of a placement that is admitted are on the board.
+admitted-corners : (j : Job) (k : Kind) (p : Placement) → admitted j k p ≡ true
+    → all (onBoard (j .sheet)) (placedVertices (j .sheet) k p) ≡ true
 unfolding admitted
-admitted-parts j k p e =
-    and-four (ltb (p .column) (columns (j .sheet))) (ltb (p .row) (rows (j .sheet))) (testBit (k .rotations) (p .rotation))
+admitted-corners j k p e =
+    and-right (ltb (p .column) (columns (j .sheet)) && ltb (p .row) (rows (j .sheet)) && testBit (k .rotations) (p .rotation))
     (all (onBoard (j .sheet)) (placedVertices (j .sheet) k p)) e
 
 -- A placement that is admitted ends at L or before.
@@ -65,7 +63,7 @@ pub admitted-extent : (j : Job) (k : Kind) (p : Placement) → admitted j k p �
 unfolding extent
 admitted-extent j k p e =
     natural-le (largestZ (map (λ v. v .x) (placedVertices (j .sheet) k p))) (j .sheet .L)
-    (largestZ-le (j .sheet) (placedVertices (j .sheet) k p) (admitted-parts j k p e .3))
+    (largestZ-le (j .sheet) (placedVertices (j .sheet) k p) (admitted-corners j k p e))
 
 -- So does an entry that is a candidate.
 pub entry-extent : (j : Job) (e : Entry) → isEntry j e ≡ true → entryExtent j e ≤ j .sheet .L
@@ -95,8 +93,7 @@ placed-length j (e ∷ placed) h =
 pub candidate-below : (j : Job) (t n : ℕ) → isCandidate j t n ≡ true → n < numberLimit (j .sheet)
 unfolding isCandidate placementOf numberLimit dots
 candidate-below j t n e =
-    let c : n / 4 / rows (j .sheet) < columns (j .sheet) =
-    ltb-true (n / 4 / rows (j .sheet)) (columns (j .sheet)) (admitted-parts j (kindAt j t) (placementOf (j .sheet) n) e .0) in
+    let c : n / 4 / rows (j .sheet) < columns (j .sheet) = admitted-parts j (kindAt j t) (placementOf (j .sheet) n) e .0 in
     let d : n / 4 < columns (j .sheet) * rows (j .sheet) = div-lt-iff-lt-mul (rows-positive (j .sheet)) .0 c in
     omega arith
 
@@ -104,3 +101,29 @@ candidate-below j t n e =
 pub limit-words : (b : Board) → numberLimit b ≤ setWords b * 64
 unfolding numberLimit setWords
 limit-words b = omega arith
+
+-- The four numbers of a candidate's entry.
+pub record SmallEntry (j : Job) (e : Entry) : Type 0 where
+  pub kind-small : e .kind < kindCount j
+  pub column-small : e .place .column < 1024
+  pub row-small : e .place .row < 1024
+  pub rotation-small : e .place .rotation < 4
+
+pub candidate-small : (j : Job) (t n : ℕ) → dots (j .sheet) ≤ 1024 → isCandidate j t n ≡ true → SmallEntry j (entryOf j t n)
+unfolding dots isCandidate entryOf columns
+candidate-small j t n d e =
+    let parts = admitted-parts j (kindAt j t) (placementOf (j .sheet) n) e in
+    record {
+      kind-small = entry-kind j (entryOf j t n) (candidate-entry j t n ∙ e);
+      column-small = omega (arith, parts .0, le-mul-of-pos-right (columns (j .sheet)) (rows-positive (j .sheet)));
+      row-small = omega (arith, parts .1, le-mul-of-pos-right {m = columns (j .sheet)} (rows (j .sheet)) (omega arith));
+      rotation-small = placement-rotation (j .sheet) n;
+    }
+
+-- Each fits two bytes.
+pub entry-fits : (j : Job) (e : Entry) → kindCount j ≤ 65536 → SmallEntry j e → all (λ x. ltb x 65536) (entryNumbers e) ≡ true
+unfolding all entryNumbers
+entry-fits j e k s =
+    and-both _ _ (lt-ltb (e .kind) 65536 (omega arith))
+    (and-both _ _ (lt-ltb (e .place .column) 65536 (omega arith))
+    (and-both _ _ (lt-ltb (e .place .row) 65536 (omega arith)) (and-both _ _ (lt-ltb (e .place .rotation) 65536 (omega arith)) refl)))

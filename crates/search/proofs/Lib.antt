@@ -4,3 +4,5 @@ pub mod Counting
 pub mod Extents
 pub mod LiveSets
 pub mod Steps
+pub mod Held
+pub mod Answer

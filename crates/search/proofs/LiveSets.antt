@@ -20,8 +20,9 @@ use Rattle.model.proofs.Lists.{and-left, and-right, and-both, and-four, all-bel
 use Rattle.model.proofs.Numbers.{number-of-placement}
 use Rattle.model.proofs.Search.Completions.{length-cons}
 use Rattle.model.proofs.Search.ForwardCheck.{above-through}
+use Rattle.model.proofs.Search.Pieces.{table-at}
 use Rattle.search.specs.LiveSets.{setOf, boundOf, membersOf, enough}
-use Rattle.search.proofs.Counting.{countOf-keep, countOf-same, countOf-below, all-below-same, getD-map-rising}
+use Rattle.search.proofs.Counting.{countOf-keep, countOf-same, countOf-below, all-below-same}
 use Rattle.search.proofs.Extents.{candidate-extent, candidate-entry, placed-length, candidate-below, limit-words}
 use Rattle.search.proofs.Tests.{and-turn, and-last, not-or, same-test, ltb-max, ltb-bounds}
 
@@ -121,11 +122,6 @@ module _ (j : Job) where
 
   -- ---- Look-ahead by counting members
 
-  -- The candidates of a kind, in the table of all.
-  pub table-at : (u : ℕ) → u < kindCount j → getD (candidateTable j) u [] ≡ candidates j u
-  unfolding candidateTable below
-  table-at u h = getD-map-rising (candidates j) 0 (kindCount j) u [] h ∙ ap (candidates j) (omega arith)
-
   module _ (placed : Layout) (h : Option Layout) (a : all (isEntry j) placed ≡ true) (l : layoutLength j placed < boundOf j h) where
     -- A candidate is live exactly if it is a member, as long as the pieces placed end below the bound.
     pub member-live : (u m : ℕ) → (isCandidate j u m && live j placed (lengthOf j h) u m) ≡ setOf j placed (boundOf j h) u m
@@ -141,7 +137,7 @@ module _ (j : Job) where
         ≡ countOf (setOf j placed (boundOf j h) u) (below (numberLimit (j .sheet)))
     unfolding candidates
     count-live u k =
-        rw (table-at u k)
+        rw (table-at j u k)
         (countOf-keep (live j placed (lengthOf j h) u) (isCandidate j u) (below (numberLimit (j .sheet)))
         ∙ countOf-same (λ m. isCandidate j u m && live j placed (lengthOf j h) u m) (setOf j placed (boundOf j h) u) (member-live u) (below (numberLimit (j .sheet))))
 

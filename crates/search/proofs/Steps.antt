@@ -18,12 +18,13 @@ use Rattle.model.specs.Search.{Step, Searched, step, searched, then, pieces, ca
 use Rattle.model.specs.Services.{verdict}
 use Rattle.model.proofs.Lists.{below-all, not-both}
 use Rattle.model.proofs.Search.Completions.{length-reverse}
+use Rattle.model.proofs.Search.Pieces.{table-at}
 use Rattle.model.proofs.Search.Equations.{tries-end, tries-dead, tries-back, tries-deep}
 use Rattle.search.specs.LiveSets.{setOf, boundOf, enough}
 use Rattle.search.specs.Spending.{Spent, spent, spend, onward, answerOf}
-use Rattle.search.specs.Steps.{remaining, goOn, tryFrom, goOnSpent, tryFromSpent}
+use Rattle.search.specs.Steps.{remaining, goOn, tryFrom, goOnSpent, tryFromSpent, thenTry}
 use Rattle.search.proofs.Extents.{candidate-below}
-use Rattle.search.proofs.LiveSets.{member-parts, table-at, forward-enough, live-of-member, dead-of-member, none-live}
+use Rattle.search.proofs.LiveSets.{member-parts, forward-enough, live-of-member, dead-of-member, none-live}
 use Rattle.search.proofs.Spending.{spend-end, spend-stops, spend-step, spend-append, onward-stopped, onward-goes, held-spent, verdict-spent}
 
 -- ---- The candidates of a kind, from a number on
@@ -271,6 +272,22 @@ module _ (j : Job) (t : ℕ) (left : List ℕ) (placed : Layout) where
           taken k p
           ∙ onward-goes _ _ d
           ∙ rw (told-goOn j (candidateTable j) left (entryOf j t n ∷ placed) h (k - 1) d)
+
+      -- Else it is counted and the walk goes on; if it stops there, that is all; if not, the numbers after it are tried, with what is left
+      -- and held.
+      pub take-unrolls : (k : ℕ) → 0 < k
+          → tryFromSpent j t left placed n k h
+          ≡ thenTry j t left placed (suc n) (goOnSpent j left (entryOf j t n ∷ placed) (k - 1) h)
+      unfolding thenTry
+      take-unrolls k p = go (goOnSpent j left (entryOf j t n ∷ placed) (k - 1) h .stopped) refl
+        where
+          w : Spent
+          w = goOnSpent j left (entryOf j t n ∷ placed) (k - 1) h
+
+          go : (b : Bool) → w .stopped ≡ b
+              → tryFromSpent j t left placed n k h ≡ cond (w .stopped) w (tryFromSpent j t left placed (suc n) (w .left) (w .held))
+          go true d = take-ends k p d ∙ sym (ap (λ (b : Bool). cond b w (tryFromSpent j t left placed (suc n) (w .left) (w .held))) d)
+          go false d = take-goes k p d ∙ sym (ap (λ (b : Bool). cond b w (tryFromSpent j t left placed (suc n) (w .left) (w .held))) d)
 
     -- ---- The same under a budget of which k is left
 

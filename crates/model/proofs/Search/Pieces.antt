@@ -72,7 +72,7 @@ module _ (j : Job) where
   -- ---- Candidates
 
   -- The table has the candidates of each type, and of nothing else.
-  table-at : (t : ℕ) → t < kindCount j → getD (candidateTable j) t [] ≡ candidates j t
+  pub table-at : (t : ℕ) → t < kindCount j → getD (candidateTable j) t [] ≡ candidates j t
   unfolding candidateTable below
   table-at t h = getD-map-rising (candidates j) 0 (kindCount j) t [] h ∙ ap (candidates j) (zero-add t)
 
@@ -99,7 +99,7 @@ module _ (j : Job) where
       (λ h. absurd (List·Memᴰ·not-nil (subst (List·Memᴰ n) (table-beyond t h) m))) (in-table t)
 
   -- What a candidate is: four tests.
-  admitted-parts : (k : Kind) (p : Placement) → admitted j k p ≡ true
+  pub admitted-parts : (k : Kind) (p : Placement) → admitted j k p ≡ true
       → (p .column < columns (j .sheet)) × (p .row < rows (j .sheet)) × (testBit (k .rotations) (p .rotation) ≡ true)
   unfolding admitted
   admitted-parts k p e =
