@@ -1,14 +1,14 @@
 -- The answer numbers: a layout written over another, and how many numbers a layout has.
-use mathlib.Core.List.{List, [], _∷_, _++_, map, append-assoc}
+use mathlib.Core.List.{List, [], _∷_, _++_, append-assoc}
 use mathlib.Core.Option.{Option, none, some}
-use mathlib.Core.Path.{_≡_, refl, sym, ap, _∙_}
-use Prim.Native.Nat.{ℕ, zero, suc, _+_, _*_, _/_, _≤_}
+use mathlib.Core.Path.{_≡_, refl, sym, ap}
+use Prim.Native.Nat.{ℕ, _*_, _≤_}
 use native.Mathlib.Omega.{arith}
 use lib.ListN.{length, drop}
 use lib.Seq.{drop-at}
 use Rattle.words.specs.Number.{bytesOf, count, filled}
 use Rattle.words.proofs.Row.{length-bytesOf, length-filled}
-use Rattle.model.specs.Layout.{Entry, Layout}
+use Rattle.model.specs.Layout.{Layout}
 use Rattle.model.specs.Lists.{concat}
 use Rattle.model.specs.Services.{entryNumbers, layoutNumbers, withNumbers, withLayout, numbersIn}
 use Rattle.search.specs.Steps.{Entries}

@@ -1,11 +1,10 @@
 -- Counting, keeping and numbers that rise.
 use mathlib.Core.Bool.{Bool, true, false, cond, _&&_}
-use mathlib.Core.List.{List, [], _∷_, _++_, map}
+use mathlib.Core.List.{List, [], _∷_, _++_}
 use mathlib.Core.Path.{_≡_, refl, sym, ap, _∙_}
 use Prim.Native.Nat.{ℕ, zero, suc, _+_, _-_, _≤_, _<_}
-use native.Mathlib.Nat.{suc-add, add-suc, add-zero, zero-add, not-suc-le-zero, le-of-suc-le-suc}
+use native.Mathlib.Nat.{suc-add, add-suc, add-zero, zero-add}
 use native.Mathlib.Omega.{arith}
-use lib.ListN.{length, getD}
 use Rattle.model.specs.Lists.{all, keep, countOf, rising, below}
 use Rattle.model.proofs.Sorted.{mem-rising, countOf-append, countOf-none}
 

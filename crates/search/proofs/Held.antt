@@ -1,14 +1,14 @@
 -- The layout held: once one is held there is always one, and each has an entry for each piece.
 use mathlib.Core.Bool.{Bool, true, false}
-use mathlib.Core.List.{List, [], _∷_, _++_, reverse}
+use mathlib.Core.List.{List, [], _∷_, _++_}
 use mathlib.Core.Option.{Option, none, some}
-use mathlib.Core.Path.{_≡_, refl, sym, ap, _∙_}
+use mathlib.Core.Path.{_≡_, refl, _∙_}
 use Prim.Native.Nat.{ℕ, zero, suc, _+_}
 use native.Mathlib.Omega.{arith}
 use lib.ListN.{length, getD, length-reverse}
 use Rattle.model.specs.Content.{Job}
 use Rattle.model.specs.Layout.{Layout, entryOf}
-use Rattle.model.specs.Search.{Step, Searched, step, then, candidateTable, live, forwardCheck, completed, tryCandidates, searchPieces, lengthOf, latest}
+use Rattle.model.specs.Search.{Step, Searched, then, candidateTable, live, forwardCheck, completed, tryCandidates, searchPieces, lengthOf, latest}
 use Rattle.model.proofs.Search.Equations.{tries-end, tries-dead}
 use Rattle.search.specs.Spending.{spend}
 use Rattle.search.specs.Steps.{remaining, goOn, tryFrom, goOnSpent, tryFromSpent, Entries}

@@ -6,3 +6,4 @@ pub mod LiveSets
 pub mod Steps
 pub mod Held
 pub mod Answer
+pub mod Levels

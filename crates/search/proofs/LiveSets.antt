@@ -1,22 +1,22 @@
 -- The live sets: what is live is what is in a set, how a set changes when a piece is placed and when the best falls, and look-ahead by
 -- counting members.
 use mathlib.Core.Bool.{Bool, true, false, not, cond, _&&_, _||_, and-true, and-false, and-assoc}
-use mathlib.Core.List.{List, [], _∷_, map}
+use mathlib.Core.List.{List, [], _∷_}
 use mathlib.Core.Logic.{_↔_}
 use mathlib.Core.Option.{Option, none, some}
-use mathlib.Core.Path.{_≡_, refl, sym, ap, _∙_, subst}
-use Prim.Native.Nat.{ℕ, zero, suc, _+_, _*_, max, _≤_, _<_}
+use mathlib.Core.Path.{_≡_, refl, sym, ap, _∙_}
+use Prim.Native.Nat.{ℕ, _+_, _*_, max, _≤_, _<_}
 use native.Mathlib.Omega.{arith}
-use borrow.Author.Tests.{ltb-true, ltb-false, lt-ltb, le-ltb, eqb-true, eqb-false, leb-true, le-leb, lt-leb, ne-eqb}
-use lib.Dec.{leb, ltb, eqb, leb·zero}
+use borrow.Author.Tests.{ltb-true, lt-ltb, le-ltb, eqb-true, eqb-false, leb-true, le-leb, lt-leb, ne-eqb}
+use lib.Dec.{leb, ltb, eqb}
 use lib.ListN.{getD}
 use Rattle.model.specs.Candidate.{isCandidate, candidates}
 use Rattle.model.specs.Content.{Job, kindCount}
 use Rattle.model.specs.Grid.{numberLimit, setWords}
 use Rattle.model.specs.Layout.{Entry, Layout, entryOf, entryNumber, entryExtent, isEntry, conflict, layoutLength}
-use Rattle.model.specs.Lists.{all, any, keep, countOf, below}
+use Rattle.model.specs.Lists.{all, any, countOf, below}
 use Rattle.model.specs.Search.{candidateTable, free, abovePrevious, beats, staysBelow, live, lengthOf, copiesLeft, forwardCheck}
-use Rattle.model.proofs.Lists.{and-left, and-right, and-both, and-four, all-below, below-all, not-both}
+use Rattle.model.proofs.Lists.{and-both, and-four, all-below, below-all, not-both}
 use Rattle.model.proofs.Numbers.{number-of-placement}
 use Rattle.model.proofs.Search.Completions.{length-cons}
 use Rattle.model.proofs.Search.ForwardCheck.{above-through}
@@ -24,7 +24,7 @@ use Rattle.model.proofs.Search.Pieces.{table-at}
 use Rattle.search.specs.LiveSets.{setOf, boundOf, membersOf, enough}
 use Rattle.search.proofs.Counting.{countOf-keep, countOf-same, countOf-below, all-below-same}
 use Rattle.search.proofs.Extents.{candidate-extent, candidate-entry, placed-length, candidate-below, limit-words}
-use Rattle.search.proofs.Tests.{and-turn, and-last, not-or, same-test, ltb-max, ltb-bounds}
+use Rattle.search.proofs.Tests.{and-turn, and-last, not-or, ltb-max, ltb-bounds}
 
 module _ (j : Job) where
   -- ---- Members

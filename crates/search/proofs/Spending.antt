@@ -1,9 +1,9 @@
 -- Steps taken one by one under a budget are the first steps of the walk, as many as the budget allows.
-use mathlib.Core.Bool.{Bool, true, false, cond}
+use mathlib.Core.Bool.{true, false}
 use mathlib.Core.List.{List, [], _∷_, _++_}
-use mathlib.Core.Option.{Option, none, some}
+use mathlib.Core.Option.{Option, none}
 use mathlib.Core.Path.{_≡_, refl, sym, ap, _∙_}
-use Prim.Native.Nat.{ℕ, zero, suc, _+_, _-_, _≤_, _<_, min}
+use Prim.Native.Nat.{ℕ, zero, suc, _-_, _≤_, _<_}
 use native.Mathlib.Omega.{arith}
 use borrow.Author.Tests.{lt-ltb, le-ltb, ltb-false, ltb-true}
 use lib.Dec.{ltb, leb·suc-suc}
@@ -12,7 +12,7 @@ use lib.Seq.{take-nil, take-all}
 use Rattle.model.specs.Content.{Job}
 use Rattle.model.specs.Layout.{Layout}
 use Rattle.model.specs.Search.{Step, latest, bestAfter, stepsFrom, stepsNeeded, stepsTaken, isStopped, held}
-use Rattle.model.specs.Services.{stepCount, verdict, heldAs, finishedAs}
+use Rattle.model.specs.Services.{stepCount, verdict}
 use Rattle.search.specs.Spending.{Spent, spent, spend, onward, answerOf}
 
 -- ---- One step
@@ -56,6 +56,13 @@ unfolding spend
 spend-left k h [] = omega arith
 spend-left zero h (s ∷ ss) = omega arith
 spend-left (suc k) h (s ∷ ss) = spend-left k (latest h (s .completes)) ss ∙ omega arith
+
+-- It does not grow, and nothing is left where the walk stops.
+pub spend-left-le : (k : ℕ) (h : Option Layout) (ss : List Step) → spend k h ss .left ≤ k
+spend-left-le k h ss = omega (arith, spend-left k h ss)
+
+pub spend-stopped-left : (k : ℕ) (h : Option Layout) (ss : List Step) → spend k h ss .stopped ≡ true → spend k h ss .left ≡ 0
+spend-stopped-left k h ss e = omega (arith, spend-left k h ss, ltb-true k (length ss) (sym (spend-stopped k h ss) ∙ e))
 
 -- Where the walk does not stop, the layout held is the best after all steps.
 pub spend-held-all : (k : ℕ) (h : Option Layout) (ss : List Step) → spend k h ss .stopped ≡ false → spend k h ss .held ≡ bestAfter h ss

@@ -1,31 +1,29 @@
 -- The walk of one piece, number by number: which numbers are passed over, and what a number taken leads to, under a budget.
 use mathlib.Core.Bool.{Bool, true, false, cond}
 use mathlib.Core.List.{List, [], _∷_, _++_, reverse}
-use mathlib.Core.Option.{Option, none, some}
+use mathlib.Core.Option.{Option, some}
 use mathlib.Core.Path.{_≡_, refl, sym, ap, _∙_, subst}
 use Prim.Native.Nat.{ℕ, zero, suc, _+_, _-_, _≤_, _<_}
-use native.Mathlib.Nat.{add-zero, add-suc, suc-add}
 use native.Mathlib.Omega.{arith}
 use borrow.Author.Tests.{ltb-true, ltb-false}
 use lib.Dec.{ltb, leb·zero}
-use lib.ListN.{length, getD}
+use lib.ListN.{getD}
 use Rattle.model.specs.Candidate.{isCandidate, candidates}
 use Rattle.model.specs.Content.{Job, kindCount}
 use Rattle.model.specs.Grid.{numberLimit}
-use Rattle.model.specs.Layout.{Entry, Layout, entryOf, isEntry, layoutLength}
+use Rattle.model.specs.Layout.{Layout, entryOf, isEntry, layoutLength}
 use Rattle.model.specs.Lists.{all, keep, countOf, rising, below}
-use Rattle.model.specs.Search.{Step, Searched, step, searched, then, pieces, candidateTable, live, copiesLeft, forwardCheck, completed, tryCandidates, searchPieces, searchFrom, lengthOf, stepsFrom, latest, held}
-use Rattle.model.specs.Services.{verdict}
+use Rattle.model.specs.Search.{Step, Searched, step, searched, then, candidateTable, live, copiesLeft, forwardCheck, completed, tryCandidates, searchPieces, lengthOf, latest, held}
 use Rattle.model.proofs.Lists.{below-all, not-both}
 use Rattle.model.proofs.Search.Completions.{length-reverse}
 use Rattle.model.proofs.Search.Pieces.{table-at}
 use Rattle.model.proofs.Search.Equations.{tries-end, tries-dead, tries-back, tries-deep}
 use Rattle.search.specs.LiveSets.{setOf, boundOf, enough}
-use Rattle.search.specs.Spending.{Spent, spent, spend, onward, answerOf}
+use Rattle.search.specs.Spending.{Spent, spent, spend, onward}
 use Rattle.search.specs.Steps.{remaining, goOn, tryFrom, goOnSpent, tryFromSpent, thenTry}
 use Rattle.search.proofs.Extents.{candidate-below}
 use Rattle.search.proofs.LiveSets.{member-parts, forward-enough, live-of-member, dead-of-member, none-live}
-use Rattle.search.proofs.Spending.{spend-end, spend-stops, spend-step, spend-append, onward-stopped, onward-goes, held-spent, verdict-spent}
+use Rattle.search.proofs.Spending.{spend-left-le, spend-end, spend-stops, spend-step, spend-append, onward-stopped, onward-goes}
 
 -- ---- The candidates of a kind, from a number on
 
@@ -327,28 +325,16 @@ module _ (j : Job) (placed : Layout) (k : ℕ) (h : Option Layout) where
           try-pieces j u left placed (lengthOf j h) c,
         )
 
+-- The budget does not grow.
+pub try-left-le : (j : Job) (t : ℕ) (left : List ℕ) (placed : Layout) (n k : ℕ) (h : Option Layout) → tryFromSpent j t left placed n k h .left ≤ k
+unfolding tryFromSpent
+try-left-le j t left placed n k h = spend-left-le k h (tryFrom j t left placed (lengthOf j h) n .steps)
+
+pub goOn-left-le : (j : Job) (left : List ℕ) (placed : Layout) (k : ℕ) (h : Option Layout) → goOnSpent j left placed k h .left ≤ k
+unfolding goOnSpent
+goOn-left-le j left placed k h = spend-left-le k (latest h (completed left placed)) (goOn j (candidateTable j) left placed (lengthOf j h) .steps)
+
 -- The bound once a layout is complete: the length of the pieces placed.
 pub bound-complete : (j : Job) (placed : Layout) → boundOf j (some (reverse placed)) ≡ layoutLength j placed
 unfolding boundOf
 bound-complete j placed = length-reverse j placed
-
--- ---- The whole walk
-
--- It goes on with all pieces and nothing placed.
-pub steps-goOn : (j : Job) (begin : Option Layout) → stepsFrom j begin ≡ goOn j (candidateTable j) (pieces j) [] (lengthOf j begin) .steps
-unfolding stepsFrom searchFrom goOn
-steps-goOn j begin = refl
-
--- Nothing is complete before the first step, as long as there is a piece.
-pub walk-goOn : (j : Job) (begin : Option Layout) (budget u : ℕ) (left : List ℕ) → pieces j ≡ u ∷ left
-    → spend budget begin (stepsFrom j begin) ≡ goOnSpent j (pieces j) [] budget begin
-unfolding goOnSpent completed latest
-walk-goOn j begin budget u left e = rw (steps-goOn j begin, e)
-
--- What a run answers and holds, of a job with a piece.
-pub verdict-goOn : (j : Job) (budget u : ℕ) (left : List ℕ) → pieces j ≡ u ∷ left
-    → verdict j budget ≡ answerOf j budget (goOnSpent j (pieces j) [] budget none)
-verdict-goOn j budget u left e = verdict-spent j budget ∙ ap (answerOf j budget) (walk-goOn j none budget u left e)
-
-pub held-goOn : (j : Job) (budget u : ℕ) (left : List ℕ) → pieces j ≡ u ∷ left → held j none budget ≡ goOnSpent j (pieces j) [] budget none .held
-held-goOn j budget u left e = held-spent j none budget ∙ ap (λ (w : Spent). w .held) (walk-goOn j none budget u left e)

@@ -1,7 +1,7 @@
 -- Tests that are equal: conjunctions put in another order, and comparisons.
-use mathlib.Core.Bool.{Bool, true, false, not, cond, _&&_, _||_, and-true, and-false}
+use mathlib.Core.Bool.{Bool, true, false, not, _&&_, _||_, and-true, and-false}
 use mathlib.Core.Path.{_≡_, refl, sym, _∙_}
-use Prim.Native.Nat.{ℕ, max, _≤_, _<_}
+use Prim.Native.Nat.{ℕ, max, _≤_}
 use native.Mathlib.Omega.{arith}
 use borrow.Author.Tests.{ltb-true, ltb-false, lt-ltb, le-ltb}
 use lib.Dec.{ltb}
@@ -25,12 +25,6 @@ and-last true true true b true true = sym (and-true (b && true) ∙ and-true b)
 pub not-or : (a b : Bool) → not (a || b) ≡ (not b && not a)
 not-or true b = sym (and-false (not b))
 not-or false b = sym (and-true (not b))
-
--- Two tests hold alike if each holds where the other does.
-pub same-test : (a b : Bool) → (a ≡ true → b ≡ true) → (b ≡ true → a ≡ true) → a ≡ b
-same-test true b f g = sym (f refl)
-same-test false true f g = g refl
-same-test false false f g = refl
 
 -- The larger of two numbers is below a bound if both are.
 pub ltb-max : (a b c : ℕ) → ltb (max a b) c ≡ (ltb a c && ltb b c)

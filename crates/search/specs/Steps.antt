@@ -1,5 +1,5 @@
 -- The walk of one piece as a loop over numbers, and what follows a candidate taken: what the two functions of the search have to do.
-use mathlib.Core.Bool.{Bool, true, false, cond}
+use mathlib.Core.Bool.{true, false, cond}
 use mathlib.Core.List.{List, []}
 use mathlib.Core.Option.{Option, none, some}
 use mathlib.Core.Path.{_≡_}
