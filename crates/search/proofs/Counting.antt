@@ -5,6 +5,7 @@ use mathlib.Core.Path.{_≡_, refl, sym, ap, _∙_}
 use Prim.Native.Nat.{ℕ, zero, suc, _+_, _-_, _≤_, _<_}
 use native.Mathlib.Nat.{suc-add, add-suc, add-zero, zero-add}
 use native.Mathlib.Omega.{arith}
+use Rattle.words.specs.Sets.{howMany}
 use Rattle.model.specs.Lists.{all, keep, countOf, rising, below}
 use Rattle.model.proofs.Sorted.{mem-rising, countOf-append, countOf-none}
 
@@ -51,3 +52,22 @@ all-same p q i (suc n) f = rw (f i (omega arith) (omega arith), all-same p q (su
 pub all-below-same : (p q : ℕ → Bool) (n : ℕ) → ((m : ℕ) → m < n → p m ≡ q m) → all p (below n) ≡ all q (below n)
 unfolding below
 all-below-same p q n f = all-same p q 0 n (λ m l h. f m (omega arith))
+
+-- The numbers up to l.
+pub below-suc : (l : ℕ) → below (suc l) ≡ below l ++ l ∷ []
+unfolding below rising
+below-suc l =
+    let e : suc l ≡ l + 1 = omega arith in
+    ap (rising 0) e ∙ rising-append 0 l 1 ∙ ap (λ (n : ℕ). rising 0 l ++ n ∷ []) (zero-add l)
+
+no-numbers : (q : ℕ → Bool) → 0 ≡ countOf q (below 0)
+unfolding countOf below rising
+no-numbers q = refl
+
+-- How many numbers below n meet a condition, in the two ways of saying it.
+pub howMany-countOf : (p q : ℕ → Bool) (n : ℕ) → ((i : ℕ) → i < n → p i ≡ q i) → howMany n p ≡ countOf q (below n)
+unfolding howMany countOf
+howMany-countOf p q zero f = no-numbers q
+howMany-countOf p q (suc n) f =
+    rw (f n (omega arith), howMany-countOf p q n (λ i h. f i (omega arith)), below-suc n, countOf-append q (below n) (n ∷ []))
+    (omega arith)

@@ -4,7 +4,6 @@ use mathlib.Core.List.{List, [], _∷_, _++_, map, reverse, reverse-cons, map-ap
 use mathlib.Core.Option.{Option, none}
 use mathlib.Core.Path.{_≡_, refl, sym, ap, _∙_}
 use Prim.Native.Nat.{ℕ, zero, suc, _+_, _*_, _-_, _≤_, _<_}
-use native.Mathlib.Nat.{zero-add}
 use native.Mathlib.Omega.{arith}
 use lib.Dec.{ltb, eqb}
 use lib.ListN.{length, getD, length-drop, drop-of-length-le}
@@ -19,7 +18,7 @@ use Rattle.search.specs.LiveSets.{boundOf}
 use Rattle.search.specs.Levels.{pieceKind, piecesFrom, placedBelow, walkSpent}
 use Rattle.search.specs.Spending.{Spent, spend, answerOf}
 use Rattle.search.specs.Steps.{goOn, goOnSpent, Entries}
-use Rattle.search.proofs.Counting.{rising-append}
+use Rattle.search.proofs.Counting.{below-suc}
 use Rattle.search.proofs.Held.{goOn-entries}
 use Rattle.search.proofs.Spending.{held-spent, verdict-spent}
 
@@ -28,13 +27,6 @@ getD-mem : (ns : List ℕ) (i d : ℕ) → i < length ns → List·Memᴰ (getD 
 getD-mem [] i d h = absurd (omega arith)
 getD-mem (n ∷ ns) zero d h = List·Memᴰ·head refl
 getD-mem (n ∷ ns) (suc i) d h = List·Memᴰ·tail (getD-mem ns i d (omega arith))
-
--- The numbers up to l.
-below-suc : (l : ℕ) → below (suc l) ≡ below l ++ l ∷ []
-unfolding below rising
-below-suc l =
-    let e : suc l ≡ l + 1 = omega arith in
-    ap (rising 0) e ∙ rising-append 0 l 1 ∙ ap (λ (n : ℕ). rising 0 l ++ n ∷ []) (zero-add l)
 
 module _ (j : Job) where
   -- ---- The pieces from a level on

@@ -4,6 +4,7 @@ pub mod Counting
 pub mod Extents
 pub mod LiveSets
 pub mod Steps
+pub mod Kept
 pub mod Held
 pub mod Answer
 pub mod Levels

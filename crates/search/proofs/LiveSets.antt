@@ -16,6 +16,7 @@ use Rattle.model.specs.Grid.{numberLimit, setWords}
 use Rattle.model.specs.Layout.{Entry, Layout, entryOf, entryNumber, entryExtent, isEntry, conflict, layoutLength}
 use Rattle.model.specs.Lists.{all, any, countOf, below}
 use Rattle.model.specs.Search.{candidateTable, free, abovePrevious, beats, staysBelow, live, lengthOf, copiesLeft, forwardCheck}
+use Rattle.model.specs.Services.{rowBit}
 use Rattle.model.proofs.Lists.{and-both, and-four, all-below, below-all, not-both}
 use Rattle.model.proofs.Numbers.{number-of-placement}
 use Rattle.model.proofs.Search.Completions.{length-cons}
@@ -25,6 +26,11 @@ use Rattle.search.specs.LiveSets.{setOf, boundOf, membersOf, enough}
 use Rattle.search.proofs.Counting.{countOf-keep, countOf-same, countOf-below, all-below-same}
 use Rattle.search.proofs.Extents.{candidate-extent, candidate-entry, placed-length, candidate-below, limit-words}
 use Rattle.search.proofs.Tests.{and-turn, and-last, not-or, ltb-max, ltb-bounds}
+
+-- The row's bit of a candidate.
+pub row-at : (j : Job) (t n u m : ℕ) → isCandidate j u m ≡ true → rowBit j t n u m ≡ conflict j (entryOf j t n) (entryOf j u m)
+unfolding rowBit
+row-at j t n u m e = rw (e, rowBit)
 
 module _ (j : Job) where
   -- ---- Members
@@ -120,6 +126,17 @@ module _ (j : Job) where
       rw (free-placed (entryOf j t n) placed (entryOf j u m), above-placed t n placed u m (member-parts placed bound t n e .2))
       (and-last (isCandidate j u m) (free j placed (entryOf j u m)) (abovePrevious j placed (entryOf j u m)) (ltb (entryExtent j (entryOf j u m)) bound) (not (conflict j (entryOf j t n) (entryOf j u m))) (not (eqb t u) || ltb n m))
 
+  -- The same where the conflicts are those of a row, which has no bit where there is no candidate.
+  pub set-placed-row : (placed : Layout) (bound t n u m : ℕ) → setOf j placed bound t n ≡ true
+      → setOf j (entryOf j t n ∷ placed) bound u m ≡ (setOf j placed bound u m && not (rowBit j t n u m) && (not (eqb t u) || ltb n m))
+  set-placed-row placed bound t n u m e = set-placed placed bound t n u m e ∙ go (isCandidate j u m) refl
+    where
+      go : (c : Bool) → isCandidate j u m ≡ c
+          → (setOf j placed bound u m && not (conflict j (entryOf j t n) (entryOf j u m)) && (not (eqb t u) || ltb n m))
+          ≡ (setOf j placed bound u m && not (rowBit j t n u m) && (not (eqb t u) || ltb n m))
+      go true d = rw (row-at j t n u m d)
+      go false d = rw (no-member placed bound u m d)
+
   -- ---- Look-ahead by counting members
 
   module _ (placed : Layout) (h : Option Layout) (a : all (isEntry j) placed ≡ true) (l : layoutLength j placed < boundOf j h) where
@@ -177,15 +194,25 @@ module _ (j : Job) where
           go true e = absurd (omega (arith, candidate-below j u m e))
           go false e = no-member placed bound u m e
 
-  -- Look-ahead on the sets, of the kinds with copies left, is the walk's.
+  -- Look-ahead by what the words of the sets hold.
+  pub forward-members : (left : List ℕ) (placed : Layout) (h : Option Layout) → all (isEntry j) placed ≡ true → layoutLength j placed < boundOf j h
+      → forwardCheck j (candidateTable j) left placed (lengthOf j h)
+      ≡ all (λ u. leb (copiesLeft u left) (membersOf j placed (boundOf j h) u)) (below (kindCount j))
+  forward-members left placed h a l =
+      forward-counts placed h a l left
+      ∙ all-below-same (λ u. leb (copiesLeft u left) (countOf (setOf j placed (boundOf j h) u) (below (numberLimit (j .sheet)))))
+      (λ u. leb (copiesLeft u left) (membersOf j placed (boundOf j h) u)) (kindCount j)
+      (λ u k. ap (leb (copiesLeft u left)) (sym (members-limit placed (boundOf j h) u)))
+
+  -- It need look only at the kinds with copies left.
   pub forward-enough : (left : List ℕ) (placed : Layout) (h : Option Layout) → all (isEntry j) placed ≡ true → layoutLength j placed < boundOf j h
       → forwardCheck j (candidateTable j) left placed (lengthOf j h) ≡ enough j left placed (boundOf j h)
   unfolding enough
   forward-enough left placed h a l =
-      forward-counts placed h a l left
-      ∙ all-below-same (λ u. leb (copiesLeft u left) (countOf (setOf j placed (boundOf j h) u) (below (numberLimit (j .sheet)))))
+      forward-members left placed h a l
+      ∙ all-below-same (λ u. leb (copiesLeft u left) (membersOf j placed (boundOf j h) u))
       (λ u. eqb (copiesLeft u left) 0 || leb (copiesLeft u left) (membersOf j placed (boundOf j h) u)) (kindCount j)
-      (λ u k. ap (leb (copiesLeft u left)) (sym (members-limit placed (boundOf j h) u)) ∙ spared (copiesLeft u left) (membersOf j placed (boundOf j h) u))
+      (λ u k. spared (copiesLeft u left) (membersOf j placed (boundOf j h) u))
     where
       spared : (c m : ℕ) → leb c m ≡ (eqb c 0 || leb c m)
       spared c m = go (eqb c 0) refl

@@ -2,8 +2,10 @@
 use mathlib.Core.Bool.{Bool, _&&_, _||_}
 use mathlib.Core.List.{List}
 use mathlib.Core.Option.{Option, none, some}
-use Prim.Native.Nat.{ℕ, _+_, _*_}
+use mathlib.Core.Path.{_≡_}
+use Prim.Native.Nat.{ℕ, _+_, _*_, _<_}
 use lib.Dec.{leb, ltb, eqb}
+use Rattle.words.specs.Sets.{member}
 use Rattle.model.specs.Candidate.{isCandidate}
 use Rattle.model.specs.Content.{Job, kindCount}
 use Rattle.model.specs.Grid.{setWords}
@@ -28,6 +30,10 @@ boundOf j (some es) = layoutLength j es
 -- How many numbers are in the set, of all that its words have a bit for.
 unfoldable pub membersOf : Job → Layout → ℕ → ℕ → ℕ
 membersOf j placed bound u = countOf (setOf j placed bound u) (below (setWords (j .sheet) * 64))
+
+-- These bytes keep the set: of all numbers that its words have a bit for, the members are those in it.
+abbrev pub Keeps : Job → Layout → ℕ → ℕ → List ℕ → Type 0
+Keeps j placed bound u s = (m : ℕ) → m < setWords (j .sheet) * 64 → member s m ≡ setOf j placed bound u m
 
 -- Look-ahead on the sets: each kind with copies left has at least as many members.
 unfoldable pub enough : Job → List ℕ → Layout → ℕ → Bool
