@@ -27,7 +27,8 @@ spend-none k h [] e = e
 spend-none zero h (s ∷ ss) e = e
 spend-none (suc k) h (s ∷ ss) e = latest-none h (s .completes) (spend-none k (latest h (s .completes)) ss e)
 
-pub try-none : (j : Job) (t : ℕ) (left : List ℕ) (placed : Layout) (n k : ℕ) (h : Option Layout) → tryFromSpent j t left placed n k h .held ≡ none → h ≡ none
+pub try-none : (j : Job) (t : ℕ) (left : List ℕ) (placed : Layout) (n k : ℕ) (h : Option Layout)
+    → tryFromSpent j t left placed n k h .held ≡ none → h ≡ none
 unfolding tryFromSpent
 try-none j t left placed n k h e = spend-none k h _ e
 
@@ -93,7 +94,8 @@ module _ (j : Job) (cs : List (List ℕ)) (n : ℕ) where
                 (ih (goOn j cs left (entryOf j t m ∷ placed) best .best)),
           )
 
-  pieces-entries : (left : List ℕ) (placed : Layout) (best : Option ℕ) → length left + length placed ≡ n → AllEntries n (searchPieces j cs left placed best .steps)
+  pieces-entries : (left : List ℕ) (placed : Layout) (best : Option ℕ) → length left + length placed ≡ n
+      → AllEntries n (searchPieces j cs left placed best .steps)
   unfolding searchPieces
   pieces-entries [] placed best e = tt
   pieces-entries (t ∷ left) placed best e = tries-entries t left (pieces-entries left) (getD cs t []) placed best e

@@ -63,12 +63,15 @@ module _ (j : Job) where
   beats-bound none x l p q = sym (and-both _ _ (lt-ltb x (j .sheet .L + 1) (omega arith)) (lt-ltb l (j .sheet .L + 1) (omega arith)))
   beats-bound (some es) x l p q = ltb-max x l (layoutLength j es)
 
+  -- A candidate is live if it is a member and the pieces placed end below the bound. (What is placed are candidates, so all ends are at
+  -- most L, and L + 1 bounds nothing.)
   pub live-member : (placed : Layout) (h : Option Layout) (u m : ℕ) → all (isEntry j) placed ≡ true → isCandidate j u m ≡ true
       → live j placed (lengthOf j h) u m ≡ (setOf j placed (boundOf j h) u m && ltb (layoutLength j placed) (boundOf j h))
   unfolding live staysBelow setOf
   live-member placed h u m a c =
       rw (length-cons j (entryOf j u m) placed, beats-bound h _ _ (candidate-extent j u m c) (placed-length j placed a), c)
-      (and-turn (ltb (entryExtent j (entryOf j u m)) (boundOf j h)) (ltb (layoutLength j placed) (boundOf j h)) (abovePrevious j placed (entryOf j u m)) (free j placed (entryOf j u m)))
+      (and-turn (ltb (entryExtent j (entryOf j u m)) (boundOf j h)) (ltb (layoutLength j placed) (boundOf j h))
+      (abovePrevious j placed (entryOf j u m)) (free j placed (entryOf j u m)))
 
   -- ---- How a set changes
 
@@ -124,7 +127,8 @@ module _ (j : Job) where
   unfolding setOf
   set-placed placed bound t n u m e =
       rw (free-placed (entryOf j t n) placed (entryOf j u m), above-placed t n placed u m (member-parts placed bound t n e .2))
-      (and-last (isCandidate j u m) (free j placed (entryOf j u m)) (abovePrevious j placed (entryOf j u m)) (ltb (entryExtent j (entryOf j u m)) bound) (not (conflict j (entryOf j t n) (entryOf j u m))) (not (eqb t u) || ltb n m))
+      (and-last (isCandidate j u m) (free j placed (entryOf j u m)) (abovePrevious j placed (entryOf j u m))
+      (ltb (entryExtent j (entryOf j u m)) bound) (not (conflict j (entryOf j t n) (entryOf j u m))) (not (eqb t u) || ltb n m))
 
   -- The same where the conflicts are those of a row, which has no bit where there is no candidate.
   pub set-placed-row : (placed : Layout) (bound t n u m : ℕ) → setOf j placed bound t n ≡ true
@@ -140,7 +144,7 @@ module _ (j : Job) where
   -- ---- Look-ahead by counting members
 
   module _ (placed : Layout) (h : Option Layout) (a : all (isEntry j) placed ≡ true) (l : layoutLength j placed < boundOf j h) where
-    -- A candidate is live exactly if it is a member, as long as the pieces placed end below the bound.
+    -- A number is that of a live candidate exactly if it is a member, as long as the pieces placed end below the bound.
     pub member-live : (u m : ℕ) → (isCandidate j u m && live j placed (lengthOf j h) u m) ≡ setOf j placed (boundOf j h) u m
     member-live u m = go (isCandidate j u m) refl
       where
@@ -156,7 +160,8 @@ module _ (j : Job) where
     count-live u k =
         rw (table-at j u k)
         (countOf-keep (live j placed (lengthOf j h) u) (isCandidate j u) (below (numberLimit (j .sheet)))
-        ∙ countOf-same (λ m. isCandidate j u m && live j placed (lengthOf j h) u m) (setOf j placed (boundOf j h) u) (member-live u) (below (numberLimit (j .sheet))))
+        ∙ countOf-same (λ m. isCandidate j u m && live j placed (lengthOf j h) u m) (setOf j placed (boundOf j h) u) (member-live u)
+        (below (numberLimit (j .sheet))))
 
     -- Look-ahead: every kind has at least as many members as copies left.
     pub forward-counts : (left : List ℕ)
@@ -168,7 +173,7 @@ module _ (j : Job) where
         (λ u. leb (copiesLeft u left) (countOf (setOf j placed (boundOf j h) u) (below (numberLimit (j .sheet))))) (kindCount j)
         (λ u k. ap (leb (copiesLeft u left)) (count-live u k))
 
-    -- The same in words.
+    -- The same kind by kind.
     pub forward-exactly : (left : List ℕ)
         → (forwardCheck j (candidateTable j) left placed (lengthOf j h) ≡ true)
         ↔ ((u : ℕ) → u < kindCount j → copiesLeft u left ≤ countOf (setOf j placed (boundOf j h) u) (below (numberLimit (j .sheet))))

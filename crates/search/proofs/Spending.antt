@@ -70,6 +70,8 @@ spend-held-all k h ss e =
     spend-held k h ss ∙ ap (bestAfter h) (take-all k ss (ltb-false k (length ss) (sym (spend-stopped k h ss) ∙ e)))
 
 -- ---- Steps after steps
+
+-- Steps, and then further steps.
 pub spend-append : (k : ℕ) (h : Option Layout) (ss ts : List Step) → spend k h (ss ++ ts) ≡ onward (spend k h ss) ts
 unfolding spend onward
 spend-append k h [] ts = refl

@@ -75,6 +75,7 @@ unfolding forwardCheck copiesLeft countOf
 forward-last j cs placed best = below-all _ (kindCount j) (λ u h. leb·zero (countOf (live j placed best u) (getD cs u [])))
 
 module _ (j : Job) (cs : List (List ℕ)) where
+  -- Where look-ahead fails nothing is done; else the walk goes over the pieces left.
   pub goes-back : (left : List ℕ) (placed : Layout) (best : Option ℕ) → forwardCheck j cs left placed best ≡ false
       → goOn j cs left placed best ≡ searched [] best
   unfolding goOn
@@ -118,11 +119,13 @@ module _ (j : Job) (cs : List (List ℕ)) where
   abbrev pub Told : Option Layout → List Step → Option ℕ → Type 0
   Told h ss b = (k : ℕ) → spend k h ss .stopped ≡ false → lengthOf j (spend k h ss .held) ≡ b
 
+  -- One step before steps of which that holds.
   told-step : (h : Option Layout) (s : Step) (ss : List Step) (b : Option ℕ) → Told (latest h (s .completes)) ss b → Told h (s ∷ ss) b
   unfolding spend
   told-step h s ss b f zero e = absurd (not-both refl e)
   told-step h s ss b f (suc k) e = f k e
 
+  -- Steps, and then steps of which it holds from whatever layout of that length.
   told-then : (h : Option Layout) (ss ts : List Step) (b c : Option ℕ) → Told h ss b → ((g : Option Layout) → lengthOf j g ≡ b → Told g ts c)
       → Told h (ss ++ ts) c
   told-then h ss ts b c f g k e = go (spend k h ss .stopped) refl
@@ -134,6 +137,7 @@ module _ (j : Job) (cs : List (List ℕ)) where
           spend-append k h ss ts ∙ onward-goes (spend k h ss) ts d in
           rw same (g (spend k h ss .held) (f k d) (spend k h ss .left) (rw same at e))
 
+  -- What follows a candidate taken, from the walk over the pieces left.
   told-goes : (left : List ℕ) (placed : Layout) (h : Option Layout)
       → Told (latest h (completed left placed)) (searchPieces j cs left placed (lengthOf j h) .steps) (searchPieces j cs left placed (lengthOf j h) .best)
       → Told (latest h (completed left placed)) (goOn j cs left placed (lengthOf j h) .steps) (goOn j cs left placed (lengthOf j h) .best)
@@ -147,11 +151,13 @@ module _ (j : Job) (cs : List (List ℕ)) where
       go [] false d f = absurd (not-both (forward-last j cs placed (lengthOf j h)) d)
       go (u ∷ left) false d f = rw (goes-back (u ∷ left) placed (lengthOf j h) d) (λ k e. refl)
 
+  -- The walk of one piece, from the walk over the pieces after it.
   told-tries : (t : ℕ) (left : List ℕ)
       → ((placed : Layout) (h : Option Layout)
       → Told (latest h (completed left placed)) (searchPieces j cs left placed (lengthOf j h) .steps) (searchPieces j cs left placed (lengthOf j h) .best))
       → (ns : List ℕ) (placed : Layout) (h : Option Layout)
-      → Told h (tryCandidates j cs (searchPieces j cs left) t left ns placed (lengthOf j h) .steps) (tryCandidates j cs (searchPieces j cs left) t left ns placed (lengthOf j h) .best)
+      → Told h (tryCandidates j cs (searchPieces j cs left) t left ns placed (lengthOf j h) .steps)
+      (tryCandidates j cs (searchPieces j cs left) t left ns placed (lengthOf j h) .best)
   unfolding then
   told-tries t left f [] placed h = rw (tries-end j cs (searchPieces j cs left) t left placed (lengthOf j h)) (told-none h)
     where
@@ -171,21 +177,22 @@ module _ (j : Job) (cs : List (List ℕ)) where
           (told-then _ _ _ _ _ (told-goes left (entryOf j t n ∷ placed) h (f (entryOf j t n ∷ placed) h))
           (λ g q. subst (λ (b : Option ℕ). Told g (tries ns b .steps) (tries ns b .best)) q (ih g))))
 
-  -- Of the walk over the pieces left, together with the step that led into it.
+  -- So it holds of the walk over the pieces left, together with the step that led into it (which records a complete layout).
   pub told-pieces : (left : List ℕ) (placed : Layout) (h : Option Layout)
       → Told (latest h (completed left placed)) (searchPieces j cs left placed (lengthOf j h) .steps) (searchPieces j cs left placed (lengthOf j h) .best)
   unfolding searchPieces completed latest lengthOf spend
   told-pieces [] placed h = λ k e. ap (λ (n : ℕ). some n) (length-reverse j placed)
   told-pieces (t ∷ left) placed h = told-tries t left (told-pieces left) (getD cs t []) placed h
 
-  -- Of what follows a candidate taken.
+  -- It holds of what follows a candidate taken.
   pub told-goOn : (left : List ℕ) (placed : Layout) (h : Option Layout)
       → Told (latest h (completed left placed)) (goOn j cs left placed (lengthOf j h) .steps) (goOn j cs left placed (lengthOf j h) .best)
   told-goOn left placed h = told-goes left placed h (told-pieces left placed h)
 
-  -- Of the walk of one piece.
+  -- And of the walk of one piece.
   pub told-piece : (t : ℕ) (left ns : List ℕ) (placed : Layout) (h : Option Layout)
-      → Told h (tryCandidates j cs (searchPieces j cs left) t left ns placed (lengthOf j h) .steps) (tryCandidates j cs (searchPieces j cs left) t left ns placed (lengthOf j h) .best)
+      → Told h (tryCandidates j cs (searchPieces j cs left) t left ns placed (lengthOf j h) .steps)
+      (tryCandidates j cs (searchPieces j cs left) t left ns placed (lengthOf j h) .best)
   told-piece t left ns placed h = told-tries t left (told-pieces left) ns placed h
 
 -- ---- One piece, number by number
@@ -203,7 +210,8 @@ module _ (j : Job) (t : ℕ) (left : List ℕ) (placed : Layout) where
 
   module _ (h : Option Layout) (a : all (isEntry j) placed ≡ true) where
     -- A number that is no member is passed over.
-    pub try-skip : (n : ℕ) → setOf j placed (boundOf j h) t n ≡ false → tryFrom j t left placed (lengthOf j h) n ≡ tryFrom j t left placed (lengthOf j h) (suc n)
+    pub try-skip : (n : ℕ) → setOf j placed (boundOf j h) t n ≡ false
+        → tryFrom j t left placed (lengthOf j h) n ≡ tryFrom j t left placed (lengthOf j h) (suc n)
     unfolding tryFrom
     try-skip n e = go (isCandidate j t n) refl
       where
@@ -248,6 +256,7 @@ module _ (j : Job) (t : ℕ) (left : List ℕ) (placed : Layout) where
       unfolding tryFromSpent then
       take-stops = rw try-takes (spend-stops h _ _)
 
+      -- Else the candidate is counted.
       taken : (k : ℕ) → 0 < k
           → tryFromSpent j t left placed n k h
           ≡ onward (goOnSpent j left (entryOf j t n ∷ placed) (k - 1) h)
@@ -255,7 +264,7 @@ module _ (j : Job) (t : ℕ) (left : List ℕ) (placed : Layout) where
       unfolding tryFromSpent goOnSpent then
       taken k p = rw try-takes (spend-step k h _ _ p ∙ spend-append (k - 1) _ _ _)
 
-      -- Else it is counted and the walk goes on; if it stops there, that is all.
+      -- Else it is counted and the walk goes on; if that stops, it is all.
       pub take-ends : (k : ℕ) → 0 < k → goOnSpent j left (entryOf j t n ∷ placed) (k - 1) h .stopped ≡ true
           → tryFromSpent j t left placed n k h ≡ goOnSpent j left (entryOf j t n ∷ placed) (k - 1) h
       take-ends k p d = taken k p ∙ onward-stopped _ _ d
@@ -271,8 +280,7 @@ module _ (j : Job) (t : ℕ) (left : List ℕ) (placed : Layout) where
           ∙ onward-goes _ _ d
           ∙ rw (told-goOn j (candidateTable j) left (entryOf j t n ∷ placed) h (k - 1) d)
 
-      -- Else it is counted and the walk goes on; if it stops there, that is all; if not, the numbers after it are tried, with what is left
-      -- and held.
+      -- Both in one.
       pub take-unrolls : (k : ℕ) → 0 < k
           → tryFromSpent j t left placed n k h
           ≡ thenTry j t left placed (suc n) (goOnSpent j left (entryOf j t n ∷ placed) (k - 1) h)
@@ -289,15 +297,18 @@ module _ (j : Job) (t : ℕ) (left : List ℕ) (placed : Layout) where
 
     -- ---- The same under a budget of which k is left
 
+    -- Numbers among which there is no member are passed over.
     pub spent-skip-to : (n m k : ℕ) → n ≤ m → ((i : ℕ) → n ≤ i → i < m → setOf j placed (boundOf j h) t i ≡ false)
         → tryFromSpent j t left placed n k h ≡ tryFromSpent j t left placed m k h
     unfolding tryFromSpent
     spent-skip-to n m k l f = rw (try-skip-to n m l f)
 
+    -- Where the pieces placed do not end below the bound, nothing is done.
     pub spent-over : (n k : ℕ) → boundOf j h ≤ layoutLength j placed → tryFromSpent j t left placed n k h ≡ spent k h false
     unfolding tryFromSpent
     spent-over n k l = rw (try-over n l) (spend-end k h)
 
+  -- Nor past the limit of the numbers.
   pub spent-past : (n k : ℕ) (h : Option Layout) → numberLimit (j .sheet) ≤ n → tryFromSpent j t left placed n k h ≡ spent k h false
   unfolding tryFromSpent
   spent-past n k h l = rw (try-past (lengthOf j h) n l) (spend-end k h)
@@ -308,7 +319,9 @@ module _ (j : Job) (placed : Layout) (k : ℕ) (h : Option Layout) where
   -- It was the last piece: the layout is complete, and held.
   pub goOn-last : goOnSpent j [] placed k h ≡ spent k (some (reverse placed)) false
   unfolding goOnSpent completed latest searchPieces
-  goOn-last = rw (goes-deep j (candidateTable j) [] placed (lengthOf j h) (forward-last j (candidateTable j) placed (lengthOf j h))) (spend-end k (some (reverse placed)))
+  goOn-last =
+      rw (goes-deep j (candidateTable j) [] placed (lengthOf j h) (forward-last j (candidateTable j) placed (lengthOf j h)))
+      (spend-end k (some (reverse placed)))
 
   module _ (u : ℕ) (left : List ℕ) (a : all (isEntry j) placed ≡ true) (l : layoutLength j placed < boundOf j h) where
     -- Some kind has too few members: the candidate is given back.
@@ -317,7 +330,8 @@ module _ (j : Job) (placed : Layout) (k : ℕ) (h : Option Layout) where
     goOn-back e = rw (goes-back j (candidateTable j) (u ∷ left) placed (lengthOf j h) (forward-enough j (u ∷ left) placed h a l ∙ e)) (spend-end k h)
 
     -- Else the next piece tries its candidates.
-    pub goOn-deep : u < kindCount j → enough j (u ∷ left) placed (boundOf j h) ≡ true → goOnSpent j (u ∷ left) placed k h ≡ tryFromSpent j u left placed 0 k h
+    pub goOn-deep : u < kindCount j → enough j (u ∷ left) placed (boundOf j h) ≡ true
+        → goOnSpent j (u ∷ left) placed k h ≡ tryFromSpent j u left placed 0 k h
     unfolding goOnSpent tryFromSpent completed latest
     goOn-deep c e =
         rw (
