@@ -4,4 +4,5 @@ pub mod Numbers
 pub mod Passing
 pub mod Sorted
 pub mod Accepted
+pub mod ReadBack
 pub mod Search

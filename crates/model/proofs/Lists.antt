@@ -120,3 +120,15 @@ module _ {A : Type 0} where
 pub mem-map : {A B : Type 0} (f : A → B) (xs : List A) (b : B) → List·Memᴰ b (map f xs) → (a : A) × List·Memᴰ a xs × (b ≡ f a)
 mem-map f (x ∷ xs) b (List·Memᴰ·head q) = (x, List·Memᴰ·head refl, q)
 mem-map f (x ∷ xs) b (List·Memᴰ·tail d) = let r = mem-map f xs b d in (r .0, List·Memᴰ·tail (r .1), r .2)
+
+module _ {A : Type 0} (f : ℕ → A) where
+  -- Element t of a function over numbers that rise, and over the numbers below k.
+  getD-map-rising : (i k t : ℕ) (d : A) → t < k → getD (map f (rising i k)) t d ≡ f (i + t)
+  unfolding rising
+  getD-map-rising i zero t d h = absurd (not-suc-le-zero h)
+  getD-map-rising i (suc k) zero d h = ap f (sym (add-zero i))
+  getD-map-rising i (suc k) (suc t) d h = getD-map-rising (suc i) k t d (le-of-suc-le-suc h) ∙ ap f (suc-add i t ∙ sym (add-suc i t))
+
+  pub getD-map-below : (k t : ℕ) (d : A) → t < k → getD (map f (below k)) t d ≡ f t
+  unfolding below
+  getD-map-below k t d h = getD-map-rising 0 k t d h ∙ ap f (zero-add t)

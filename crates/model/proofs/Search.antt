@@ -2,4 +2,9 @@
 pub mod Equations
 pub mod Completions
 pub mod ForwardCheck
+pub mod Optimal
 pub mod Pieces
+pub mod Passing
+pub mod Walk
+pub mod Budget
+pub mod Demand3

@@ -10,6 +10,7 @@ pub mod Layout
 pub mod Search
 pub mod Answers
 pub mod Services
+pub mod Demand3
 pub mod Output
 pub mod Opened
 pub mod Boards

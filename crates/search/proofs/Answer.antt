@@ -1,4 +1,4 @@
--- The answer numbers: a layout written over another, and how many numbers a layout has.
+-- The answer numbers: a layout written over another. (A layout has four numbers for each entry: `length-numbers` of the model's ReadBack.)
 use mathlib.Core.List.{List, [], _∷_, _++_, append-assoc}
 use mathlib.Core.Option.{Option, none, some}
 use mathlib.Core.Path.{_≡_, refl, sym, ap}
@@ -11,15 +11,8 @@ use Rattle.words.proofs.Row.{length-bytesOf, length-filled}
 use Rattle.model.specs.Layout.{Layout}
 use Rattle.model.specs.Lists.{concat}
 use Rattle.model.specs.Services.{entryNumbers, layoutNumbers, withNumbers, withLayout, numbersIn}
+use Rattle.model.proofs.ReadBack.{length-numbers}
 use Rattle.search.specs.Steps.{Entries}
-
--- A layout has four numbers for each entry.
-pub length-layoutNumbers : (es : Layout) → length (layoutNumbers es) ≡ 4 * length es
-unfolding layoutNumbers entryNumbers concat
-length-layoutNumbers [] = refl
-length-layoutNumbers (e ∷ es) =
-    let r : length (layoutNumbers es) ≡ 4 * length es = length-layoutNumbers es in
-    omega arith
 
 -- The numbers of two layouts, one after the other. (With one entry more, this is the law of a loop that writes a layout.)
 pub layoutNumbers-append : (es fs : Layout) → layoutNumbers (es ++ fs) ≡ layoutNumbers es ++ layoutNumbers fs
@@ -40,7 +33,7 @@ pub layout-over : (n : ℕ) (es : Layout) (h : Option Layout) (out : List ℕ) �
 unfolding withLayout withNumbers
 layout-over n es none out p q = refl
 layout-over n es (some fs) out p q =
-    filled-over 2 (layoutNumbers es) (layoutNumbers fs) out (omega (arith, length-layoutNumbers es, length-layoutNumbers fs))
+    filled-over 2 (layoutNumbers es) (layoutNumbers fs) out (omega (arith, length-numbers es, length-numbers fs))
 
 -- What is held later, written over what was held earlier.
 pub layout-after : (n : ℕ) (g h : Option Layout) (out : List ℕ) → Entries n g → Entries n h → (g ≡ none → h ≡ none)
@@ -53,4 +46,4 @@ layout-after n (some es) h out p q f = layout-over n es h out p q
 pub length-withLayout : (n : ℕ) (h : Option Layout) (out : List ℕ) → Entries n h → 4 * n ≤ numbersIn out → length (withLayout h out) ≡ length out
 unfolding withLayout withNumbers numbersIn count
 length-withLayout n none out p l = refl
-length-withLayout n (some es) out p l = length-filled 2 (layoutNumbers es) out (omega (arith, length-layoutNumbers es))
+length-withLayout n (some es) out p l = length-filled 2 (layoutNumbers es) out (omega (arith, length-numbers es))

@@ -5,7 +5,6 @@ use mathlib.Core.Path.{_≡_, refl, _∙_}
 use Prim.Native.Nat.{ℕ, _*_, _/_, _≤_, _<_}
 use native.Mathlib.Nat.{div-lt-iff-lt-mul, le-mul-of-pos-right}
 use native.Mathlib.Omega.{arith}
-use borrow.Author.Tests.{lt-ltb}
 use lib.Dec.{ltb}
 use lib.IntN.{ℤ, pos, negsuc}
 use lib.Signed.{leZ, _≤ℤ_}
@@ -17,10 +16,10 @@ use Rattle.model.specs.Candidate.{placedVertices, onBoard, admitted, isCandidat
 use Rattle.model.specs.Content.{Vertex, Kind, Board, Job, kindAt, kindCount}
 use Rattle.model.specs.Grid.{Placement, columns, rows, dots, placementOf, numberLimit, setWords}
 use Rattle.model.specs.Layout.{Entry, Layout, entryOf, entryKind, isEntry, entryExtent, layoutLength}
-use Rattle.model.specs.Services.{entryNumbers}
 use Rattle.model.specs.Lists.{all, largest, largestFrom, largestZ}
-use Rattle.model.proofs.Lists.{and-left, and-right, and-both, and-four}
+use Rattle.model.proofs.Lists.{and-left, and-right, and-four}
 use Rattle.model.proofs.Numbers.{rows-positive, placement-rotation}
+use Rattle.model.proofs.ReadBack.{Small}
 use Rattle.model.proofs.Search.Pieces.{admitted-parts, entry-kind}
 
 -- ---- Ends
@@ -102,28 +101,24 @@ pub limit-words : (b : Board) → numberLimit b ≤ setWords b * 64
 unfolding numberLimit setWords
 limit-words b = omega arith
 
--- The four numbers of a candidate's entry.
-pub record SmallEntry (j : Job) (e : Entry) : Type 0 where
-  pub kind-small : e .kind < kindCount j
-  pub column-small : e .place .column < 1024
-  pub row-small : e .place .row < 1024
-  pub rotation-small : e .place .rotation < 4
+-- What bounds the four numbers of a candidate's entry, where there are at most 1024 dots.
+pub record EntryBounds (j : Job) (e : Entry) : Type 0 where
+  pub kind-below : e .kind < kindCount j
+  pub column-below : e .place .column < 1024
+  pub row-below : e .place .row < 1024
+  pub rotation-below : e .place .rotation < 4
 
-pub candidate-small : (j : Job) (t n : ℕ) → dots (j .sheet) ≤ 1024 → isCandidate j t n ≡ true → SmallEntry j (entryOf j t n)
+pub candidate-bounds : (j : Job) (t n : ℕ) → dots (j .sheet) ≤ 1024 → isCandidate j t n ≡ true → EntryBounds j (entryOf j t n)
 unfolding dots isCandidate entryOf columns
-candidate-small j t n d e =
+candidate-bounds j t n d e =
     let parts = admitted-parts j (kindAt j t) (placementOf (j .sheet) n) e in
     record {
-      kind-small = entry-kind j (entryOf j t n) (candidate-entry j t n ∙ e);
-      column-small = omega (arith, parts .0, le-mul-of-pos-right (columns (j .sheet)) (rows-positive (j .sheet)));
-      row-small = omega (arith, parts .1, le-mul-of-pos-right {m = columns (j .sheet)} (rows (j .sheet)) (omega arith));
-      rotation-small = placement-rotation (j .sheet) n;
+      kind-below = entry-kind j (entryOf j t n) (candidate-entry j t n ∙ e);
+      column-below = omega (arith, parts .0, le-mul-of-pos-right (columns (j .sheet)) (rows-positive (j .sheet)));
+      row-below = omega (arith, parts .1, le-mul-of-pos-right {m = columns (j .sheet)} (rows (j .sheet)) (omega arith));
+      rotation-below = placement-rotation (j .sheet) n;
     }
 
--- Each fits two bytes.
-pub entry-fits : (j : Job) (e : Entry) → kindCount j ≤ 65536 → SmallEntry j e → all (λ x. ltb x 65536) (entryNumbers e) ≡ true
-unfolding all entryNumbers
-entry-fits j e k s =
-    and-both _ _ (lt-ltb (e .kind) 65536 (omega arith))
-    (and-both _ _ (lt-ltb (e .place .column) 65536 (omega arith))
-    (and-both _ _ (lt-ltb (e .place .row) 65536 (omega arith)) (and-both _ _ (lt-ltb (e .place .rotation) 65536 (omega arith)) refl)))
+-- So each fits two bytes.
+pub bounds-small : (j : Job) (e : Entry) → kindCount j ≤ 65536 → EntryBounds j e → Small e
+bounds-small j e k b = record { kind-fits = omega arith; column-fits = omega arith; row-fits = omega arith; rotation-fits = omega arith }

@@ -16,7 +16,7 @@ use Rattle.model.specs.Grid.{Placement, columns, rows, dots, numberOf, p
 use Rattle.model.specs.Layout.{Entry, entryOf, entryNumber, entryKind, isEntry}
 use Rattle.model.specs.Lists.{all, countOf, sum, rising, below}
 use Rattle.model.specs.Search.{pieces, candidateTable}
-use Rattle.model.proofs.Lists.{and-four, length-below, true-or-false, not-both}
+use Rattle.model.proofs.Lists.{and-four, length-below, getD-map-below, true-or-false, not-both}
 use Rattle.model.proofs.Numbers.{number-of-placement, placement-of-number}
 use Rattle.model.proofs.Sorted.{Rising, Ascending, mem-rising, rising-mem, mem-keep, keep-mem, keep-rises, countOf-none, mem-blocks, blocks-ascend, count-blocks, length-blocks}
 
@@ -33,13 +33,6 @@ module _ {A : Type 0} where
   unfolding rising
   map-rising-suc f i zero = refl
   map-rising-suc f i (suc k) = ap {B = List A} (λ (r : List A). f (suc i) ∷ r) (map-rising-suc f (suc i) k)
-
-  -- Element t of a function over numbers that rise.
-  getD-map-rising : (f : ℕ → A) (i k t : ℕ) (d : A) → t < k → getD (map f (rising i k)) t d ≡ f (i + t)
-  unfolding rising
-  getD-map-rising f i zero t d h = absurd (not-suc-le-zero h)
-  getD-map-rising f i (suc k) zero d h = ap f (sym (add-zero i))
-  getD-map-rising f i (suc k) (suc t) d h = getD-map-rising f (suc i) k t d (le-of-suc-le-suc h) ∙ ap f (suc-add i t ∙ sym (add-suc i t))
 
 -- A function of each element, by the element's index.
 map-by-index : {A : Type 0} (f : A → ℕ) (xs : List A) (d : A) → map (λ t. f (getD xs t d)) (rising 0 (length xs)) ≡ map f xs
@@ -73,8 +66,8 @@ module _ (j : Job) where
 
   -- The table has the candidates of each type, and of nothing else.
   pub table-at : (t : ℕ) → t < kindCount j → getD (candidateTable j) t [] ≡ candidates j t
-  unfolding candidateTable below
-  table-at t h = getD-map-rising (candidates j) 0 (kindCount j) t [] h ∙ ap (candidates j) (zero-add t)
+  unfolding candidateTable
+  table-at t h = getD-map-below (candidates j) (kindCount j) t [] h
 
   table-beyond : (t : ℕ) → kindCount j ≤ t → getD (candidateTable j) t [] ≡ []
   unfolding candidateTable
@@ -109,7 +102,7 @@ module _ (j : Job) where
       (ltb-true _ _ (parts .0), ltb-true _ _ (parts .1), parts .2)
 
   -- A mask of four bits allows no turn but the four.
-  few-turns : (w i : ℕ) → w < 16 → testBit w i ≡ true → i < 4
+  pub few-turns : (w i : ℕ) → w < 16 → testBit w i ≡ true → i < 4
   unfolding testBit
   few-turns w i h e = ⊎-elim (λ q. ltb-true i 4 q) (λ q. absurd (not-both e (none (ltb-false i 4 q)))) (true-or-false (ltb i 4))
     where

@@ -1,0 +1,58 @@
+-- The walk under a budget: when it is stopped, how many steps it takes, and what it then holds.
+use mathlib.Core.Bool.{Bool, true, false}
+use mathlib.Core.Logic.{_↔_}
+use mathlib.Core.Option.{Option, none, some}
+use mathlib.Core.Path.{_≡_, ap, _∙_, subst}
+use Prim.Native.Nat.{ℕ, _≤_, _<_, min}
+use native.Mathlib.Nat.{min-comm}
+use borrow.Author.Tests.{ltb-true, ltb-false, lt-ltb, le-ltb}
+use lib.Dec.{ltb}
+use lib.ListN.{length, take, length-take}
+use lib.Seq.{take-all}
+use Rattle.model.specs.Content.{Job, pieceCount}
+use Rattle.model.specs.Demand3.{Completed, BestOf}
+use Rattle.model.specs.Layout.{Layout, Passes, layoutLength}
+use Rattle.model.specs.Search.{Step, stepsFrom, stepsNeeded, isStopped, stepsTaken, bestAfter, held}
+use Rattle.model.proofs.Search.Completions.{NoShorter}
+use Rattle.model.proofs.Search.Pieces.{Sensible}
+use Rattle.model.proofs.Search.Walk.{Laid, completed-laid, completed-no-shorter, best-of-steps}
+
+module _ (j : Job) (begin : Option Layout) (budget : ℕ) where
+  -- Stopped exactly if more steps are needed than the budget.
+  pub stopped-exactly : (isStopped j begin budget ≡ true) ↔ (budget < stepsNeeded j begin)
+  unfolding isStopped
+  stopped-exactly = (ltb-true budget (stepsNeeded j begin), lt-ltb budget (stepsNeeded j begin))
+
+  pub not-stopped-exactly : (isStopped j begin budget ≡ false) ↔ (stepsNeeded j begin ≤ budget)
+  unfolding isStopped
+  not-stopped-exactly = (ltb-false budget (stepsNeeded j begin), le-ltb budget (stepsNeeded j begin))
+
+  -- The steps taken are "as many as it needs, or the whole budget if that is less".
+  pub steps-taken : length (stepsTaken j begin budget) ≡ min (stepsNeeded j begin) budget
+  unfolding stepsTaken stepsNeeded
+  steps-taken = length-take budget (stepsFrom j begin) ∙ min-comm budget (length (stepsFrom j begin))
+
+  -- Where it is not stopped, it takes all its steps, and holds what the whole walk holds.
+  pub all-taken : isStopped j begin budget ≡ false → stepsTaken j begin budget ≡ stepsFrom j begin
+  unfolding stepsTaken stepsNeeded
+  all-taken e = take-all budget (stepsFrom j begin) (not-stopped-exactly .0 e)
+
+  pub all-held : isStopped j begin budget ≡ false → held j begin budget ≡ bestAfter begin (stepsFrom j begin)
+  unfolding held
+  all-held e = ap (bestAfter begin) (all-taken e)
+
+module _ (j : Job) (ok : Sensible j) (budget : ℕ) where
+  -- What is held under a budget is "the best layout of the steps taken".
+  pub held-best : (es : Layout) → held j none budget ≡ some es → BestOf j (stepsTaken j none budget) es
+  unfolding held stepsTaken
+  held-best es e = best-of-steps j ok budget es e
+
+  -- It passes and has N entries.
+  pub held-laid : (es : Layout) → held j none budget ≡ some es → Laid j es
+  unfolding held stepsTaken
+  held-laid es e = completed-laid j ok none budget es (held-best es e .completed) .0
+
+  -- Where nothing is held, the steps taken completed nothing.
+  pub held-none : held j none budget ≡ none → (es : Layout) → Completed (stepsTaken j none budget) es → ⊥
+  unfolding held stepsTaken
+  held-none e es c = subst (NoShorter j (layoutLength j es)) e (completed-no-shorter j ok none budget es c)
