@@ -20,6 +20,11 @@ unfolding layoutNumbers concat
 layoutNumbers-append [] fs = refl
 layoutNumbers-append (e ∷ es) fs = rw (layoutNumbers-append es fs) (sym (append-assoc (entryNumbers e) (layoutNumbers es) (layoutNumbers fs)))
 
+-- Nothing held leaves the numbers as they are.
+pub layout-none : (out : List ℕ) → withLayout none out ≡ out
+unfolding withLayout
+layout-none out = refl
+
 -- Numbers written over as many others.
 pub filled-over : (k : ℕ) (ns ms s : List ℕ) → length ns ≡ length ms → filled k ns (filled k ms s) ≡ filled k ns s
 unfolding filled

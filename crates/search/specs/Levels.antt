@@ -1,13 +1,13 @@
 -- The levels of the search: level l is the piece to be placed when l pieces are placed.
 use mathlib.Core.List.{List, [], _∷_}
-use mathlib.Core.Option.{none}
+use mathlib.Core.Option.{Option, none}
 use Prim.Native.Nat.{ℕ, zero, suc}
 use lib.ListN.{getD, drop}
 use Rattle.model.specs.Content.{Job}
 use Rattle.model.specs.Layout.{Layout, entryOf}
 use Rattle.model.specs.Search.{pieces}
 use Rattle.search.specs.Spending.{Spent}
-use Rattle.search.specs.Steps.{goOnSpent}
+use Rattle.search.specs.Steps.{goOnSpent, tryFromSpent}
 
 -- The kind of piece l.
 unfoldable pub pieceKind : Job → ℕ → ℕ
@@ -21,6 +21,14 @@ piecesFrom j l = drop l (pieces j)
 unfoldable pub placedBelow : Job → (ℕ → ℕ) → ℕ → Layout
 placedBelow j numbers zero = []
 placedBelow j numbers (suc l) = entryOf j (pieceKind j l) (numbers l) ∷ placedBelow j numbers l
+
+-- What the walk does at level l if it tries the candidates of piece l from number n on, with k of the budget left and h held.
+unfoldable pub tryLevel : Job → (ℕ → ℕ) → ℕ → ℕ → ℕ → Option Layout → Spent
+tryLevel j numbers l n k h = tryFromSpent j (pieceKind j l) (piecesFrom j (suc l)) (placedBelow j numbers l) n k h
+
+-- What it does once l pieces are placed, the latest just counted.
+unfoldable pub goOnLevel : Job → (ℕ → ℕ) → ℕ → ℕ → Option Layout → Spent
+goOnLevel j numbers l k h = goOnSpent j (piecesFrom j l) (placedBelow j numbers l) k h
 
 -- The whole walk under a budget, with nothing held at its start.
 unfoldable pub walkSpent : Job → ℕ → Spent
