@@ -43,7 +43,7 @@ countOf-below p n m l f =
     ∙ countOf-append p (rising 0 n) (rising (0 + n) (m - n))
     ∙ rw (countOf-none p (rising (0 + n) (m - n)) (λ i h. f i (omega (arith, mem-rising (0 + n) (m - n) i h)))) (add-zero (countOf p (rising 0 n)))
 
--- Tests that agree on the numbers below n hold of all of them alike.
+-- Tests that agree on numbers hold of all of them alike: of the n from i on, and of those below n.
 pub all-same : (p q : ℕ → Bool) (i n : ℕ) → ((m : ℕ) → i ≤ m → m < i + n → p m ≡ q m) → all p (rising i n) ≡ all q (rising i n)
 unfolding all rising
 all-same p q i zero f = refl
@@ -60,6 +60,7 @@ below-suc l =
     let e : suc l ≡ l + 1 = omega arith in
     ap (rising 0) e ∙ rising-append 0 l 1 ∙ ap (λ (n : ℕ). rising 0 l ++ n ∷ []) (zero-add l)
 
+-- Of no number nothing holds.
 no-numbers : (q : ℕ → Bool) → 0 ≡ countOf q (below 0)
 unfolding countOf below rising
 no-numbers q = refl

@@ -24,6 +24,7 @@ use Rattle.model.proofs.Search.Pieces.{admitted-parts, entry-kind}
 
 -- ---- Ends
 
+-- The largest x of corners on the board is at most L.
 natural-le : (z : ℤ) (n : ℕ) → z ≤ℤ pos n → natural z ≤ n
 unfolding natural
 natural-le (pos m) n h = ≤ℤ-pos h
@@ -69,11 +70,12 @@ pub entry-extent : (j : Job) (e : Entry) → isEntry j e ≡ true → entryExten
 unfolding isEntry entryExtent
 entry-extent j e h = admitted-extent j (entryKind j e) (e .place) h
 
--- The entry of a candidate's number is a candidate.
+-- The entry of a number is a candidate exactly if the number is one's.
 pub candidate-entry : (j : Job) (t n : ℕ) → isEntry j (entryOf j t n) ≡ isCandidate j t n
 unfolding isEntry entryKind entryOf isCandidate
 candidate-entry j t n = refl
 
+-- So a candidate ends at L or before.
 pub candidate-extent : (j : Job) (t n : ℕ) → isCandidate j t n ≡ true → entryExtent j (entryOf j t n) ≤ j .sheet .L
 candidate-extent j t n h = entry-extent j (entryOf j t n) (candidate-entry j t n ∙ h)
 
@@ -108,6 +110,7 @@ pub record EntryBounds (j : Job) (e : Entry) : Type 0 where
   pub row-below : e .place .row < 1024
   pub rotation-below : e .place .rotation < 4
 
+-- They hold of every candidate.
 pub candidate-bounds : (j : Job) (t n : ℕ) → dots (j .sheet) ≤ 1024 → isCandidate j t n ≡ true → EntryBounds j (entryOf j t n)
 unfolding dots isCandidate entryOf columns
 candidate-bounds j t n d e =

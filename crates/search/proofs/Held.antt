@@ -16,6 +16,7 @@ use Rattle.search.proofs.Steps.{goes-back, goes-deep, tries-live}
 
 -- ---- None held at the end is none held at the start
 
+-- Of two, of one step, of steps.
 latest-none : (h g : Option Layout) → latest h g ≡ none → h ≡ none
 unfolding latest
 latest-none h none e = e
@@ -27,6 +28,7 @@ spend-none k h [] e = e
 spend-none zero h (s ∷ ss) e = e
 spend-none (suc k) h (s ∷ ss) e = latest-none h (s .completes) (spend-none k (latest h (s .completes)) ss e)
 
+-- Of the walk of one piece, and of what follows a candidate taken.
 pub try-none : (j : Job) (t : ℕ) (left : List ℕ) (placed : Layout) (n k : ℕ) (h : Option Layout)
     → tryFromSpent j t left placed n k h .held ≡ none → h ≡ none
 unfolding tryFromSpent
@@ -38,6 +40,7 @@ goOn-none j left placed k h e = latest-none h (completed left placed) (spend-non
 
 -- ---- Entries
 
+-- The later of two layouts with n entries, if there is one, has n entries.
 latest-entries : (n : ℕ) (h g : Option Layout) → Entries n h → Entries n g → Entries n (latest h g)
 unfolding latest
 latest-entries n h none p q = p
@@ -65,6 +68,7 @@ completed-entries n [] placed e = length-reverse placed ∙ omega arith
 completed-entries n (t ∷ left) placed e = tt
 
 module _ (j : Job) (cs : List (List ℕ)) (n : ℕ) where
+  -- So has each that the walk completes, if the pieces left and the pieces placed are n.
   goOn-steps-entries : (left : List ℕ) (placed : Layout) (best : Option ℕ) → AllEntries n (searchPieces j cs left placed best .steps)
       → AllEntries n (goOn j cs left placed best .steps)
   goOn-steps-entries left placed best f = go (forwardCheck j cs left placed best) refl

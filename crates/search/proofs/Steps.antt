@@ -34,6 +34,7 @@ rising-next n m h =
     let e : m - n ≡ suc (m - suc n) = omega arith in
     ap (rising n) e
 
+-- And from m on.
 rising-past : (n m : ℕ) → m ≤ n → rising n (m - n) ≡ []
 unfolding rising
 rising-past n m h =

@@ -30,7 +30,7 @@ unfoldable pub tryFrom : Job → ℕ → List ℕ → Layout → Option ℕ → 
 tryFrom j t left placed best n =
     tryCandidates j (candidateTable j) (searchPieces j (candidateTable j) left) t left (remaining j t n) placed best
 
--- The same under a budget of which k is left, with h held. The latest piece placed may complete a layout.
+-- Both under a budget of which k is left, with h held. The latest piece placed may complete a layout.
 unfoldable pub goOnSpent : Job → List ℕ → Layout → ℕ → Option Layout → Spent
 goOnSpent j left placed k h = spend k (latest h (completed left placed)) (goOn j (candidateTable j) left placed (lengthOf j h) .steps)
 
