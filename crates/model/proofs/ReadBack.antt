@@ -16,7 +16,7 @@ use Rattle.model.specs.Services.{withNumbers, entryIn, layoutIn, entryNu
 use Rattle.model.proofs.Lists.{length-below, getD-map-below}
 
 -- A layout is four numbers for each entry.
-length-numbers : (es : Layout) → length (layoutNumbers es) ≡ length es * 4
+pub length-numbers : (es : Layout) → length (layoutNumbers es) ≡ length es * 4
 unfolding layoutNumbers concat entryNumbers
 length-numbers [] = refl
 length-numbers (e ∷ es) = let ih : length (layoutNumbers es) ≡ length es * 4 = length-numbers es in omega arith

@@ -20,7 +20,7 @@ use Rattle.model.proofs.Search.Completions.{length-cons, beats-le, live
 
 module _ (j : Job) where
   -- A number above a copy that is above the previous one is above that one too.
-  above-through : (es : Layout) (e f : Entry) → e .kind ≡ f .kind → entryNumber j e < entryNumber j f
+  pub above-through : (es : Layout) (e f : Entry) → e .kind ≡ f .kind → entryNumber j e < entryNumber j f
       → abovePrevious j es e ≡ true → abovePrevious j es f ≡ true
   unfolding abovePrevious
   above-through [] e f k l h = refl

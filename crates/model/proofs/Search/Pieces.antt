@@ -48,7 +48,7 @@ module _ (j : Job) where
   -- ---- Candidates
 
   -- The table has the candidates of each type, and of nothing else.
-  table-at : (t : ℕ) → t < kindCount j → getD (candidateTable j) t [] ≡ candidates j t
+  pub table-at : (t : ℕ) → t < kindCount j → getD (candidateTable j) t [] ≡ candidates j t
   unfolding candidateTable
   table-at t h = getD-map-below (candidates j) (kindCount j) t [] h
 
