@@ -1,14 +1,14 @@
 -- Completions: the candidate numbers that complete what is placed, whatever the best; and what makes a candidate live.
 use mathlib.Core.Bool.{Bool, true, false, not, _&&_, _||_}
 use mathlib.Core.List.{List, [], _∷_, _++_, reverse, reverseAux, List·Memᴰ}
-use mathlib.Core.Logic.{_⊎_, inl, inr}
+use mathlib.Core.Logic.{_⊎_, inl, inr, ⊎-elim}
 use mathlib.Core.Option.{Option, none, some}
 use mathlib.Core.Path.{_≡_, refl, _∙_}
 use Prim.Native.Nat.{ℕ, max, _≤_, _<_}
 use native.Mathlib.Omega.{arith}
-use borrow.Author.Tests.{ltb-true, ltb-false, lt-ltb}
-use lib.Dec.{ltb}
+use borrow.Author.Tests.{ltb-true, lt-ltb}
 use lib.ListN.{getD}
+use Rattle.words.proofs.Cases.{le-or-lt}
 use Rattle.model.specs.Content.{Job}
 use Rattle.model.specs.Layout.{Entry, Layout, entryOf, entryExtent, conflict, layoutLength}
 use Rattle.model.specs.Lists.{any, largest}
@@ -22,7 +22,7 @@ pub length-cons : (j : Job) (e : Entry) (es : Layout) → layoutLength j (e ∷ 
 unfolding layoutLength largest
 length-cons j e es = refl
 
--- A layout and the same layout the other way round have one length.
+-- The length of a layout laid the other way round in front of another.
 pub length-reverseAux : (j : Job) (es fs : Layout) → layoutLength j (reverseAux es fs) ≡ max (layoutLength j es) (layoutLength j fs)
 unfolding layoutLength largest
 length-reverseAux j [] fs = omega arith
@@ -52,11 +52,7 @@ NoShorter j n (some es) = layoutLength j es ≤ n
 -- One of the two is the case.
 pub shorter-or-not : (j : Job) (n : ℕ) (h : Option Layout) → Shorter j n h ⊎ NoShorter j n h
 shorter-or-not j n none = inl tt
-shorter-or-not j n (some es) = go (ltb n (layoutLength j es)) refl
-  where
-    go : (b : Bool) → ltb n (layoutLength j es) ≡ b → (n < layoutLength j es) ⊎ (layoutLength j es ≤ n)
-    go true e = inl (ltb-true _ _ e)
-    go false e = inr (ltb-false _ _ e)
+shorter-or-not j n (some es) = ⊎-elim (λ l. inr l) (λ l. inl l) (le-or-lt (layoutLength j es) n)
 
 -- A length below that of the layout held is below one that is not.
 pub shorter-lt : (j : Job) (a b : ℕ) (h : Option Layout) → Shorter j a h → NoShorter j b h → a < b
@@ -129,8 +125,8 @@ free-tail j f es e p = rw (free-head j f es e p) at p
 
 -- ---- Completions
 
--- Candidate n of type t may follow what is placed, and the numbers complete what is then placed over the pieces left. Each number is one
--- of its piece's candidates, above the previous copy, and in conflict with nothing placed; the best has no part in it.
+-- The numbers complete what is placed over the pieces left: there is one for each piece, each is one of its piece's candidates, above the
+-- previous copy, and in conflict with nothing placed. The best has no part in it.
 abbrev pub Completes : Job → List (List ℕ) → List ℕ → Layout → List ℕ → Type 0
 Completes j cs [] es [] = Unit {0}
 Completes j cs [] es (n ∷ ns) = ⊥

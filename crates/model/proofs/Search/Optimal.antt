@@ -1,5 +1,5 @@
 -- One induction over the walk: what it completes falls in length, and what it holds at its end is the first of the shortest completions.
-use mathlib.Core.Bool.{Bool, true, false}
+use mathlib.Core.Bool.{true, false}
 use mathlib.Core.List.{List, [], _∷_, _++_, reverse, List·Memᴰ, List·Memᴰ·head, List·Memᴰ·tail, List·Memᴰ·cases-cons, List·Memᴰ·not-nil}
 use mathlib.Core.Logic.{_⊎_, inl, inr, ⊎-elim}
 use mathlib.Core.Option.{Option, none, some}
@@ -7,13 +7,11 @@ use mathlib.Core.Path.{_≡_, refl, sym, ap, _∙_, subst}
 use Prim.Native.Nat.{ℕ, _≤_, _<_}
 use native.Mathlib.Nat.{not-suc-le-zero}
 use native.Mathlib.Omega.{arith}
-use borrow.Author.Tests.{ltb-true, ltb-false}
-use lib.Dec.{ltb}
 use lib.ListN.{length, getD}
 use Rattle.model.specs.Content.{Job}
 use Rattle.model.specs.Layout.{Entry, Layout, entryOf, layoutLength}
 use Rattle.model.specs.Search.{Step, Searched, step, searched, then, live, forwardCheck, completed, tryCandidates, searchPieces, searchFrom, pieces, lengthOf, latest, bestAfter}
-use Rattle.words.proofs.Cases.{true-or-false}
+use Rattle.words.proofs.Cases.{true-or-false, le-or-lt}
 use Rattle.model.proofs.Lists.{not-both}
 use Rattle.model.proofs.Sorted.{Above, Rising}
 use Rattle.model.proofs.Search.Completions.{length-reverse, Shorter, NoShorter, shorter-or-not, shorter-lt, shorter-le, beats-shorter, shorter-beats, live-parts, live-first, Completes, CompletesWith, CompletesFrom, laid}
@@ -85,7 +83,7 @@ none-shorter j P lay h f = stays refl (λ ns p. ⊎-elim (λ s. absurd (f ns p s
 
 -- ---- One candidate, and then the others
 
--- Lengths beside a layout held that was laid the other way round.
+-- A length below that of a layout held that was laid the other way round.
 shorter-laid : (j : Job) (a : ℕ) (h : Option Layout) (es : Layout) → h ≡ some (reverse es) → Shorter j a h → a < layoutLength j es
 shorter-laid j a h es e s = rw (length-reverse j es) at (subst (Shorter j a) e s)
 
@@ -95,11 +93,7 @@ noShorter-laid j a h es e s = rw (length-reverse j es) at (subst (NoShorter j a)
 
 -- At most is below or equal.
 lt-or-eq : (a b : ℕ) → a ≤ b → (a < b) ⊎ (a ≡ b)
-lt-or-eq a b l = go (ltb a b) refl
-  where
-    go : (c : Bool) → ltb a b ≡ c → (a < b) ⊎ (a ≡ b)
-    go true e = inl (ltb-true a b e)
-    go false e = inr (omega (arith, ltb-false a b e))
+lt-or-eq a b l = ⊎-elim (λ h. inr (omega arith)) (λ h. inl h) (le-or-lt b a)
 
 module _ (j : Job) (cs : List (List ℕ)) (t : ℕ) (ts : List ℕ) (es : Layout) where
   -- What holds of the completions that begin with n, and of those that begin with one of ns, holds of those that begin with one of n and ns.
@@ -111,6 +105,7 @@ module _ (j : Job) (cs : List (List ℕ)) (t : ℕ) (ts : List ℕ) (es : Layout
       go (inl e) = subst (λ (x : ℕ). C (x ∷ ms)) (sym e) (f ms (subst (λ (x : ℕ). CompletesWith j cs t ts es x ms) e (c .1)))
       go (inr d) = g (m ∷ ms) (d, c .1)
 
+  -- One candidate more takes away no completion.
   from-tail : (n : ℕ) (ns ms : List ℕ) → CompletesFrom j cs t ts ns es ms → CompletesFrom j cs t ts (n ∷ ns) es ms
   from-tail n ns (m ∷ ms) c = (List·Memᴰ·tail (c .0), c .1)
 
@@ -122,6 +117,7 @@ module _ (j : Job) (cs : List (List ℕ)) (t : ℕ) (ts : List ℕ) (es : Layout
   from-whole : (ms : List ℕ) → Completes j cs (t ∷ ts) es ms → CompletesFrom j cs t ts (getD cs t []) es ms
   from-whole (m ∷ ms) c = c
 
+  -- And the other way round.
   whole-from : (ms : List ℕ) → CompletesFrom j cs t ts (getD cs t []) es ms → Completes j cs (t ∷ ts) es ms
   whole-from (m ∷ ms) c = c
 

@@ -23,10 +23,11 @@ use Rattle.model.proofs.Search.Pieces.{length-pieces, table-rises}
 
 -- ---- Completed layouts
 
--- No step completes nothing; of more steps, the first completes the layout or one of the others.
+-- Without a step nothing is completed.
 completed-nil : (es : Layout) → Completed [] es → ⊥
 completed-nil es c = List·Memᴰ·not-nil (c .1)
 
+-- Of steps, the first completes the layout, or one of the others does.
 completed-cases : (s : Step) (ss : List Step) (es : Layout) → Completed (s ∷ ss) es → (s .completes ≡ some es) ⊎ Completed ss es
 completed-cases s ss es c =
     ⊎-elim (λ q. inl (sym (ap (λ (x : Step). x .completes) q) ∙ c .2)) (λ d. inr (c .0, d, c .2)) (List·Memᴰ·cases-cons (c .1))
@@ -52,7 +53,7 @@ module _ (j : Job) (G : Layout → Type 0) where
   falling-at h [] s after f = f .0
   falling-at h (r ∷ before) s after f = falling-at (latest h (r .completes)) before s after (f .1)
 
-  -- What is no shorter than what is held after a step is no shorter than what was held before it.
+  -- What is shorter than what is held after a step is shorter than what was held before it.
   latest-shorter : (n : ℕ) (h l : Option Layout) → Improves j G h l → Shorter j n (latest h l) → Shorter j n h
   unfolding latest
   latest-shorter n h none i s = s
