@@ -1,6 +1,6 @@
 -- The walk under a budget: when it is stopped, how many steps it takes, and what it then holds.
 use mathlib.Core.Bool.{true, false}
-use mathlib.Core.Logic.{_↔_}
+use mathlib.Core.Logic.{_↔_, _⊎_, inl, inr, ⊎-elim}
 use mathlib.Core.Option.{Option, none, some}
 use mathlib.Core.Path.{_≡_, ap, _∙_, subst}
 use Prim.Native.Nat.{ℕ, _≤_, _<_, min}
@@ -12,9 +12,9 @@ use Rattle.model.specs.Content.{Job}
 use Rattle.model.specs.Demand3.{Completed, BestOf}
 use Rattle.model.specs.Layout.{Layout, layoutLength}
 use Rattle.model.specs.Search.{stepsFrom, stepsNeeded, isStopped, stepsTaken, bestAfter, held}
-use Rattle.model.proofs.Search.Completions.{NoShorter}
+use Rattle.model.proofs.Search.Completions.{Shorter, NoShorter, shorter-not}
 use Rattle.model.proofs.Accepted.{Sensible}
-use Rattle.model.proofs.Search.Walk.{Laid, completed-laid, completed-no-shorter, best-of-steps}
+use Rattle.model.proofs.Search.Walk.{Laid, held-or-completed, completed-laid, completed-no-shorter, best-of-steps}
 
 module _ (j : Job) (begin : Option Layout) (budget : ℕ) where
   -- Stopped exactly if more steps are needed than the budget.
@@ -57,3 +57,22 @@ module _ (j : Job) (ok : Sensible j) (budget : ℕ) where
   pub held-none : held j none budget ≡ none → (es : Layout) → Completed (stepsTaken j none budget) es → ⊥
   unfolding held stepsTaken
   held-none e es c = subst (NoShorter j (layoutLength j es)) e (completed-no-shorter j ok none budget es c)
+
+  -- With a best to begin with, under a budget: the steps taken complete none and it stays, or they complete some, all of which pass and are
+  -- shorter than it, and their best is held.
+  pub held-from : (begin : Option Layout)
+      → ((held j begin budget ≡ begin) × ((es : Layout) → Completed (stepsTaken j begin budget) es → ⊥))
+      ⊎ ((es : Layout) × (held j begin budget ≡ some es) × BestOf j (stepsTaken j begin budget) es × Laid j es × Shorter j (layoutLength j es) begin)
+  unfolding held stepsTaken
+  held-from begin =
+      ⊎-elim
+      (λ q. inl (q, λ es c. shorter-not j _ begin (completed-laid j ok begin budget es c .1) (subst (NoShorter j (layoutLength j es)) q (completed-no-shorter j ok begin budget es c))))
+      (λ r.
+      inr (
+        r .0,
+        r .2,
+        record { completed = r .1; shortest = λ fs c. subst (NoShorter j (layoutLength j fs)) (r .2) (completed-no-shorter j ok begin budget fs c) },
+        completed-laid j ok begin budget (r .0) (r .1) .0,
+        completed-laid j ok begin budget (r .0) (r .1) .1,
+      ))
+      (held-or-completed begin (stepsTaken j begin budget))

@@ -94,7 +94,7 @@ module _ (j : Job) (G : Layout → Type 0) where
       (falling-shortest (latest h (r .completes)) ss (f .1) es) (completed-cases r ss es c)
 
 -- What is held after steps was held before them, or one of them completed it.
-held-or-completed : (h : Option Layout) (ss : List Step) → (bestAfter h ss ≡ h) ⊎ ((es : Layout) × Completed ss es × (bestAfter h ss ≡ some es))
+pub held-or-completed : (h : Option Layout) (ss : List Step) → (bestAfter h ss ≡ h) ⊎ ((es : Layout) × Completed ss es × (bestAfter h ss ≡ some es))
 unfolding bestAfter latest
 held-or-completed h [] = inl refl
 held-or-completed h (s ∷ ss) =
