@@ -21,7 +21,11 @@ same-length c = omega arith
 
 returns : tie.Need-returns
 unfolding changed
-returns c = cc
+returns c =
+    let put = c .before .before in
+    let bit = put .before in
+    let get = bit .before .before in
+    rw (put .put-u64 .ensures, bit .assign-bit .ensures, get .get-u64 .ensures)
 
 pub assign-spec : {M : Type 1} → statement M
 assign-spec =

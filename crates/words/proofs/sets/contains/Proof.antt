@@ -15,7 +15,7 @@ test-bit-requires c κs = omega arith
 
 returns : tie.Need-returns
 unfolding member
-returns c = cc
+returns c = rw (c .test-bit .ensures, c .before .get-u64 .ensures)
 
 pub contains-spec : {M : Type 1} → statement M
 contains-spec = tie.close (tie.spec mul-get-u64 get-u64-requires test-bit-requires returns)

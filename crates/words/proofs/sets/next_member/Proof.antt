@@ -1,6 +1,6 @@
 -- `words::sets::next_member` meets its contract. The invariant: the numbers passed are no members.
-use mathlib.Core.Path.{_≡_, refl, sym, _∙_}
-use Prim.Native.Nat.{_*_, _-_, _/_, _%_, _^_}
+use mathlib.Core.Path.{_≡_, refl, sym, ap, _∙_}
+use Prim.Native.Nat.{ℕ, _*_, _-_, _/_, _%_, _^_}
 use native.Mathlib.Omega.{arith}
 use Rattle.words.specs.Number.{numberAt}
 use Rattle.words.specs.Sets.{nextMember}
@@ -42,8 +42,10 @@ returns c =
     let s = known .before .args .s .now in
     let at = head .loop .at in
     let words = known .before .args .words in
-    let rest : numberAt 8 s (at / 64 * 8) / 2 ^ (at % 64) ≡ 0 → ⊥ = λ z. c .before .if1 .taken (cc) in
-    cc (next-here s (words * 64) at words (λ i. known .shared-slice-known .given i .fits) refl (omega arith) rest)
+    let word = c .before .before .get-u64 .ensures in
+    let rest : numberAt 8 s (at / 64 * 8) / 2 ^ (at % 64) ≡ 0 → ⊥ = λ z. c .before .if1 .taken (ap (λ (w : ℕ). w / 2 ^ (at % 64)) word ∙ z) in
+    rw (c .lowest-bit .ensures .0, word)
+    (sym (head .loop .inv ∙ next-here s (words * 64) at words (λ i. known .shared-slice-known .given i .fits) refl (omega arith) rest))
 
 add-at : tie.Need-add-at Inv-loop μ-loop
 add-at c = omega arith
@@ -60,7 +62,8 @@ loop-again c =
     let s = head .before .before .args .s .now in
     let at = head .loop .at in
     let words = head .before .before .args .words in
-    let rest : numberAt 8 s (at / 64 * 8) / 2 ^ (at % 64) ≡ 0 = cc in
+    let word = c .before .get-u64 .ensures in
+    let rest : numberAt 8 s (at / 64 * 8) / 2 ^ (at % 64) ≡ 0 = sym (ap (λ (w : ℕ). w / 2 ^ (at % 64)) word) ∙ c .if1 .left in
     head .loop .inv ∙ next-word s (words * 64) at words refl (omega arith) rest
 
 returns-2 : tie.Need-returns-2 Inv-loop μ-loop
