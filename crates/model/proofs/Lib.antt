@@ -5,4 +5,6 @@ pub mod Passing
 pub mod Sorted
 pub mod Accepted
 pub mod ReadBack
+pub mod Permuted
+pub mod ClassOrder
 pub mod Search

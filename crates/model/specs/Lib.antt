@@ -12,5 +12,6 @@ pub mod Answers
 pub mod Services
 pub mod Demand3
 pub mod Output
+pub mod ClassOrder
 pub mod Opened
 pub mod Boards
