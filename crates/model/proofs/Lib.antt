@@ -4,3 +4,9 @@ pub mod Lists
 pub mod Numbers
 pub mod Passing
 pub mod Printing
+pub mod Sorted
+pub mod Accepted
+pub mod ReadBack
+pub mod Permuted
+pub mod ClassOrder
+pub mod Search

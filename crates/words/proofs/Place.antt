@@ -5,13 +5,13 @@ use mathlib.Core.List.{List, [], _∷_, _++_, append-assoc}
 use Prim.Native.Nat.{ℕ, zero, suc, _+_, _-_, _*_, _/_, _%_, _^_, _≤_, _<_}
 use native.Mathlib.Nat.{one-mul, mul-assoc, add-assoc, zero-add, add-sub-of-le, pow-succ', add-zero, suc-add, add-suc, mod-eq-of-lt}
 use native.Mathlib.Omega.{arith}
-use lib.ListN.{length, getD, take, drop, length-append, length-drop}
-use lib.Seq.{take-all, take-at, drop-at, length-take-le, drop-drop, getD-take, getD-drop, sets, sets-eq, take-nil}
+use lib.ListN.{length, getD, take, drop, length-append, length-drop, take-append-drop}
+use lib.Seq.{take-all, take-add, take-at, drop-at, length-take-le, drop-drop, getD-take, getD-drop, sets, sets-eq, take-nil}
 use Rattle.words.specs.Number.{value, bytes, numberAt, withNumber}
 use Rattle.words.specs.Bytes.{AreBytes}
 use Rattle.words.proofs.Cases.{le-or-lt}
-use Rattle.words.proofs.Lists.{getD-behind, getD-within}
-use Rattle.words.proofs.Value.{bytes-mod, bytes-add, length-bytes, bytes-are, value-bytes}
+use Rattle.words.proofs.Lists.{bytes-take, bytes-drop, getD-behind, getD-within}
+use Rattle.words.proofs.Value.{bytes-value, bytes-mod, bytes-add, length-bytes, bytes-are, value-bytes}
 
 -- ---- reading
 
@@ -160,3 +160,13 @@ withNumber-add j k s i n fits =
 pub withNumber-mod : (k : ℕ) (s : List ℕ) (i n : ℕ) → withNumber k s i (n % 256 ^ k) ≡ withNumber k s i n
 unfolding withNumber
 withNumber-mod k s i n = rw bytes-mod
+
+-- A write of the number that stands there changes nothing.
+pub withNumber-numberAt : (k : ℕ) (s : List ℕ) (i : ℕ) → AreBytes s → i + k ≤ length s → withNumber k s i (numberAt k s i) ≡ s
+unfolding withNumber numberAt
+withNumber-numberAt k s i h fits =
+    let xs : List ℕ = take k (drop i s) in
+    let long : length xs ≡ k = length-take-le k (drop i s) (rw length-drop (omega arith)) in
+    let same : bytes k (value xs) ≡ xs =
+    subst (λ (n : ℕ). bytes n (value xs) ≡ xs) long (bytes-value xs (bytes-take k (drop i s) (bytes-drop i s h))) in
+    rw (same, ← take-add) (take-append-drop (i + k) s)

@@ -1,6 +1,6 @@
 // Bits of a word of 64 bits: a place is taken modulo 64, so that every place is one of the word.
 ghost use mathlib.Core.Path.{_≡_};
-ghost use Prim.Native.Nat.{_%_, _≤_};
+ghost use Prim.Native.Nat.{_%_, _^_, _≤_};
 ghost use lib.Count.{ones};
 ghost use Rattle.words.specs.Sets.{firstFrom};
 ghost use Rattle.words.specs.Bits.{testBit, withBit, withoutBit, assignedBit};
@@ -12,18 +12,25 @@ pub fn test_bit(w: u64, i: u64) -> bool
     (w >> (i % 64)) & 1 == 1
 }
 
+// The word whose only bit is bit i.
+fn one_bit(i: u64) -> u64
+    ensures { λ r. ⌜ r ≡ 2 ^ (i % 64) ⌝ }
+{
+    1 << (i % 64)
+}
+
 // w with bit i set.
 pub fn set_bit(w: u64, i: u64) -> u64
     ensures { λ r. ⌜ r ≡ withBit w (i % 64) ⌝ }
 {
-    w | (1 << (i % 64))
+    w | one_bit(i)
 }
 
 // w with bit i cleared.
 pub fn clear_bit(w: u64, i: u64) -> u64
     ensures { λ r. ⌜ r ≡ withoutBit w (i % 64) ⌝ }
 {
-    w & !(1 << (i % 64))
+    w & !one_bit(i)
 }
 
 // w with bit i set, or cleared.

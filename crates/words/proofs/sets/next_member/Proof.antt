@@ -1,7 +1,6 @@
 -- `words::sets::next_member` meets its contract. The invariant: the numbers passed are no members.
-use borrow.Author.Needs.{needs}
-use mathlib.Core.Path.{_≡_, refl, sym, _∙_}
-use Prim.Native.Nat.{_*_, _-_, _/_, _%_, _^_}
+use mathlib.Core.Path.{_≡_, refl, sym, ap, _∙_}
+use Prim.Native.Nat.{ℕ, _*_, _-_, _/_, _%_, _^_}
 use native.Mathlib.Omega.{arith}
 use Rattle.words.specs.Number.{numberAt}
 use Rattle.words.specs.Sets.{nextMember}
@@ -16,25 +15,25 @@ abbrev μ-loop : tie.MeasureT-loop
 μ-loop s words from limit at₀ at = words * 64 - at
 
 mul-limit : tie.Need-mul-limit Inv-loop μ-loop
-mul-limit c = search needs
+mul-limit c = omega arith
 
 loop-holds : tie.Need-loop-holds Inv-loop μ-loop
 loop-holds c = refl
 
 mul-get-u64 : tie.Need-mul-get-u64 Inv-loop μ-loop
-mul-get-u64 c = search needs
+mul-get-u64 c = omega arith
 
 get-u64-requires : tie.Need-get-u64-requires Inv-loop μ-loop
-get-u64-requires c κs = search needs
+get-u64-requires c κs = omega arith
 
 shr-rest : tie.Need-shr-rest Inv-loop μ-loop
-shr-rest c = search needs
+shr-rest c = omega arith
 
 lowest-bit-requires : tie.Need-lowest-bit-requires Inv-loop μ-loop
-lowest-bit-requires c κs = search needs
+lowest-bit-requires c κs = omega arith
 
 add-result : tie.Need-add-result Inv-loop μ-loop
-add-result c = search needs
+add-result c = omega arith
 
 returns : tie.Need-returns Inv-loop μ-loop
 returns c =
@@ -43,17 +42,19 @@ returns c =
     let s = known .before .args .s .now in
     let at = head .loop .at in
     let words = known .before .args .words in
-    let rest : numberAt 8 s (at / 64 * 8) / 2 ^ (at % 64) ≡ 0 → ⊥ = λ z. c .before .if1 .taken (cc) in
-    cc (next-here s (words * 64) at words (λ i. known .shared-slice-known .given i .fits) refl (omega arith) rest)
+    let word = c .before .before .get-u64 .ensures in
+    let rest : numberAt 8 s (at / 64 * 8) / 2 ^ (at % 64) ≡ 0 → ⊥ = λ z. c .before .if1 .taken (ap (λ (w : ℕ). w / 2 ^ (at % 64)) word ∙ z) in
+    rw (c .lowest-bit .ensures .0, word)
+    (sym (head .loop .inv ∙ next-here s (words * 64) at words (λ i. known .shared-slice-known .given i .fits) refl (omega arith) rest))
 
 add-at : tie.Need-add-at Inv-loop μ-loop
-add-at c = search needs
+add-at c = omega arith
 
 mul-at : tie.Need-mul-at Inv-loop μ-loop
-mul-at c = search needs
+mul-at c = omega arith
 
 loop-less : tie.Need-loop-less Inv-loop μ-loop
-loop-less c = search needs
+loop-less c = omega arith
 
 loop-again : tie.Need-loop-again Inv-loop μ-loop
 loop-again c =
@@ -61,7 +62,8 @@ loop-again c =
     let s = head .before .before .args .s .now in
     let at = head .loop .at in
     let words = head .before .before .args .words in
-    let rest : numberAt 8 s (at / 64 * 8) / 2 ^ (at % 64) ≡ 0 = cc in
+    let word = c .before .get-u64 .ensures in
+    let rest : numberAt 8 s (at / 64 * 8) / 2 ^ (at % 64) ≡ 0 = sym (ap (λ (w : ℕ). w / 2 ^ (at % 64)) word) ∙ c .if1 .left in
     head .loop .inv ∙ next-word s (words * 64) at words refl (omega arith) rest
 
 returns-2 : tie.Need-returns-2 Inv-loop μ-loop
