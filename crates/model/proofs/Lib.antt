@@ -1,4 +1,5 @@
 pub mod Boards
+pub mod Decimal
 pub mod Lists
 pub mod Tests
 pub mod Extremes
@@ -7,3 +8,10 @@ pub mod Moves
 pub mod Box
 pub mod Numbers
 pub mod Passing
+pub mod Printing
+pub mod Sorted
+pub mod Accepted
+pub mod ReadBack
+pub mod Permuted
+pub mod ClassOrder
+pub mod Search

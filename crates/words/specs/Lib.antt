@@ -1,2 +1,4 @@
+pub mod Bytes
 pub mod Number
 pub mod Bits
+pub mod Sets

@@ -1,0 +1,4 @@
+// Numbers of two and of eight bytes in byte slices, low byte first; bits of a word; sets of numbers kept in words.
+pub mod bits;
+pub mod numbers;
+pub mod sets;
