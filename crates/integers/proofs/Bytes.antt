@@ -1,11 +1,11 @@
 -- Bytes as signed numbers: `signed` by its cases, that it is the 8-bit reading `toZ w8`, and its range. Assumes nothing.
 use mathlib.Core.Path.{_≡_, refl, sym, _∙_, ap, subst}
 use mathlib.Core.Bool.{Bool, true, false, cond}
-use mathlib.Core.List.{List, [], _∷_}
-use Prim.Native.Nat.{ℕ, suc, _-_, _≤_, _<_, _^_}
+use mathlib.Core.List.{[], _∷_}
+use Prim.Native.Nat.{ℕ, suc, _-_, _≤_, _<_}
 use native.Mathlib.Nat.{lt-of-le-of-lt}
 use native.Mathlib.Omega.{arith}
-use lib.Dec.{T, ltb, lit<}
+use lib.Dec.{ltb, lit<}
 use lib.IntN.{ℤ, pos, negsuc, natAbs, _+ℤ_, _-ℤ_}
 use mir.Syntax.{w8, w16}
 use mir.Val.{Fits, SFits, toZ, sel}
@@ -18,12 +18,12 @@ use Rattle.integers.proofs.Sizes.{bounded, fits-natAbs}
 -- a byte below 128 is itself
 pub signed-low : (b : ℕ) → b < 128 → signed b ≡ pos b
 unfolding signed
-signed-low b h = ap (λ t. cond t (pos b) (pos b -ℤ pos 256)) (lt-ltb b 128 h)
+signed-low b h = rw (lt-ltb b 128 h)
 
 -- a byte from 128 on is 256 less
 pub signed-high : (b : ℕ) → 128 ≤ b → signed b ≡ pos b -ℤ pos 256
 unfolding signed
-signed-high b h = ap (λ t. cond t (pos b) (pos b -ℤ pos 256)) (le-ltb b 128 h)
+signed-high b h = rw (le-ltb b 128 h)
 
 -- the signed value is what 8 bits say in two's complement
 pub signed-toZ : (b : ℕ) → Fits w8 b → signed b ≡ toZ w8 b

@@ -7,9 +7,9 @@ use mathlib.Core.Bool.{Bool, true, false}
 use mathlib.Core.List.{List, [], _∷_}
 use Prim.Native.Nat.{ℕ, zero, suc}
 use lib.Dec.{T}
-use lib.IntN.{ℤ, pos, negsuc, negℤ, _+ℤ_, _-ℤ_, _*ℤ_, +ℤ-invr, *ℤ-zero, +ℤ-idr, -ℤ-+ℤ-cancel}
-use lib.Signed.{_≤ℤ_, _<ℤ_, nonNeg}
-use Rattle.integers.proofs.Solver.{Expr, #, _⊞_, _⊟_, _⊠_, Env, eval, Pol, evalP, normal, normal-is, isNull, isNull-is, null-value, both, both-left, both-right, all, horner, horner-all, Relation, _≈_, _≲_, _≺_, never, Holds, Fun, from, All, all-of, same}
+use lib.IntN.{ℤ, pos, negsuc, _+ℤ_, _-ℤ_, _*ℤ_, +ℤ-invr, *ℤ-zero, +ℤ-idr, -ℤ-+ℤ-cancel}
+use lib.Signed.{_≤ℤ_, nonNeg}
+use Rattle.integers.proofs.Solver.{Expr, #, _⊞_, _⊟_, _⊠_, Env, eval, Pol, evalP, normal, normal-is, isNull, isNull-is, null-value, both, both-left, both-right, all, horner-all, Relation, _≈_, _≲_, _≺_, never, Holds, Fun, from, All, all-of, same}
 use Rattle.integers.proofs.Slack.{le-slack, slack-le, lt-slack, slack-lt, nonneg-pos, nonneg-+ℤ, nonneg-*ℤ, nonneg-square}
 
 infixl 60 _⊕_
@@ -68,10 +68,12 @@ isNat (suc n) (p ∷ ps) = both (isNat n p) (all (isNull n) ps)
 
 -- ---- soundness
 
+-- the test of a sign
 nonneg-is : (z : ℤ) → T (nonNeg z) → pos 0 ≤ℤ z
 nonneg-is (pos k) t = nonneg-pos k
 nonneg-is (negsuc k) t = absurd t
 
+-- a polynomial that is such a constant is at least 0 everywhere
 isNat-is : (n : ℕ) (ρ : Env n) (p : Pol n) → T (isNat n p) → pos 0 ≤ℤ evalP n ρ p
 isNat-is zero ρ p t = nonneg-is p t
 isNat-is (suc n) ρ [] t = nonneg-pos 0
@@ -93,34 +95,41 @@ abbrev Hold : (n : ℕ) → List Relation → Env n → Type 0
 Hold n [] ρ = Unit {0}
 Hold n (h ∷ hs) ρ = Holds n h ρ × Hold n hs ρ
 
+-- a goal under all hypotheses at once is one under each in turn
 under : (n : ℕ) (hs : List Relation) (ρ : Env n) (X : Type 0) → (Hold n hs ρ → X) → Under n hs ρ X
 under n [] ρ X f = f tt
 under n (h ∷ hs) ρ X f = λ x. under n hs ρ X (λ xs. f (x, xs))
 
+-- the difference of equals is 0
 equal-zero : {x y : ℤ} → x ≡ y → y -ℤ x ≡ pos 0
 equal-zero {x} {y} h = ap (λ s. y -ℤ s) h ∙ +ℤ-invr y
 
+-- a relation that holds has a slack of at least 0
 slack-nonneg : (n : ℕ) (ρ : Env n) (r : Relation) → Holds n r ρ → pos 0 ≤ℤ eval n ρ (slack r)
 slack-nonneg n ρ (a ≈ b) h = subst (λ s. pos 0 ≤ℤ s) (sym (equal-zero h)) (nonneg-pos 0)
 slack-nonneg n ρ (a ≲ b) h = le-slack h
 slack-nonneg n ρ (a ≺ b) h = lt-slack h
 slack-nonneg n ρ never h = absurd h
 
+-- and a gap of 0
 gap-zero : (n : ℕ) (ρ : Env n) (r : Relation) → Holds n r ρ → eval n ρ (gap r) ≡ pos 0
 gap-zero n ρ (a ≈ b) h = equal-zero h
 gap-zero n ρ (a ≲ b) h = refl
 gap-zero n ρ (a ≺ b) h = refl
 gap-zero n ρ never h = refl
 
+-- each hypothesis holds where all do
 picked : (n : ℕ) (ρ : Env n) (hs : List Relation) (i : ℕ) → Hold n hs ρ → Holds n (pick hs i) ρ
 picked n ρ [] i h = refl
 picked n ρ (r ∷ hs) zero h = h .0
 picked n ρ (r ∷ hs) (suc i) h = picked n ρ hs i (h .1)
 
 module _ (n : ℕ) (ρ : Env n) (hs : List Relation) (h : Hold n hs ρ) where
+  -- a multiple of an equation is 0
   times-zero : (i : ℕ) (e : Expr) → eval n ρ (value hs (times i e)) ≡ pos 0
   times-zero i e = ap (λ s. eval n ρ e *ℤ s) (gap-zero n ρ (pick hs i) (picked n ρ hs i h)) ∙ *ℤ-zero (eval n ρ e)
 
+  -- a certificate's value is at least 0
   value-nonneg : (c : Certificate) → pos 0 ≤ℤ eval n ρ (value hs c)
   value-nonneg (hyp i) = slack-nonneg n ρ (pick hs i) (picked n ρ hs i h)
   value-nonneg (sqr e) = nonneg-square (eval n ρ e)
@@ -129,6 +138,7 @@ module _ (n : ℕ) (ρ : Env n) (hs : List Relation) (h : Hold n hs ρ) where
   value-nonneg (c ⊕ d) = nonneg-+ℤ (eval n ρ (value hs c)) (eval n ρ (value hs d)) (value-nonneg c) (value-nonneg d)
   value-nonneg (c ⊗ d) = nonneg-*ℤ (eval n ρ (value hs c)) (eval n ρ (value hs d)) (value-nonneg c) (value-nonneg d)
 
+  -- a certificate of equations has the value 0
   exact-zero : (c : Certificate) → T (exact c) → eval n ρ (value hs c) ≡ pos 0
   exact-zero (hyp i) t = absurd t
   exact-zero (sqr e) t = absurd t
@@ -146,16 +156,22 @@ infix 40 _⊢_by_
 pub data Claim : Type 0 where
   _⊢_by_ : List Relation → Relation → Certificate → Claim
 
--- the test: of an inequality, that its slack is the certificate's value and a natural number more; of an equation, that the certificate is of equations and the gap is its value
-abbrev Certified : (n : ℕ) → List Relation → Relation → Certificate → Bool
-Certified n hs (a ≈ b) c = both (exact c) (isNull n (normal n (b ⊟ a ⊟ value hs c)))
-Certified n hs (a ≲ b) c = isNat n (normal n (slack (a ≲ b) ⊟ value hs c))
-Certified n hs (a ≺ b) c = isNat n (normal n (slack (a ≺ b) ⊟ value hs c))
-Certified n hs never c = isNat n (normal n (slack never ⊟ value hs c))
+-- what the goal's slack has beyond the certificate's value
+abbrev excess : List Relation → Relation → Certificate → Expr
+excess hs g c = slack g ⊟ value hs c
 
+-- the test: of an inequality, that this is a natural number; of an equation, that it is 0 and the certificate is one of equations
+abbrev Certified : (n : ℕ) → List Relation → Relation → Certificate → Bool
+Certified n hs (a ≈ b) c = both (exact c) (isNull n (normal n (excess hs (a ≈ b) c)))
+Certified n hs (a ≲ b) c = isNat n (normal n (excess hs (a ≲ b) c))
+Certified n hs (a ≺ b) c = isNat n (normal n (excess hs (a ≺ b) c))
+Certified n hs never c = isNat n (normal n (excess hs never c))
+
+-- the test of a claim, as a type
 abbrev pub Valid : (n : ℕ) → Claim → Type 0
 Valid n (hs ⊢ g by c) = T (Certified n hs g c)
 
+-- what a claim says of the values of its variables
 abbrev pub Follows : (n : ℕ) → Claim → Env n → Type 0
 Follows n (hs ⊢ g by c) ρ = Under n hs ρ (Holds n g ρ)
 
@@ -170,17 +186,27 @@ module _ (n : ℕ) (ρ : Env n) (hs : List Relation) (h : Hold n hs ρ) (c : Cer
       above (eval n ρ e) (eval n ρ (value hs c))
       (subst (λ s. pos 0 ≤ℤ s) (normal-is n ρ (e ⊟ value hs c)) (isNat-is n ρ (normal n (e ⊟ value hs c)) t)) (value-nonneg n ρ hs h c)
 
+  -- the goal holds where the test passes
   certified : (g : Relation) → T (Certified n hs g c) → Holds n g ρ
   certified (a ≈ b) t =
       sym (same (eval n ρ b) (eval n ρ a)
-      (same (eval n ρ (b ⊟ a)) (eval n ρ (value hs c)) (null-value n ρ (b ⊟ a ⊟ value hs c) (both-right (exact c) (isNull n (normal n (b ⊟ a ⊟ value hs c))) t))
-      ∙ exact-zero n ρ hs h c (both-left (exact c) (isNull n (normal n (b ⊟ a ⊟ value hs c))) t)))
+      (same (eval n ρ (b ⊟ a)) (eval n ρ (value hs c)) (null-value n ρ (excess hs (a ≈ b) c) (both-right (exact c) (isNull n (normal n (excess hs (a ≈ b) c))) t))
+      ∙ exact-zero n ρ hs h c (both-left (exact c) (isNull n (normal n (excess hs (a ≈ b) c))) t)))
   certified (a ≲ b) t = slack-le (eval n ρ a) (eval n ρ b) (bounded (b ⊟ a) t)
   certified (a ≺ b) t = slack-lt (eval n ρ a) (eval n ρ b) (bounded (b ⊟ a ⊟ # (pos 1)) t)
   certified never t = bounded (# (negsuc 0)) t .le
 
+-- a claim whose test passes holds at all values
 follows : (n : ℕ) (q : Claim) → Valid n q → (ρ : Env n) → Follows n q ρ
 follows n (hs ⊢ g by c) t ρ = under n hs ρ (Holds n g ρ) (λ h. certified n ρ hs h c g t)
+
+-- the normal form of what the test looks at
+abbrev left : (n : ℕ) → Claim → Pol n
+left n (hs ⊢ g by c) = normal n (excess hs g c)
+
+-- what a certificate leaves of the goal, as a polynomial, to look at where it is refused: state that it is `[]` by `refl`, and the refusal shows it
+abbrev pub remainder : (n : ℕ) → Fun n Claim → Pol n
+remainder n f = left n (from n 0 f)
 
 -- what follows from the hypotheses by the certificate, whose test computes: `tt`
 pub order : (n : ℕ) (f : Fun n Claim) → Valid n (from n 0 f) → All n (Follows n (from n 0 f))

@@ -1,7 +1,7 @@
 -- Signed numbers as a function's needs show them: a local holds bits, so a value x stands there as `toZ w (ofZ w x)`, which is x where x fits.
 -- These take that away from a test and from an operation. Assumes nothing.
 use mathlib.Core.Path.{_≡_, sym, _∙_, ap, subst}
-use mathlib.Core.Bool.{Bool, true, false}
+use mathlib.Core.Bool.{true, false}
 use lib.IntN.{ℤ}
 use lib.Signed.{leZ, ltZ, _≤ℤ_, _<ℤ_}
 use mir.Syntax.{Width}
@@ -26,11 +26,18 @@ module _ (w : Width) (x y : ℤ) (hx : SFits w x) (hy : SFits w y) where
   pub le-held : leZ (toZ w (ofZ w x)) (toZ w (ofZ w y)) ≡ true → x ≤ℤ y
   le-held e = leZ-true x y (sym (read₂ leZ) ∙ e)
 
+  -- x <= y failed
   pub le-failed : leZ (toZ w (ofZ w x)) (toZ w (ofZ w y)) ≡ false → y <ℤ x
   le-failed e = leZ-false x y (sym (read₂ leZ) ∙ e)
 
+  -- x < y held
   pub lt-held : ltZ (toZ w (ofZ w x)) (toZ w (ofZ w y)) ≡ true → x <ℤ y
   lt-held e = ltZ-true x y (sym (read₂ ltZ) ∙ e)
 
+  -- x < y failed
   pub lt-failed : ltZ (toZ w (ofZ w x)) (toZ w (ofZ w y)) ≡ false → y ≤ℤ x
   lt-failed e = ltZ-false x y (sym (read₂ ltZ) ∙ e)
+
+  -- values with the same bits are equal: what an `==` of two signed numbers says
+  pub same-bits : ofZ w x ≡ ofZ w y → x ≡ y
+  same-bits e = sym (toZ-ofZ w x hx) ∙ ap (toZ w) e ∙ toZ-ofZ w y hy

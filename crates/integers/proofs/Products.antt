@@ -16,13 +16,16 @@ use Rattle.integers.proofs.Sizes.{sized}
 pub widened : (w w′ : Width) (a : ℤ) → SFits w a → T (leb (hbits w) (hbits w′)) → SFits w′ a
 widened w w′ a h t = record { sfits = lt-of-lt-of-le (h .sfits) (pow-mono (leb→le (hbits w) (hbits w′) t)) }
 
+-- a product of two numbers of width w fits w′
 pub product-fits : (w w′ : Width) (a b : ℤ) → SFits w a → SFits w b → T (ltb (2 ^ hbits w * 2 ^ hbits w) (2 ^ hbits w′)) → SFits w′ (a *ℤ b)
 product-fits w w′ a b h k t = sized w w′ 2 (λ a b. a ⊠ b) t a b h k
 
 module _ (w w′ : Width) (a b c d : ℤ) (ha : SFits w a) (hb : SFits w b) (hc : SFits w c) (hd : SFits w d) where
+  -- a · b + c · d fits w′
   pub products-sum-fits : T (ltb (2 ^ hbits w * 2 ^ hbits w + 2 ^ hbits w * 2 ^ hbits w) (2 ^ hbits w′)) → SFits w′ (a *ℤ b +ℤ c *ℤ d)
   products-sum-fits t = sized w w′ 4 (λ a b c d. a ⊠ b ⊞ c ⊠ d) t a b c d ha hb hc hd
 
+  -- a · b − c · d fits w′
   pub products-difference-fits : T (ltb (2 ^ hbits w * 2 ^ hbits w + 2 ^ hbits w * 2 ^ hbits w) (2 ^ hbits w′)) → SFits w′ (a *ℤ b -ℤ c *ℤ d)
   products-difference-fits t = sized w w′ 4 (λ a b c d. a ⊠ b ⊟ c ⊠ d) t a b c d ha hb hc hd
 

@@ -1,13 +1,12 @@
 -- Sizes of expressions: from bounds of the operands, a bound of the result, computed.
 -- `sized w16 w64 4 (λ a b c d. a ⊠ b ⊞ c ⊠ d) tt` proves (a b c d : ℤ) → SFits w16 a → SFits w16 b → SFits w16 c → SFits w16 d → SFits w64 (a *ℤ b +ℤ c *ℤ d).
 -- Assumes nothing.
-use mathlib.Core.Path.{_≡_, refl, sym, _∙_, ap, subst}
 use mathlib.Core.List.{List, [], _∷_}
 use Prim.Native.Nat.{ℕ, zero, suc, _+_, _*_, _^_, _≤_, _<_, zero-le}
 use native.Mathlib.Nat.{le-refl, le-trans, le-of-eq, lt-trans, lt-suc-self, lt-of-le-of-lt, add-le-add, mul-le-mul}
 use lib.Dec.{T, ltb, ltb→lt}
 use lib.ListN.{getD}
-use lib.IntN.{ℤ, pos, negsuc, negℤ, natAbs, _+ℤ_, _*ℤ_}
+use lib.IntN.{ℤ, pos, negsuc, negℤ, natAbs}
 use lib.Signed.{natAbs-le, _≤ℤ_, _<ℤ_}
 use mir.Syntax.{Width}
 use mir.Val.{SFits, hbits}
@@ -28,6 +27,7 @@ bound B (a ⊠ b) = bound B a * bound B b
 bound B (⊖ a) = bound B a
 
 module _ (n : ℕ) (ρ : Env n) (B : ℕ → ℕ) (h : (i : ℕ) → natAbs (lookup n ρ i) ≤ B i) where
+  -- the computed bound bounds the expression's value
   bound-is : (e : Expr) → natAbs (eval n ρ e) ≤ bound B e
   bound-is (v i) = h i
   bound-is (# z) = le-refl (natAbs z)
@@ -80,15 +80,18 @@ sized w w′ n f t = sizes (λ i. w) w′ n f t
 
 -- ---- a width is a range
 
+-- what fits is below half of the range
 pub fits-upper : (w : Width) (z : ℤ) → SFits w z → z <ℤ pos (2 ^ hbits w)
 fits-upper w (pos n) h = pos-<ℤ (h .sfits)
 fits-upper w (negsuc n) h = record { lt = tt }
 
+-- and not below minus that
 pub fits-lower : (w : Width) (z : ℤ) → SFits w z → negℤ (pos (2 ^ hbits w)) ≤ℤ z
 fits-lower w (pos n) h =
     order 2 (λ m n. (# (pos 0) ≲ m) ∷ (# (pos 0) ≲ n) ∷ [] ⊢ ⊖ m ≲ n by hyp 0 ⊕ hyp 1) tt (pos (2 ^ hbits w)) (pos n) (nonneg-pos (2 ^ hbits w)) (nonneg-pos n)
 fits-lower w (negsuc n) h = negℤ-mono (pos-≤ℤ (h .sfits))
 
+-- and what lies between the two fits
 pub fits-between : (w : Width) (z : ℤ) → negℤ (pos (2 ^ hbits w)) ≤ℤ z → z <ℤ pos (2 ^ hbits w) → SFits w z
 fits-between w (pos n) h k = record { sfits = <ℤ-pos k }
 fits-between w (negsuc n) h k =

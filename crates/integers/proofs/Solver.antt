@@ -5,7 +5,7 @@ use mathlib.Core.Bool.{Bool, true, false}
 use mathlib.Core.List.{List, [], _∷_}
 use Prim.Native.Nat.{ℕ, zero, suc}
 use lib.Dec.{T, eqb, eqb→eq}
-use lib.IntN.{ℤ, pos, negsuc, negℤ, _+ℤ_, _*ℤ_, +ℤ-idl, +ℤ-idr, +ℤ-assoc, +ℤ-invr, +ℤ-comm, zero-*ℤ, *ℤ-zero, *ℤ-comm, -ℤ-+ℤ-cancel}
+use lib.IntN.{ℤ, pos, negsuc, negℤ, _+ℤ_, _*ℤ_, +ℤ-idl, +ℤ-idr, zero-*ℤ, *ℤ-zero, *ℤ-comm, -ℤ-+ℤ-cancel}
 use lib.Signed.{_≤ℤ_, _<ℤ_}
 use Rattle.integers.proofs.Ring.{swap-middle, +ℤ-*ℤ, *ℤ-+ℤ, *ℤ-assoc, one-*ℤ, minus-one-*ℤ}
 
@@ -60,6 +60,7 @@ abbrev each : {A : Type 0} → (A → A) → List A → List A
 each g [] = []
 each g (a ∷ cs) = g a ∷ each g cs
 
+-- the sum of two lists of coefficients, the longer tail kept
 abbrev addList : {A : Type 0} → (A → A → A) → List A → List A → List A
 addList add [] bs = bs
 addList add (a ∷ cs) [] = a ∷ cs
@@ -70,18 +71,22 @@ abbrev mulList : {A : Type 0} → (A → A → A) → (A → A → A) → A → 
 mulList add mul o [] bs = []
 mulList add mul o (a ∷ cs) bs = addList add (each (mul a) bs) (o ∷ mulList add mul o cs bs)
 
+-- both tests pass; the second waits for the first
 abbrev pub both : Bool → Bool → Bool
 both true b = b
 both false b = false
 
+-- a test passes at each coefficient
 abbrev pub all : {A : Type 0} → (A → Bool) → List A → Bool
 all f [] = true
 all f (a ∷ cs) = both (f a) (all f cs)
 
+-- the first of two tests that pass
 pub both-left : (a b : Bool) → T (both a b) → T a
 both-left true b t = tt
 both-left false b t = t
 
+-- and the second
 pub both-right : (a b : Bool) → T (both a b) → T b
 both-right true b t = t
 both-right false b t = absurd t
@@ -96,11 +101,13 @@ step-scale x c a p =
     ap (λ s. c *ℤ a +ℤ s) (sym (*ℤ-assoc x c p) ∙ ap (λ s. s *ℤ p) (*ℤ-comm x c) ∙ *ℤ-assoc c x p) ∙ sym (*ℤ-+ℤ c a (x *ℤ p))
 
 module _ {A : Type 0} (f : A → ℤ) (x : ℤ) where
+  -- a factor of each coefficient is a factor of the value
   horner-each : (g : A → A) (c : ℤ) → ((a : A) → f (g a) ≡ c *ℤ f a) → (cs : List A) → horner f x (each g cs) ≡ c *ℤ horner f x cs
   horner-each g c h [] = sym (*ℤ-zero c)
   horner-each g c h (a ∷ cs) =
       ap (λ s. s +ℤ x *ℤ horner f x (each g cs)) (h a) ∙ ap (λ s. c *ℤ f a +ℤ x *ℤ s) (horner-each g c h cs) ∙ step-scale x c (f a) (horner f x cs)
 
+  -- the sum of lists has the sum of the values
   horner-add : (add : A → A → A) → ((a b : A) → f (add a b) ≡ f a +ℤ f b) → (cs bs : List A) → horner f x (addList add cs bs) ≡ horner f x cs +ℤ horner f x bs
   horner-add add h [] bs = sym (+ℤ-idl (horner f x bs))
   horner-add add h (a ∷ cs) [] = sym (+ℤ-idr (horner f x (a ∷ cs)))
@@ -108,6 +115,7 @@ module _ {A : Type 0} (f : A → ℤ) (x : ℤ) where
       ap (λ s. s +ℤ x *ℤ horner f x (addList add cs bs)) (h a b) ∙ ap (λ s. (f a +ℤ f b) +ℤ x *ℤ s) (horner-add add h cs bs)
       ∙ step-add x (f a) (f b) (horner f x cs) (horner f x bs)
 
+  -- the product of lists has the product of the values
   horner-mul : (add mul : A → A → A) (o : A) → ((a b : A) → f (add a b) ≡ f a +ℤ f b) → ((a b : A) → f (mul a b) ≡ f a *ℤ f b) → f o ≡ pos 0
       → (cs bs : List A) → horner f x (mulList add mul o cs bs) ≡ horner f x cs *ℤ horner f x bs
   horner-mul add mul o h k e [] bs = sym (zero-*ℤ (horner f x bs))
@@ -120,6 +128,7 @@ module _ {A : Type 0} (f : A → ℤ) (x : ℤ) where
       ∙ ap (λ s. f a *ℤ horner f x bs +ℤ s) (sym (*ℤ-assoc x (horner f x cs) (horner f x bs)))
       ∙ sym (+ℤ-*ℤ (f a) (x *ℤ horner f x cs) (horner f x bs))
 
+  -- coefficients that are all 0 have the value 0
   pub horner-all : (t : A → Bool) → ((a : A) → T (t a) → f a ≡ pos 0) → (cs : List A) → T (all t cs) → horner f x cs ≡ pos 0
   horner-all t h [] u = refl
   horner-all t h (a ∷ cs) u =
@@ -128,10 +137,12 @@ module _ {A : Type 0} (f : A → ℤ) (x : ℤ) where
 
 -- ---- polynomials
 
+-- the value of a polynomial
 abbrev pub evalP : (n : ℕ) → Env n → Pol n → ℤ
 evalP zero ρ p = p
 evalP (suc n) ρ p = horner (evalP n (ρ .1)) (ρ .0) p
 
+-- a constant polynomial
 abbrev constant : (n : ℕ) → ℤ → Pol n
 constant zero z = z
 constant (suc n) z = constant n z ∷ []
@@ -141,27 +152,33 @@ abbrev null : (n : ℕ) → Pol n
 null zero = pos 0
 null (suc n) = []
 
+-- the polynomial that is variable i
 abbrev variable : (n : ℕ) → ℕ → Pol n
 variable zero i = pos 0
 variable (suc n) zero = null n ∷ constant n (pos 1) ∷ []
 variable (suc n) (suc i) = variable n i ∷ []
 
+-- the sum of two polynomials
 abbrev addP : (n : ℕ) → Pol n → Pol n → Pol n
 addP zero p q = p +ℤ q
 addP (suc n) p q = addList (addP n) p q
 
+-- their product
 abbrev mulP : (n : ℕ) → Pol n → Pol n → Pol n
 mulP zero p q = p *ℤ q
 mulP (suc n) p q = mulList (addP n) (mulP n) (null n) p q
 
+-- the negation of one
 abbrev negP : (n : ℕ) → Pol n → Pol n
 negP zero p = negℤ p
 negP (suc n) p = each (negP n) p
 
+-- the test that an integer is 0
 abbrev isZero : ℤ → Bool
 isZero (pos k) = eqb k 0
 isZero (negsuc k) = false
 
+-- the test that every coefficient is 0
 abbrev pub isNull : (n : ℕ) → Pol n → Bool
 isNull zero p = isZero p
 isNull (suc n) p = all (isNull n) p
@@ -180,14 +197,17 @@ normal n (⊖ a) = negP n (normal n a)
 single : (a x : ℤ) → a +ℤ x *ℤ pos 0 ≡ a
 single a x = ap (λ s. a +ℤ s) (*ℤ-zero x) ∙ +ℤ-idr a
 
+-- the polynomial 0 is 0
 null-is : (n : ℕ) (ρ : Env n) → evalP n ρ (null n) ≡ pos 0
 null-is zero ρ = refl
 null-is (suc n) ρ = refl
 
+-- a constant is its value
 constant-is : (n : ℕ) (ρ : Env n) (z : ℤ) → evalP n ρ (constant n z) ≡ z
 constant-is zero ρ z = refl
 constant-is (suc n) ρ z = single (evalP n (ρ .1) (constant n z)) (ρ .0) ∙ constant-is n (ρ .1) z
 
+-- a variable is its value
 variable-is : (n : ℕ) (ρ : Env n) (i : ℕ) → evalP n ρ (variable n i) ≡ lookup n ρ i
 variable-is zero ρ i = refl
 variable-is (suc n) ρ zero =
@@ -197,26 +217,32 @@ variable-is (suc n) ρ zero =
     ∙ *ℤ-comm (ρ .0) (pos 1) ∙ one-*ℤ (ρ .0)
 variable-is (suc n) ρ (suc i) = single (evalP n (ρ .1) (variable n i)) (ρ .0) ∙ variable-is n (ρ .1) i
 
+-- a sum
 addP-is : (n : ℕ) (ρ : Env n) (p q : Pol n) → evalP n ρ (addP n p q) ≡ evalP n ρ p +ℤ evalP n ρ q
 addP-is zero ρ p q = refl
 addP-is (suc n) ρ p q = horner-add (evalP n (ρ .1)) (ρ .0) (addP n) (addP-is n (ρ .1)) p q
 
+-- a product
 mulP-is : (n : ℕ) (ρ : Env n) (p q : Pol n) → evalP n ρ (mulP n p q) ≡ evalP n ρ p *ℤ evalP n ρ q
 mulP-is zero ρ p q = refl
 mulP-is (suc n) ρ p q =
     horner-mul (evalP n (ρ .1)) (ρ .0) (addP n) (mulP n) (null n) (addP-is n (ρ .1)) (mulP-is n (ρ .1)) (null-is n (ρ .1)) p q
 
+-- a negation, as the product with −1
 minus-is : (n : ℕ) (ρ : Env n) (p : Pol n) → evalP n ρ (negP n p) ≡ negsuc 0 *ℤ evalP n ρ p
 minus-is zero ρ p = sym (minus-one-*ℤ p)
 minus-is (suc n) ρ p = horner-each (evalP n (ρ .1)) (ρ .0) (negP n) (negsuc 0) (minus-is n (ρ .1)) p
 
+-- a negation
 negP-is : (n : ℕ) (ρ : Env n) (p : Pol n) → evalP n ρ (negP n p) ≡ negℤ (evalP n ρ p)
 negP-is n ρ p = minus-is n ρ p ∙ minus-one-*ℤ (evalP n ρ p)
 
+-- an integer that passes the test is 0
 isZero-is : (z : ℤ) → T (isZero z) → z ≡ pos 0
 isZero-is (pos k) t = ap pos (eqb→eq k 0 t)
 isZero-is (negsuc k) t = absurd t
 
+-- a polynomial that passes the test is 0 everywhere
 pub isNull-is : (n : ℕ) (ρ : Env n) (p : Pol n) → T (isNull n p) → evalP n ρ p ≡ pos 0
 isNull-is zero ρ p t = isZero-is p t
 isNull-is (suc n) ρ p t = horner-all (evalP n (ρ .1)) (ρ .0) (isNull n) (isNull-is n (ρ .1)) p t
@@ -248,6 +274,7 @@ abbrev pub All : (n : ℕ) → (Env n → Type 0) → Type 0
 All zero P = P tt
 All (suc n) P = (x : ℤ) → All n (λ ρ. P (x, ρ))
 
+-- from a function of the environment, one of each value in turn
 pub all-of : (n : ℕ) (P : Env n → Type 0) → ((ρ : Env n) → P ρ) → All n P
 all-of zero P h = h tt
 all-of (suc n) P h = λ x. all-of n (λ ρ. P (x, ρ)) (λ ρ. h (x, ρ))
@@ -280,6 +307,7 @@ same x y h = sym (-ℤ-+ℤ-cancel x y) ∙ ap (λ s. s +ℤ y) h ∙ +ℤ-idl y
 pub null-value : (n : ℕ) (ρ : Env n) (e : Expr) → T (isNull n (normal n e)) → eval n ρ e ≡ pos 0
 null-value n ρ e t = sym (normal-is n ρ e) ∙ isNull-is n ρ (normal n e) t
 
+-- an equation whose test passes holds at all values
 solved : (n : ℕ) (q : Relation) → Solved n q → (ρ : Env n) → Holds n q ρ
 solved n (a ≈ b) t ρ = same (eval n ρ a) (eval n ρ b) (null-value n ρ (a ⊟ b) t)
 solved n (a ≲ b) t ρ = absurd t

@@ -13,9 +13,9 @@ use Rattle.model.specs.Format.{byteAt, Got, got, many, readPart, readKin
 use Rattle.model.specs.Gap.{names, better, bestFrom, bestRanked, gapOr0, kindGap}
 use Rattle.model.specs.Geometry.{sound}
 use Rattle.model.specs.Lists.{all, any, keep, concat, below}
-use Rattle.model.proofs.Causes.{NoCause, no-cause, no-cause7, KindsFit, kinds-fit, classes-in-range, or-left, or-right}
+use Rattle.model.proofs.Causes.{NoCause, no-cause, no-cause7, KindsFit, kinds-fit, classes-in-range}
 use Rattle.model.proofs.Folds.{any-at, all-append}
-use Rattle.model.proofs.Lists.{and-left, and-right, and-both}
+use Rattle.model.proofs.Lists.{and-left, and-right, and-both, or-left, or-right}
 use Rattle.model.proofs.Readers.{many-length, many-each}
 use Rattle.model.proofs.Records.{length-vertices, PartRead, part-read, KindRead, kind-read}
 

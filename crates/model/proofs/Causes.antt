@@ -1,4 +1,4 @@
--- What holds of a job that is accepted.
+-- What it says that a cause of refusal does not hold.
 use mathlib.Core.Bool.{Bool, true, false, not, cond, _&&_, _||_, true≢false}
 use mathlib.Core.List.{List, [], _∷_, map}
 use mathlib.Core.Path.{_≡_, refl, sym, ap, _∙_}
@@ -11,17 +11,8 @@ use Rattle.model.specs.Content.{Kind, SpacingClass, pieceCount}
 use Rattle.model.specs.Format.{trailerAt, boardAt, classesAt, kindsAt, kindsLength, classesStated, kindsStated, inPlace, boardSection, classesSection, kindsSection, shareByte, boardOf, classesOf, kindsGot, kindsUnfit, kindsIn, content, namesPresent, Got, bad, got, cause1, cause2, cause3, cause4, cause5, cause6, cause7, refusal, distinct, classInRange}
 use Rattle.model.specs.Grid.{dots}
 use Rattle.model.specs.Lists.{between, all, sum}
+use Rattle.model.proofs.Lists.{or-left, or-right}
 use Rattle.model.proofs.Records.{between-both}
-
--- Neither of two tests holds.
-pub or-left : (a b : Bool) → (a || b) ≡ false → a ≡ false
-or-left true b e = e
-or-left false b e = refl
-
-pub or-right : (a b : Bool) → (a || b) ≡ false → b ≡ false
-or-right true true e = e
-or-right true false e = refl
-or-right false b e = e
 
 -- None of the first six causes holds.
 pub record NoCause (s : List ℕ) : Type 0 where

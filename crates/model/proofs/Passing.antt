@@ -16,7 +16,7 @@ use Rattle.model.proofs.Lists.{and-left, and-right, and-both, and-four,
 
 module _ (j : Job) where
   -- ---- Order of two entries
-  precedes : (e f : Entry) → inOrder j e f ≡ true → Precedes j e f
+  pub precedes : (e f : Entry) → inOrder j e f ≡ true → Precedes j e f
   unfolding inOrder
   precedes e f h = go (eqb (e .kind) (f .kind)) refl h
     where

@@ -1,6 +1,6 @@
 -- For each enum of an answer, document 01's number and values of each case: "A refusal returns its number, length 0 and steps 0 ..,
 -- except 10, which returns its steps". A number 0 says that nothing was refused.
-use Prim.Native.Nat.{ℕ}
+use Prim.Native.Nat.{ℕ, _+_, _*_}
 use Rattle.model.specs.declared.Checked.{Checked}
 use Rattle.model.specs.declared.Checked.the-variants as C
 use Rattle.model.specs.declared.Held.{Held}
@@ -67,3 +67,21 @@ runVerdict (Refused n) = 0
 runVerdict (Shortest len steps) = 0
 runVerdict (Stopped h steps) = heldVerdict h
 runVerdict (Infeasible steps) = 0
+
+-- ---- At the C interface an answer is one number of 64 bits: number, verdict, length or count, and steps, in 8, 8, 16 and 32 bits
+
+-- The four fields as one number.
+abbrev pub fields : ℕ → ℕ → ℕ → ℕ → ℕ
+fields number verdict len steps = number + 256 * verdict + 65536 * len + 4294967296 * steps
+
+-- read and row.
+abbrev pub writtenWord : Written → ℕ
+writtenWord a = fields (writtenNumber a) 0 (writtenCount a) 0
+
+-- check.
+abbrev pub checkWord : Checked → ℕ
+checkWord a = fields (checkNumber a) 0 (checkLength a) 0
+
+-- run.
+abbrev pub runWord : RunAnswer → ℕ
+runWord a = fields (runNumber a) (runVerdict a) (runLength a) (runSteps a)

@@ -10,6 +10,7 @@ use Rattle.model.specs.Content.{Vertex, vertex, Part, pieceCount}
 use Rattle.model.specs.Format.{content, refusal}
 use Rattle.model.specs.Geometry.{moved, piecesConflict}
 use Rattle.model.specs.Lists.{all, below}
+use Rattle.model.specs.Output.{program}
 use Rattle.model.specs.Services.{RunOutcome, run, check, numbersIn, workWords}
 use Rattle.model.specs.declared.Checked.{Checked}
 use Rattle.model.specs.declared.Checked.the-variants as C
@@ -20,16 +21,18 @@ use Rattle.model.specs.declared.RunAnswer.the-variants.{Shortest, Stoppe
 -- ---- Questions and answers
 
 -- A run of a job at a budget; a check of a job and a layout's numbers; whether squares at (0,0) and (x,y) are in conflict at a gap;
--- by which number a job's sender is refused.
+-- by which number a job's sender is refused; what the program prints of a job.
 pub data Question : Type 0 where
+  prints : List ℕ → Question
   runs : List ℕ → ℕ → Question
   checks : List ℕ → List ℕ → Question
   conflicts : ℕ → ℕ → ℕ → Question
   sends : List ℕ → Question
 
 -- What a run says, whether its work words are zero, and the answer numbers after it; what check says; whether there is conflict;
--- the number of the refusal, 0 for an accepted job.
+-- the number of the refusal, 0 for an accepted job; the bytes printed.
 pub data Answer : Type 0 where
+  text : List ℕ → Answer
   says : RunAnswer → Bool → List ℕ → Answer
   finds : Checked → Answer
   isConflict : Bool → Answer
@@ -40,6 +43,7 @@ pub record Marked : Type 0 where
   pub question : Question
   pub expected : Answer
 
+-- A question with its answer.
 abbrev pub _⇒_ : Question → Answer → Marked
 q ⇒ a = record { question = q; expected = a }
 
@@ -50,6 +54,7 @@ infix 4 _⇒_
 unfoldable pub numbersOf : List ℕ → List ℕ
 numbersOf s = map (λ i. numberAt 2 s (i * 2)) (below (numbersIn s))
 
+-- What a run told and left, as an answer of the table.
 unfoldable pub saidBy : RunOutcome → Answer
 saidBy r = says (r .answer) (all (eqb 0) (r .work)) (numbersOf (r .out))
 
@@ -63,6 +68,7 @@ answerTo (runs s budget) =
     saidBy
     (run s budget (replicate (workWords (content s) * 8) 255) (bytesOf 2 (replicate (pieceCount (content s) * 4) 7)))
 answerTo (checks s ns) = finds (check s (bytesOf 2 ns))
+answerTo (prints s) = text (program s)
 answerTo (sends s) = isRefused (refusal s)
 answerTo (conflicts gap x y) = isConflict (piecesConflict gap (square ∷ []) (map (moved x y) square ∷ []))
 
@@ -96,6 +102,16 @@ unfoldable pub printedJob : List ℕ
 printedJob =
     0x02 ∷ 0x00 ∷ 0x04 ∷ 0x00 ∷ 0x01 ∷ 0x00 ∷ 0x02 ∷ 0x01 ∷ 0x00 ∷ 0x01 ∷ 0x04 ∷ 0x00 ∷ 0x00 ∷ 0x02 ∷ 0x00 ∷ 0x02 ∷ 0x02 ∷ 0x00 ∷ 0x02 ∷ 0x00 ∷ 0x00 ∷ 0x00 ∷ 0x00 ∷ 0x06 ∷ 0x00 ∷ 0x0D ∷ 0x00 ∷ 0x00 ∷ 0x01 ∷ 0x21 ∷ 0x00 ∷ 0x44 ∷ 0x42 ∷ []
 
+-- "The program prints exactly": the bytes of its three lines.
+unfoldable pub printedText : List ℕ
+printedText =
+    -- `shortest 4 3`
+    (115 ∷ 104 ∷ 111 ∷ 114 ∷ 116 ∷ 101 ∷ 115 ∷ 116 ∷ 32 ∷ 52 ∷ 32 ∷ 51 ∷ 10 ∷ [])
+    -- `0 0 0 0`
+    ++ (48 ∷ 32 ∷ 48 ∷ 32 ∷ 48 ∷ 32 ∷ 48 ∷ 10 ∷ [])
+    -- `0 2 0 0`
+    ++ (48 ∷ 32 ∷ 50 ∷ 32 ∷ 48 ∷ 32 ∷ 48 ∷ 10 ∷ [])
+
 -- "Two triangles (0,0) (2,0) (2,2) and (0,0) (2,2) (0,2), one each"
 unfoldable pub triangles : List ℕ
 triangles = jobOf 2 2 [] 2 (1 ∷ 1 ∷ 0 ∷ 1 ∷ 3 ∷ 0 ∷ 0 ∷ 2 ∷ 0 ∷ 2 ∷ 2 ∷ 1 ∷ 1 ∷ 0 ∷ 1 ∷ 3 ∷ 0 ∷ 0 ∷ 2 ∷ 2 ∷ 0 ∷ 2 ∷ [])
@@ -126,10 +142,13 @@ untouched = 7 ∷ 7 ∷ 7 ∷ 7 ∷ 7 ∷ 7 ∷ 7 ∷ 7 ∷ []
 
 -- ---- The table. Steps that the paper does not print were counted by hand
 
+-- The boards that document 01 marks with a star.
 unfoldable pub boards : List Marked
 boards =
-    -- "W 2, L 4 .. shortest 4 3"
-    (runs printedJob 1000000 ⇒ says (Shortest 4 3) true (0 ∷ 0 ∷ 0 ∷ 0 ∷ 0 ∷ 2 ∷ 0 ∷ 0 ∷ []))
+    -- "W 2, L 4 .. The program prints exactly": `shortest 4 3`, `0 0 0 0`, `0 2 0 0`
+    (prints printedJob ⇒ text printedText)
+    -- The same by run: the answer numbers hold the layout.
+    ∷ (runs printedJob 1000000 ⇒ says (Shortest 4 3) true (0 ∷ 0 ∷ 0 ∷ 0 ∷ 0 ∷ 2 ∷ 0 ∷ 0 ∷ []))
     -- "Budgets 3, 2, 1: shortest 4; stopped with 4; stopped with nothing."
     ∷ (runs printedJob 3 ⇒ says (Shortest 4 3) true (0 ∷ 0 ∷ 0 ∷ 0 ∷ 0 ∷ 2 ∷ 0 ∷ 0 ∷ []))
     ∷ (runs printedJob 2 ⇒ says (Stopped (Layout 4) 2) true (0 ∷ 0 ∷ 0 ∷ 0 ∷ 0 ∷ 2 ∷ 0 ∷ 0 ∷ []))

@@ -80,6 +80,7 @@ boardSection s = section (boardAt s) 6
 unfoldable pub classesSection : List ℕ → Section
 classesSection s = section (classesAt s) (classesStated s * 3)
 
+-- "length of the type list in bytes"
 unfoldable pub kindsSection : List ℕ → Section
 kindsSection s = section (kindsAt s) (kindsLength s)
 
@@ -174,6 +175,7 @@ kindsGot s = many readKind (kindsStated s) (kindBytes s)
 
 -- ---- The content
 
+-- The types that were read.
 unfoldable pub kindsIn : Got (List Kind) → List Kind
 kindsIn bad = []
 kindsIn (got ks m) = ks

@@ -10,5 +10,8 @@ pub mod Layout
 pub mod Search
 pub mod Answers
 pub mod Services
+pub mod Demand3
+pub mod Output
+pub mod ClassOrder
 pub mod Opened
 pub mod Boards

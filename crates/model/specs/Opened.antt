@@ -15,6 +15,7 @@ use Rattle.model.specs.Format.{byteAt, wordAt, trailerAt, boardAt, class
 use Rattle.model.specs.Layout.{entryOf, entryNumber, entryKind, isEntry, entryExtent, conflict, inOrder, ordered, copies, demandMet, apart, passes, layoutLength}
 use Rattle.model.specs.Search.{pieces, candidateTable, free, abovePrevious, beats, staysBelow, live, copiesLeft, forwardCheck, then, completed, tryCandidates, searchPieces, searchFrom, lengthOf, stepsFrom, stepsNeeded, isStopped, stepsTaken, latest, bestAfter, held}
 use Rattle.model.specs.Services.{numbersIn, wordsIn, withNumbers, withWords, coordinate, vertexNumbers, partNumbers, kindNumbers, classNumbers, contentNumbers, readContent, read, cause12, rowBit, rowWords, rowContent, conflictRow, entryIn, layoutIn, cause11, check, workWords, cleared, entryNumbers, layoutNumbers, withLayout, heldAs, finishedAs, stepCount, verdict, runContent, run}
+use Rattle.model.specs.Output.{digitsBefore, decimal, line, shortestWord, stoppedWord, noneWord, refusedWord, heldWord, firstLine, entryLine, entryLines, heldLines, layoutLines, printed, program}
 
 unfoldable pub openedWords : ℕ
 unfolding signed maxZ minZ testBit bitsWhere value bytes bytesOf numberAt withNumber count filled
@@ -60,6 +61,10 @@ unfoldable pub openedServices : ℕ
 unfolding numbersIn wordsIn withNumbers withWords coordinate vertexNumbers partNumbers kindNumbers classNumbers contentNumbers readContent read cause12 rowBit rowWords rowContent conflictRow entryIn layoutIn cause11 check workWords cleared entryNumbers layoutNumbers withLayout heldAs finishedAs stepCount verdict runContent run
 openedServices = 0
 
+unfoldable pub openedOutput : ℕ
+unfolding digitsBefore decimal line shortestWord stoppedWord noneWord refusedWord heldWord firstLine entryLine entryLines heldLines layoutLines printed program
+openedOutput = 0
+
 unfoldable pub opened : ℕ
-unfolding openedWords openedLists openedContent openedGrid openedGeometry openedGap openedCandidate openedFormat openedLayout openedSearch openedServices
+unfolding openedWords openedLists openedContent openedGrid openedGeometry openedGap openedCandidate openedFormat openedLayout openedSearch openedServices openedOutput
 opened = 0

@@ -48,6 +48,7 @@ unfoldable pub coordinate : ℤ → ℕ
 coordinate (pos n) = n
 coordinate (negsuc n) = 65535 - n
 
+-- x and y of a corner.
 unfoldable pub vertexNumbers : Vertex → List ℕ
 vertexNumbers v = coordinate (v .x) ∷ coordinate (v .y) ∷ []
 
@@ -176,6 +177,7 @@ cleared j work = withWords (replicate (workWords j) 0) work
 unfoldable pub entryNumbers : Entry → List ℕ
 entryNumbers e = e .kind ∷ e .place .column ∷ e .place .row ∷ e .place .rotation ∷ []
 
+-- "each four 16-bit numbers", entry by entry: 4 × N numbers.
 unfoldable pub layoutNumbers : Layout → List ℕ
 layoutNumbers es = concat (map entryNumbers es)
 

@@ -9,6 +9,10 @@ ghost use Rattle.model.specs.Answers.{
   writtenCount,
   checkNumber,
   checkLength,
+  fields,
+  writtenWord,
+  checkWord,
+  runWord,
 };
 
 // What read and row answer: the number of a refusal, or how many numbers or words they wrote.
@@ -130,4 +134,32 @@ pub fn run_verdict(a: RunAnswer) -> u8
         },
         RunAnswer::Infeasible(_) => 0,
     }
+}
+
+// The four fields of an answer in one number.
+fn pack(number: u8, verdict: u8, length: u16, steps: u32) -> u64
+    ensures { λ r. ⌜ r ≡ fields number verdict length steps ⌝ }
+{
+    (number as u64) + 256 * (verdict as u64) + 65536 * (length as u64) + 4294967296 * (steps as u64)
+}
+
+// An answer of read or row as one number.
+pub fn written_word(a: Written) -> u64
+    ensures { λ r. ⌜ r ≡ writtenWord a ⌝ }
+{
+    pack(written_number(a), 0, written_count(a), 0)
+}
+
+// An answer of check as one number.
+pub fn check_word(a: Checked) -> u64
+    ensures { λ r. ⌜ r ≡ checkWord a ⌝ }
+{
+    pack(check_number(a), 0, check_length(a), 0)
+}
+
+// An answer of run as one number.
+pub fn run_word(a: RunAnswer) -> u64
+    ensures { λ r. ⌜ r ≡ runWord a ⌝ }
+{
+    pack(run_number(a), run_verdict(a), run_length(a), run_steps(a))
 }

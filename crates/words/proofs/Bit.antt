@@ -3,16 +3,16 @@ use mathlib.Core.Path.{_≡_, refl, sym, ap, ap₂, _∙_, subst}
 use mathlib.Core.Bool.{Bool, true, false, cond, not, _&&_, _||_, and-true, and-false, or-true, or-false}
 use mathlib.Core.Logic.{_⊎_, inl, inr}
 use Prim.Native.Nat.{ℕ, zero, suc, _+_, _-_, _*_, _/_, _%_, _^_, _≤_, _<_, min, max}
-use native.Mathlib.Nat.{mod-eq-of-lt, zero-div, div-one, zero-add, add-zero, suc-add, add-suc, add-comm, div-eq-of-lt, div-div-eq-div-mul, pow-succ', pow-suc, mod-lt, lt-of-lt-of-le, add-sub-of-le, mul-comm, div-add-mod', mul-one, one-mul, le-of-suc-le-suc}
+use native.Mathlib.Nat.{mod-eq-of-lt, zero-div, div-one, zero-add, div-eq-of-lt, pow-succ', lt-of-lt-of-le, one-mul}
 use native.Mathlib.Omega.{arith}
-use native.Mathlib.Numerals.{add-one, one-add}
+use native.Mathlib.Numerals.{one-add}
 use lib.Dec.{eqb, eqb·suc-suc, eqb·suc-zero, eqb·zero-suc}
-use lib.Arith.{digits-mod, digits-div, lt-one}
-use lib.Pow.{pow-pos, pow-mono, pow-lt, shr-shr, shr-lt, field, mod-mod-pow, high, low, split}
-use lib.Bits.{bitAnd, bitOr, bitXor, differ, and-step, or-step, xor-step, and-shr, or-shr, xor-shr, and-lt, or-lt, or-add-and, or-disjoint, or-zero-r, or-shifted-r, and-mask}
+use lib.Arith.{digits-mod}
+use lib.Pow.{pow-mono, pow-lt, shr-shr, field, mod-mod-pow}
+use lib.Bits.{bitAnd, bitOr, and-step, or-step, and-shr, or-shr, or-lt, or-add-and, or-disjoint, or-zero-r, or-shifted-r, and-mask}
 use borrow.Author.Tests.{eqb-true, eqb-false, eq-eqb, ne-eqb}
 use Rattle.words.specs.Bits.{testBit, bitsWhere, withBit, withoutBit}
-use Rattle.words.proofs.Cases.{le-or-lt, eq-or-ne, true-or-false}
+use Rattle.words.proofs.Cases.{le-or-lt, eq-or-ne}
 
 -- ---- where a bit stands
 
@@ -31,6 +31,7 @@ pub testBit-shift : (w k i : ℕ) → testBit w (k + i) ≡ testBit (w / 2 ^ k) 
 unfolding testBit
 testBit-shift w k i = rw shr-shr
 
+-- The bits above the lowest are those of the half.
 pub testBit-next : (w i : ℕ) → testBit w (suc i) ≡ testBit (w / 2) i
 testBit-next w i = rw (← (one-add i)) (testBit-shift w 1 i)
 
@@ -83,7 +84,7 @@ bits-all a b h =
     bits-same (a + b) a b (lt-of-lt-of-le (lt-pow a) (pow-mono (omega arith))) (lt-of-lt-of-le (lt-pow b) (pow-mono (omega arith)))
     (λ i l. h i)
 
--- ---- AND, OR and XOR, bit by bit
+-- ---- AND and OR, bit by bit
 
 -- What holds of the four pairs of digits holds of all.
 digits : (P : ℕ → ℕ → Type 0) → P 0 0 → P 0 1 → P 1 0 → P 1 1 → (x y : ℕ) → x < 2 → y < 2 → P x y
@@ -113,6 +114,7 @@ module _ (op f : ℕ → ℕ → ℕ) (g : Bool → Bool → Bool)
       ap (λ (z : ℕ). z % 2) (step x y) ∙ digits-mod (op (x / 2) (y / 2)) (both .0) in
       ap (λ (z : ℕ). eqb (z % 2) 1) (shr a b i) ∙ ap (λ (z : ℕ). eqb z 1) digit ∙ both .1
 
+-- A bit of an AND is set where both are, and of an OR where one is.
 pub testBit-and : (a b i : ℕ) → testBit (bitAnd a b) i ≡ testBit a i && testBit b i
 testBit-and =
     testBit-op bitAnd min _&&_ and-shr and-step
@@ -176,6 +178,7 @@ at-one P i j = go (eq-or-ne i j)
     go (inl e) = ap (λ (k : ℕ). P k && eqb i j) (sym e)
     go (inr e) = rw (ne-eqb i j e) (and-false (P j) ∙ sym (and-false (P i)))
 
+-- The bits of 2 ^ i or of 0.
 testBit-power-or-none : (b : Bool) (i j : ℕ) → testBit (cond b (2 ^ i) 0) j ≡ b && eqb i j
 testBit-power-or-none true i j = testBit-pow i j
 testBit-power-or-none false i j = testBit-none j
@@ -196,9 +199,11 @@ or-pow w i = go (testBit w i) (rw (and-pow w i) at (or-add-and w (2 ^ i)))
     go true e = omega arith
     go false e = omega arith
 
+-- Bit i is set, and every other bit is as it was.
 pub testBit-with : (w i j : ℕ) → testBit (withBit w i) j ≡ testBit w j || eqb i j
 testBit-with w i j = rw (← or-pow) (testBit-or w (2 ^ i) j ∙ ap (λ (b : Bool). testBit w j || b) (testBit-pow i j))
 
+-- A bit set below place n keeps the number below 2 ^ n.
 pub withBit-lt : (n w i : ℕ) → w < 2 ^ n → i < n → withBit w i < 2 ^ n
 withBit-lt n w i h l = rw (← or-pow) (or-lt n w (2 ^ i) h (pow-lt l))
 
@@ -244,6 +249,7 @@ module _ (n w i : ℕ) (h : w < 2 ^ n) (l : i < n) where
           omega (arith, or-disjoint (cleared n w i) (2 ^ i) none-left)
       go false e = bits-all (cleared n w i) w (λ j. testBit-cleared j ∙ taken (testBit w j) (eqb i j) (at-i false e j))
 
+-- Bit i is clear, and every other bit is as it was.
 pub testBit-without : (w i j : ℕ) → testBit (withoutBit w i) j ≡ testBit w j && not (eqb i j)
 testBit-without w i j =
     let n : ℕ = w + suc i in
@@ -251,6 +257,7 @@ testBit-without w i j =
     let l : i < n = omega arith in
     rw (← (and-not-pow n w i h l)) (testBit-cleared n w i h l j)
 
+-- A bit cleared makes no number larger.
 pub withoutBit-le : (w i : ℕ) → withoutBit w i ≤ w
 unfolding withoutBit
 withoutBit-le w i = go (testBit w i)
@@ -275,6 +282,7 @@ testBit-without-other w i j h = rw (testBit-without, ne-eqb i j h) (and-true (te
 
 -- ---- the number with given bits
 
+-- It has no bit at or above place n.
 pub bitsWhere-lt : (n : ℕ) (p : ℕ → Bool) → bitsWhere n p < 2 ^ n
 unfolding bitsWhere
 bitsWhere-lt zero p = omega arith

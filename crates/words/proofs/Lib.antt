@@ -6,3 +6,4 @@ pub mod Row
 pub mod Bit
 pub mod HowMany
 pub mod Member
+pub mod First

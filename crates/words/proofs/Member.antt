@@ -1,21 +1,21 @@
 -- Sets of numbers in words: one law for every change of one bit, and the members and the count after each.
-use mathlib.Core.Path.{_≡_, refl, sym, ap, ap₂, _∙_, subst}
+use mathlib.Core.Path.{_≡_, refl, sym, ap, _∙_}
 use mathlib.Core.Bool.{Bool, true, false, not, _&&_, _||_, and-true, and-false, or-true, or-false}
 use mathlib.Core.List.{List}
 use mathlib.Core.Logic.{_⊎_, inl, inr}
-use Prim.Native.Nat.{ℕ, zero, suc, _+_, _*_, _/_, _%_, _^_, _≤_, _<_}
-use native.Mathlib.Nat.{mod-eq-of-lt, lt-of-le-of-lt, suc-mul}
+use Prim.Native.Nat.{ℕ, _+_, _*_, _/_, _%_, _^_, _≤_, _<_}
+use native.Mathlib.Nat.{mod-eq-of-lt, lt-of-le-of-lt}
 use native.Mathlib.Omega.{arith}
 use lib.Count.{ones, ones-le}
 use lib.Dec.{eqb}
-use lib.ListN.{length, replicate, length-replicate, getD-replicate, replicate-append-replicate}
-use borrow.Author.Tests.{eqb-true, eqb-false, eq-eqb, ne-eqb}
+use lib.ListN.{length, take, drop, replicate, length-replicate, getD-replicate, replicate-append-replicate}
+use borrow.Author.Tests.{eq-eqb, ne-eqb}
 use Rattle.words.specs.Bytes.{AreBytes}
 use Rattle.words.specs.Number.{numberAt, withNumber, filled}
 use Rattle.words.specs.Bits.{testBit, withBit, withoutBit}
-use Rattle.words.specs.Sets.{wordOf, member, changed, withMember, withoutMember, howMany, countMembers, withoutWords}
+use Rattle.words.specs.Sets.{wordOffset, member, changed, withMember, withoutMember, howMany, countMembers, clearedWords}
 use Rattle.words.proofs.Cases.{eq-or-ne, le-or-lt}
-use Rattle.words.proofs.Place.{length-withNumber, withNumber-bytes, numberAt-lt, numberAt-same, numberAt-other}
+use Rattle.words.proofs.Place.{numberAt-drop, numberAt-take, length-withNumber, withNumber-bytes, withNumber-numberAt, numberAt-lt, numberAt-same, numberAt-other}
 use Rattle.words.proofs.Row.{filled-none, filled-more, length-filled, filled-bytes, numberAt-filled, numberAt-behind-filled}
 use Rattle.words.proofs.Bit.{bits-same, testBit-none, testBit-with, testBit-without, withBit-lt, withoutBit-le}
 use Rattle.words.proofs.HowMany.{howMany-cong, howMany-add, howMany-none, none-of-howMany, howMany-more, howMany-bits}
@@ -33,51 +33,56 @@ same-bit n m e = go (eq-or-ne n m)
     go (inr q) = ne-eqb (n % 64) (m % 64) (λ (r : n % 64 ≡ m % 64). q (omega arith)) ∙ sym (ne-eqb n m q)
 
 -- Two words share no byte.
-apart : (n m : ℕ) → (n / 64 ≡ m / 64 → ⊥) → (wordOf m + 8 ≤ wordOf n) ⊎ (wordOf n + 8 ≤ wordOf m)
+apart : (n m : ℕ) → (n / 64 ≡ m / 64 → ⊥) → (wordOffset m + 8 ≤ wordOffset n) ⊎ (wordOffset n + 8 ≤ wordOffset m)
 apart n m e = go (le-or-lt (n / 64) (m / 64))
   where
-    go : (n / 64 ≤ m / 64) ⊎ (m / 64 < n / 64) → (wordOf m + 8 ≤ wordOf n) ⊎ (wordOf n + 8 ≤ wordOf m)
+    go : (n / 64 ≤ m / 64) ⊎ (m / 64 < n / 64) → (wordOffset m + 8 ≤ wordOffset n) ⊎ (wordOffset n + 8 ≤ wordOffset m)
     go (inl l) = inr (omega arith)
     go (inr l) = inl (omega arith)
 
 -- After a change of one bit the bytes stay as many, and stay bytes.
-module _ (f : ℕ → ℕ → ℕ) (s : List ℕ) (n : ℕ) (fits : wordOf n + 8 ≤ length s) where
+module _ (f : ℕ → ℕ → ℕ) (s : List ℕ) (n : ℕ) (fits : wordOffset n + 8 ≤ length s) where
   pub length-changed : length (changed f s n) ≡ length s
   unfolding changed
-  length-changed = length-withNumber 8 s (wordOf n) (f (numberAt 8 s (wordOf n)) (n % 64)) fits
+  length-changed = length-withNumber 8 s (wordOffset n) (f (numberAt 8 s (wordOffset n)) (n % 64)) fits
 
   pub bytes-changed : AreBytes s → AreBytes (changed f s n)
   unfolding changed
-  bytes-changed = withNumber-bytes 8 s (wordOf n) (f (numberAt 8 s (wordOf n)) (n % 64)) fits
+  bytes-changed = withNumber-bytes 8 s (wordOffset n) (f (numberAt 8 s (wordOffset n)) (n % 64)) fits
+
+  -- A change that leaves the word as it is leaves the bytes as they are.
+  unchanged : AreBytes s → f (numberAt 8 s (wordOffset n)) (n % 64) ≡ numberAt 8 s (wordOffset n) → changed f s n ≡ s
+  unfolding changed
+  unchanged h e = ap (withNumber 8 s (wordOffset n)) e ∙ withNumber-numberAt 8 s (wordOffset n) h fits
 
 -- A change f of bit n of its word, where g says what f does to the test of a bit.
 module _ (f : ℕ → ℕ → ℕ) (g : Bool → Bool → Bool)
     (bit : (w i j : ℕ) → testBit (f w i) j ≡ g (testBit w j) (eqb i j))
     (keeps : (b : Bool) → g b false ≡ b)
     (below : (w i : ℕ) → w < 2 ^ 64 → i < 64 → f w i < 2 ^ 64)
-    (s : List ℕ) (n m : ℕ) (h : AreBytes s) (fits : wordOf n + 8 ≤ length s) where
+    (s : List ℕ) (n m : ℕ) (h : AreBytes s) (fits : wordOffset n + 8 ≤ length s) where
   member-changed : member (changed f s n) m ≡ g (member s m) (eqb n m)
   unfolding member changed
   member-changed = go (eq-or-ne (n / 64) (m / 64))
     where
       v : ℕ
-      v = f (numberAt 8 s (wordOf n)) (n % 64)
+      v = f (numberAt 8 s (wordOffset n)) (n % 64)
 
-      written : numberAt 8 (withNumber 8 s (wordOf n) v) (wordOf n) ≡ v
+      written : numberAt 8 (withNumber 8 s (wordOffset n) v) (wordOffset n) ≡ v
       written =
-          numberAt-same 8 s (wordOf n) v fits
-          ∙ mod-eq-of-lt (below (numberAt 8 s (wordOf n)) (n % 64) (word-lt s (wordOf n) h) (omega arith))
+          numberAt-same 8 s (wordOffset n) v fits
+          ∙ mod-eq-of-lt (below (numberAt 8 s (wordOffset n)) (n % 64) (word-lt s (wordOffset n) h) (omega arith))
 
       go : (n / 64 ≡ m / 64) ⊎ (n / 64 ≡ m / 64 → ⊥)
-          → testBit (numberAt 8 (withNumber 8 s (wordOf n) v) (wordOf m)) (m % 64) ≡ g (testBit (numberAt 8 s (wordOf m)) (m % 64)) (eqb n m)
-      go (inl e) = rw (← e, written) (bit (numberAt 8 s (wordOf n)) (n % 64) (m % 64) ∙ ap (g (testBit (numberAt 8 s (wordOf n)) (m % 64))) (same-bit n m e))
+          → testBit (numberAt 8 (withNumber 8 s (wordOffset n) v) (wordOffset m)) (m % 64) ≡ g (testBit (numberAt 8 s (wordOffset m)) (m % 64)) (eqb n m)
+      go (inl e) = rw (← e, written) (bit (numberAt 8 s (wordOffset n)) (n % 64) (m % 64) ∙ ap (g (testBit (numberAt 8 s (wordOffset n)) (m % 64))) (same-bit n m e))
       go (inr e) =
-          rw (numberAt-other 8 s (wordOf n) v fits 8 (wordOf m) (apart n m e), ne-eqb n m (λ (q : n ≡ m). e (omega arith)))
-          (sym (keeps (testBit (numberAt 8 s (wordOf m)) (m % 64))))
+          rw (numberAt-other 8 s (wordOffset n) v fits 8 (wordOffset m) (apart n m e), ne-eqb n m (λ (q : n ≡ m). e (omega arith)))
+          (sym (keeps (testBit (numberAt 8 s (wordOffset m)) (m % 64))))
 
 -- ---- the members after a change
 
-module _ (s : List ℕ) (n : ℕ) (h : AreBytes s) (fits : wordOf n + 8 ≤ length s) where
+module _ (s : List ℕ) (n : ℕ) (h : AreBytes s) (fits : wordOffset n + 8 ≤ length s) where
   -- n is a member, and every other number is as before.
   pub member-with : (m : ℕ) → member (withMember s n) m ≡ member s m || eqb n m
   member-with m = member-changed withBit _||_ testBit-with or-false (withBit-lt 64) s n m h fits
@@ -99,31 +104,25 @@ module _ (s : List ℕ) (n : ℕ) (h : AreBytes s) (fits : wordOf n + 8 ≤ leng
   pub member-without-other : (m : ℕ) → (n ≡ m → ⊥) → member (withoutMember s n) m ≡ member s m
   member-without-other m q = rw (member-without, ne-eqb n m q) (and-true (member s m))
 
-  -- ---- the count after a change
+  -- A member made a member, or no member made none: the bytes are as they were.
+  pub with-member : member s n ≡ true → withMember s n ≡ s
+  unfolding member withBit
+  with-member e = unchanged withBit s n fits h (rw e)
 
-  pub count-with-new : (k : ℕ) → n < k → member s n ≡ false → countMembers k (withMember s n) ≡ countMembers k s + 1
-  unfolding countMembers
-  count-with-new k l e = howMany-more k n (member s) (member (withMember s n)) l (λ i q. member-with-other i (λ (r : n ≡ i). q (sym r))) e member-with-same
+  pub without-member : member s n ≡ false → withoutMember s n ≡ s
+  unfolding member withoutBit
+  without-member e = unchanged withoutBit s n fits h (rw e)
 
-  pub count-with-old : (k : ℕ) → member s n ≡ true → countMembers k (withMember s n) ≡ countMembers k s
+  -- A new member counts one more, and one taken away one less.
+  pub count-with : (k : ℕ) → n < k → member s n ≡ false → countMembers k (withMember s n) ≡ countMembers k s + 1
   unfolding countMembers
-  count-with-old k e = howMany-cong k (member (withMember s n)) (member s) (λ i l. member-with i ∙ go i (eq-or-ne n i))
-    where
-      go : (i : ℕ) → (n ≡ i) ⊎ (n ≡ i → ⊥) → member s i || eqb n i ≡ member s i
-      go i (inl q) = rw (← q, e)
-      go i (inr q) = rw (ne-eqb n i q) (or-false (member s i))
+  count-with k l e =
+      howMany-more k n (member s) (member (withMember s n)) l (λ i q. member-with-other i (λ (r : n ≡ i). q (sym r))) e member-with-same
 
-  pub count-without-old : (k : ℕ) → n < k → member s n ≡ true → countMembers k s ≡ countMembers k (withoutMember s n) + 1
+  pub count-without : (k : ℕ) → n < k → member s n ≡ true → countMembers k s ≡ countMembers k (withoutMember s n) + 1
   unfolding countMembers
-  count-without-old k l e = howMany-more k n (member (withoutMember s n)) (member s) l (λ i q. sym (member-without-other i (λ (r : n ≡ i). q (sym r)))) member-without-same e
-
-  pub count-without-new : (k : ℕ) → member s n ≡ false → countMembers k (withoutMember s n) ≡ countMembers k s
-  unfolding countMembers
-  count-without-new k e = howMany-cong k (member (withoutMember s n)) (member s) (λ i l. member-without i ∙ go i (eq-or-ne n i))
-    where
-      go : (i : ℕ) → (n ≡ i) ⊎ (n ≡ i → ⊥) → member s i && not (eqb n i) ≡ member s i
-      go i (inl q) = rw (← q, e)
-      go i (inr q) = rw (ne-eqb n i q) (and-true (member s i))
+  count-without k l e =
+      howMany-more k n (member (withoutMember s n)) (member s) l (λ i q. sym (member-without-other i (λ (r : n ≡ i). q (sym r)))) member-without-same e
 
 -- ---- the count
 
@@ -173,13 +172,13 @@ word-of-none s k words h l e =
 -- ---- words that became zero
 
 -- No word changes nothing.
-pub cleared-none : (s : List ℕ) → withoutWords 0 s ≡ s
-unfolding withoutWords
+pub cleared-none : (s : List ℕ) → clearedWords 0 s ≡ s
+unfolding clearedWords
 cleared-none s = filled-none 8 s
 
 -- One word more: the law of a loop that clears.
-pub cleared-more : (k : ℕ) (s : List ℕ) → withoutWords (k + 1) s ≡ withNumber 8 (withoutWords k s) (k * 8) 0
-unfolding withoutWords
+pub cleared-more : (k : ℕ) (s : List ℕ) → clearedWords (k + 1) s ≡ withNumber 8 (clearedWords k s) (k * 8) 0
+unfolding clearedWords
 cleared-more k s =
     rw (← (replicate-append-replicate {A = ℕ} k 1 0), filled-more, length-replicate)
 
@@ -188,17 +187,17 @@ module _ (words : ℕ) (s : List ℕ) (fits : words * 8 ≤ length s) where
   room = rw length-replicate fits
 
   -- The bytes stay as many.
-  pub length-cleared : length (withoutWords words s) ≡ length s
-  unfolding withoutWords
+  pub length-cleared : length (clearedWords words s) ≡ length s
+  unfolding clearedWords
   length-cleared = length-filled 8 (replicate words 0) s room
 
-  pub bytes-cleared : AreBytes s → AreBytes (withoutWords words s)
-  unfolding withoutWords
+  pub bytes-cleared : AreBytes s → AreBytes (clearedWords words s)
+  unfolding clearedWords
   bytes-cleared = filled-bytes 8 (replicate words 0) s
 
   -- No number of theirs is a member.
-  pub member-cleared : (n : ℕ) → n < words * 64 → member (withoutWords words s) n ≡ false
-  unfolding member withoutWords
+  pub member-cleared : (n : ℕ) → n < words * 64 → member (clearedWords words s) n ≡ false
+  unfolding member clearedWords
   member-cleared n l =
       let zero-word : numberAt 8 (filled 8 (replicate words 0) s) (n / 64 * 8) ≡ 0 =
       numberAt-filled 8 (replicate words 0) s room (n / 64) (rw length-replicate (omega arith))
@@ -206,10 +205,25 @@ module _ (words : ℕ) (s : List ℕ) (fits : words * 8 ≤ length s) where
       rw zero-word (testBit-none (n % 64))
 
   -- Every other number is a member as before.
-  pub member-behind-cleared : (n : ℕ) → words * 64 ≤ n → member (withoutWords words s) n ≡ member s n
-  unfolding member withoutWords
+  pub member-behind-cleared : (n : ℕ) → words * 64 ≤ n → member (clearedWords words s) n ≡ member s n
+  unfolding member clearedWords
   member-behind-cleared n l =
       rw (numberAt-behind-filled 8 (replicate words 0) s room 8 (n / 64 * 8) (rw length-replicate (omega arith)))
 
-  pub count-cleared : countMembers (words * 64) (withoutWords words s) ≡ 0
-  count-cleared = count-none (words * 64) (withoutWords words s) member-cleared
+  pub count-cleared : countMembers (words * 64) (clearedWords words s) ≡ 0
+  count-cleared = count-none (words * 64) (clearedWords words s) member-cleared
+
+-- ---- a set that is a part of a list
+
+-- The set of the words behind the first.
+pub member-drop : (words : ℕ) (s : List ℕ) (n : ℕ) → member (drop (words * 8) s) n ≡ member s (words * 64 + n)
+unfolding member
+member-drop words s n =
+    let place : words * 8 + n / 64 * 8 ≡ (words * 64 + n) / 64 * 8 = omega arith in
+    let bit : n % 64 ≡ (words * 64 + n) % 64 = omega arith in
+    rw (numberAt-drop, place) (ap (testBit (numberAt 8 s ((words * 64 + n) / 64 * 8))) bit)
+
+-- The set of the words within the first n bytes.
+pub member-take : (m : ℕ) (s : List ℕ) (n : ℕ) → wordOffset n + 8 ≤ m → member (take m s) n ≡ member s n
+unfolding member
+member-take m s n l = rw (numberAt-take 8 m s (wordOffset n) l)

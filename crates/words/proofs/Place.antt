@@ -1,18 +1,17 @@
 -- A number of k bytes read and written at a place of a list of bytes, at every k.
 use mathlib.Core.Path.{_≡_, refl, sym, ap, _∙_, subst}
-use mathlib.Core.Logic.{_⊎_, inl, inr, ⊎-elim}
+use mathlib.Core.Logic.{_⊎_, inl, inr}
 use mathlib.Core.List.{List, [], _∷_, _++_, append-assoc}
-use Prim.Native.Nat.{ℕ, zero, suc, _+_, _-_, _*_, _/_, _%_, _^_, _≤_, _<_, min}
-use native.Mathlib.Nat.{one-mul, mul-assoc, add-assoc, zero-add, add-sub-of-le, pow-succ', add-zero, suc-add, add-suc, le-add-right, mod-eq-of-lt, le-refl, le-trans, min-eq-left}
+use Prim.Native.Nat.{ℕ, zero, suc, _+_, _-_, _*_, _/_, _%_, _^_, _≤_, _<_}
+use native.Mathlib.Nat.{one-mul, mul-assoc, add-assoc, zero-add, add-sub-of-le, pow-succ', add-zero, suc-add, add-suc, mod-eq-of-lt}
 use native.Mathlib.Omega.{arith}
-use native.Mathlib.Numerals.{add-one}
-use lib.ListN.{length, getD, take, drop, set, length-append, length-take, length-drop, drop-of-length-le, List·getD-eq-default, List·getD-append}
-use lib.Seq.{take-all, drop-cons, take-at, drop-at, take-append-le, drop-append-le, length-take-le, take-add, drop-drop, take-take, getD-take, getD-drop, sets, sets-eq, getD-append-add, drop-append-add, take-nil, take-append-seam}
+use lib.ListN.{length, getD, take, drop, length-append, length-drop, take-append-drop}
+use lib.Seq.{take-all, take-add, take-at, drop-at, length-take-le, drop-drop, getD-take, getD-drop, sets, sets-eq, take-nil}
 use Rattle.words.specs.Number.{value, bytes, numberAt, withNumber}
 use Rattle.words.specs.Bytes.{AreBytes}
 use Rattle.words.proofs.Cases.{le-or-lt}
-use Rattle.words.proofs.Lists.{getD-behind, getD-within}
-use Rattle.words.proofs.Value.{bytes-mod, bytes-add, length-bytes, bytes-are, value-bytes, value-lt}
+use Rattle.words.proofs.Lists.{bytes-take, bytes-drop, getD-behind, getD-within}
+use Rattle.words.proofs.Value.{bytes-value, bytes-mod, bytes-add, length-bytes, bytes-are, value-bytes}
 
 -- ---- reading
 
@@ -54,6 +53,23 @@ numberAt-cong (suc k) s t i j h =
     let rest : numberAt k s (suc i) ≡ numberAt k t (suc j) =
     numberAt-cong k s t (suc i) (suc j) (λ m l. simp (suc-add) (simp add-suc at (h (suc m) (omega arith)))) in
     rw (numberAt-suc, numberAt-suc, first, rest)
+
+-- ---- reading in a part
+
+-- Behind the first j bytes.
+pub numberAt-drop : (k j : ℕ) (s : List ℕ) (i : ℕ) → numberAt k (drop j s) i ≡ numberAt k s (j + i)
+numberAt-drop k j s i = numberAt-cong k (drop j s) s i (j + i) (λ m l. getD-drop j s (i + m) 0 ∙ rw add-assoc)
+
+-- Within the first n bytes.
+pub numberAt-take : (k n : ℕ) (s : List ℕ) (i : ℕ) → i + k ≤ n → numberAt k (take n s) i ≡ numberAt k s i
+numberAt-take k n s i h = numberAt-cong k (take n s) s i i (λ m l. getD-take n s (i + m) 0 (omega arith))
+
+-- In the first of two lists, one after the other, and in the second.
+pub numberAt-first : (k : ℕ) (p q : List ℕ) (i : ℕ) → i + k ≤ length p → numberAt k (p ++ q) i ≡ numberAt k p i
+numberAt-first k p q i h = numberAt-cong k (p ++ q) p i i (λ m l. getD-within p q (length p) (i + m) refl (omega arith))
+
+pub numberAt-second : (k : ℕ) (p q : List ℕ) (i : ℕ) → numberAt k (p ++ q) (length p + i) ≡ numberAt k q i
+numberAt-second k p q i = numberAt-cong k (p ++ q) q (length p + i) i (λ m l. rw add-assoc (getD-behind p q (length p) (i + m) refl))
 
 -- ---- writing, into bytes that are all there
 
@@ -114,6 +130,10 @@ module _ (k : ℕ) (s : List ℕ) (i n : ℕ) (fits : i + k ≤ length s) where
       numberAt-cong k (withNumber k s i n) (bytes k n) i 0 (λ m h. byte-in m h ∙ rw zero-add)
       ∙ numberAt-whole k (bytes k n) (length-bytes k n) ∙ value-bytes k n
 
+  -- It is the number itself where that fits k bytes.
+  pub numberAt-written : n < 256 ^ k → numberAt k (withNumber k s i n) i ≡ n
+  numberAt-written h = numberAt-same ∙ mod-eq-of-lt h
+
   -- Every number of any width that shares no byte with it stands as it did.
   pub numberAt-other : (m j : ℕ) → (j + m ≤ i) ⊎ (i + k ≤ j) → numberAt m (withNumber k s i n) j ≡ numberAt m s j
   numberAt-other m j (inl h) = numberAt-cong m (withNumber k s i n) s j j (λ x l. byte-before (j + x) (omega arith))
@@ -140,3 +160,13 @@ withNumber-add j k s i n fits =
 pub withNumber-mod : (k : ℕ) (s : List ℕ) (i n : ℕ) → withNumber k s i (n % 256 ^ k) ≡ withNumber k s i n
 unfolding withNumber
 withNumber-mod k s i n = rw bytes-mod
+
+-- A write of the number that stands there changes nothing.
+pub withNumber-numberAt : (k : ℕ) (s : List ℕ) (i : ℕ) → AreBytes s → i + k ≤ length s → withNumber k s i (numberAt k s i) ≡ s
+unfolding withNumber numberAt
+withNumber-numberAt k s i h fits =
+    let xs : List ℕ = take k (drop i s) in
+    let long : length xs ≡ k = length-take-le k (drop i s) (rw length-drop (omega arith)) in
+    let same : bytes k (value xs) ≡ xs =
+    subst (λ (n : ℕ). bytes n (value xs) ≡ xs) long (bytes-value xs (bytes-take k (drop i s) (bytes-drop i s h))) in
+    rw (same, ← take-add) (take-append-drop (i + k) s)

@@ -1,13 +1,13 @@
 -- A row of numbers of k bytes each, at every k, and a list of bytes whose first numbers are given.
-use mathlib.Core.Path.{_≡_, refl, sym, ap, ap₂, _∙_, subst}
+use mathlib.Core.Path.{_≡_, refl, sym, ap, _∙_, subst}
 use mathlib.Core.List.{List, [], _∷_, _++_, append-assoc, append-nil}
-use Prim.Native.Nat.{ℕ, zero, suc, _+_, _-_, _*_, _/_, _%_, _^_, _≤_, _<_}
-use native.Mathlib.Nat.{zero-mul, suc-mul, add-comm, add-assoc, zero-add, add-zero, add-sub-of-le, mul-le-mul-right}
+use Prim.Native.Nat.{ℕ, zero, suc, _+_, _-_, _*_, _%_, _^_, _≤_, _<_}
+use native.Mathlib.Nat.{le-div-iff-mul-le, zero-mul, suc-mul, add-comm, add-assoc, zero-add, add-sub-of-le}
 use native.Mathlib.Numerals.{add-one}
 use native.Mathlib.Omega.{arith}
 use lib.ListN.{length, getD, take, drop, length-append, length-drop}
-use lib.Seq.{take-at, drop-at, drop-drop, drop-append-le, drop-append-add, take-append-le, getD-drop}
-use Rattle.words.specs.Number.{value, bytes, bytesOf, numberAt, withNumber, filled}
+use lib.Seq.{take-at, drop-at, drop-drop, getD-drop}
+use Rattle.words.specs.Number.{bytes, bytesOf, numberAt, withNumber, filled, count}
 use Rattle.words.specs.Bytes.{AreBytes}
 use Rattle.words.proofs.Value.{length-bytes, bytes-are, value-bytes}
 use Rattle.words.proofs.Lists.{bytes-append, bytes-drop, getD-behind, getD-within}
@@ -87,3 +87,15 @@ filled-more k ns s n =
     ∙ ap (drop k) (drop-at (bytesOf k ns) (drop (length ns * k) s) (length ns * k) l)
     ∙ drop-drop k (length ns * k) s in
     rw (bytesOf-append, length-append, front, back, append-nil, add-one, suc-mul)
+
+-- ---- as many numbers as fit
+
+-- Each number that counts is all there.
+pub count-fits : (k : ℕ) (s : List ℕ) (i : ℕ) → 0 < k → i < count k s → i * k + k ≤ length s
+unfolding count
+count-fits k s i p h = rw suc-mul at (le-div-iff-mul-le {k = k} {x = suc i} {y = length s} p .0 h)
+
+-- Numbers that are all there count.
+pub fits-count : (k : ℕ) (s : List ℕ) (n : ℕ) → 0 < k → n * k ≤ length s → n ≤ count k s
+unfolding count
+fits-count k s n p h = le-div-iff-mul-le {k = k} {x = n} {y = length s} p .1 h

@@ -2,15 +2,15 @@
 ghost use mathlib.Core.Path.{_≡_};
 ghost use Prim.Native.Nat.{_+_, _*_, _≤_};
 ghost use lib.Dec.{eqb};
-ghost use Rattle.words.specs.Bits.{assignedBit};
 ghost use lib.ListN.{length};
-ghost use Rattle.words.specs.Sets.{wordOf, member, changed, withMember, withoutMember, countMembers, withoutWords};
+ghost use Rattle.words.specs.Bits.{assignedBit};
+ghost use Rattle.words.specs.Sets.{wordOffset, member, changed, withMember, withoutMember, countMembers, clearedWords, nextMember};
 use crate::bits;
 use crate::numbers;
 
 // n is a member.
 pub fn contains(s: &[u8], n: usize) -> bool
-    requires { ⌜ wordOf n + 8 ≤ length (now s) ⌝ }
+    requires { ⌜ wordOffset n + 8 ≤ length (now s) ⌝ }
     ensures { λ r. ⌜ r ≡ member (now (s .entry)) n ⌝ }
 {
     bits::test_bit(numbers::get_u64(s, n / 64 * 8), n as u64)
@@ -18,7 +18,7 @@ pub fn contains(s: &[u8], n: usize) -> bool
 
 // n becomes a member, or ceases to be one.
 pub fn assign(s: &mut [u8], n: usize, on: bool)
-    requires { ⌜ wordOf n + 8 ≤ length (now s) ⌝ }
+    requires { ⌜ wordOffset n + 8 ≤ length (now s) ⌝ }
     ensures { λ _. ⌜ now (s .exit) ≡ changed (assignedBit on) (now (s .entry)) n ⌝ }
 {
     let at = n / 64 * 8;
@@ -28,7 +28,7 @@ pub fn assign(s: &mut [u8], n: usize, on: bool)
 
 // n becomes a member.
 pub fn insert(s: &mut [u8], n: usize)
-    requires { ⌜ wordOf n + 8 ≤ length (now s) ⌝ }
+    requires { ⌜ wordOffset n + 8 ≤ length (now s) ⌝ }
     ensures { λ _. ⌜ now (s .exit) ≡ withMember (now (s .entry)) n ⌝ }
 {
     assign(s, n, true);
@@ -36,13 +36,13 @@ pub fn insert(s: &mut [u8], n: usize)
 
 // n ceases to be a member.
 pub fn remove(s: &mut [u8], n: usize)
-    requires { ⌜ wordOf n + 8 ≤ length (now s) ⌝ }
+    requires { ⌜ wordOffset n + 8 ≤ length (now s) ⌝ }
     ensures { λ _. ⌜ now (s .exit) ≡ withoutMember (now (s .entry)) n ⌝ }
 {
     assign(s, n, false);
 }
 
-// How many numbers of the first words are members.
+// How many numbers of the first words are members. (words is a u32, so that the count fits; likewise below.)
 pub fn count(s: &[u8], words: u32) -> u64
     requires { ⌜ words * 8 ≤ length (now s) ⌝ }
     ensures { λ r. ⌜ r ≡ countMembers (words * 64) (now (s .entry)) ⌝ }
@@ -74,11 +74,28 @@ pub fn is_empty(s: &[u8], words: usize) -> bool
 // The first words become zero.
 pub fn clear(s: &mut [u8], words: usize)
     requires { ⌜ words * 8 ≤ length (now s) ⌝ }
-    ensures { λ _. ⌜ now (s .exit) ≡ withoutWords words (now (s .entry)) ⌝ }
+    ensures { λ _. ⌜ now (s .exit) ≡ clearedWords words (now (s .entry)) ⌝ }
 {
     let mut done = 0;
     while done < words {
         numbers::put_u64(s, done * 8, 0);
         done += 1;
     }
+}
+
+// The first member at or above a number within the first words, or the number behind them where there is none.
+pub fn next_member(s: &[u8], words: u32, from: usize) -> usize
+    requires { ⌜ words * 8 ≤ length (now s) ⌝ }
+    ensures { λ r. ⌜ r ≡ nextMember (words * 64) (now (s .entry)) from ⌝ }
+{
+    let limit = (words as usize) * 64;
+    let mut at = from;
+    while at < limit {
+        let rest = numbers::get_u64(s, at / 64 * 8) >> (at % 64);
+        if rest != 0 {
+            return at + bits::lowest_bit(rest);
+        }
+        at = (at / 64 + 1) * 64;
+    }
+    at
 }

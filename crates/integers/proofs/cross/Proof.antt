@@ -1,8 +1,7 @@
+-- `integers::cross` meets its contract: products of 16-bit numbers and their difference fit 64 bits. Assumes nothing.
 use Rattle.integers.proofs.Products.{products}
 use Rattle.integers.proofs.cross.Statement.{statement}
 use Rattle.integers.proofs.cross.Tie as tie
-use Rattle.integers.proofs.cross.Reads as reads
-use Rattle.integers.proofs.cross.Lts as lts
 
 cast-result : tie.Need-cast-result
 cast-result c = search products

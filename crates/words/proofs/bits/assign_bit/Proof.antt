@@ -1,15 +1,16 @@
-use borrow.Author.Needs.{needs}
+-- `words::bits::assign_bit` meets its contract.
+use native.Mathlib.Omega.{arith}
 use Rattle.words.proofs.bits.assign_bit.Statement.{statement}
 use Rattle.words.proofs.bits.assign_bit.Tie as tie
 
 set-bit-requires : tie.Need-set-bit-requires
-set-bit-requires c κs = search needs
+set-bit-requires c κs = omega arith
 
 returns : tie.Need-returns
 returns c = rw (c .before .if1 .taken) (c .set-bit .ensures)
 
 clear-bit-requires : tie.Need-clear-bit-requires
-clear-bit-requires c κs = search needs
+clear-bit-requires c κs = omega arith
 
 returns-2 : tie.Need-returns-2
 returns-2 c = rw (c .before .if1 .left) (c .clear-bit .ensures)

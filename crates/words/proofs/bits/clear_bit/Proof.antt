@@ -1,17 +1,16 @@
 -- `words::bits::clear_bit` meets its contract.
 use Prim.Native.Nat.{_%_}
 use native.Mathlib.Omega.{arith}
-use Rattle.words.proofs.Bit.{one-shifted, and-not-pow}
+use Rattle.words.proofs.Bit.{and-not-pow}
 use Rattle.words.proofs.bits.clear_bit.Statement.{statement}
 use Rattle.words.proofs.bits.clear_bit.Tie as tie
 
-shl-result : tie.Need-shl-result
-shl-result c = omega arith
+one-bit-requires : tie.Need-one-bit-requires
+one-bit-requires c κs = omega arith
 
 returns : tie.Need-returns
 returns c =
-    let i = c .args .i % 64 in
-    rw (one-shifted 64 i (omega arith)) (and-not-pow 64 (c .args .w) i (c .fits .w .fits) (omega arith))
+    rw (c .one-bit .ensures) (and-not-pow 64 (c .before .args .w) (c .before .args .i % 64) (c .before .fits .w .fits) (omega arith))
 
 pub clear-bit-spec : {M : Type 1} → statement M
-clear-bit-spec = tie.close (tie.spec shl-result returns)
+clear-bit-spec = tie.close (tie.spec one-bit-requires returns)

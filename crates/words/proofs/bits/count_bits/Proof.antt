@@ -1,3 +1,4 @@
+-- `words::bits::count_bits` meets its contract.
 use native.Mathlib.Omega.{arith}
 use mathlib.Core.Path.{refl}
 use lib.Count.{ones-le}

@@ -1,17 +1,15 @@
 -- `words::bits::set_bit` meets its contract.
 use Prim.Native.Nat.{_%_}
+use Rattle.words.proofs.Bit.{or-pow}
 use native.Mathlib.Omega.{arith}
-use Rattle.words.proofs.Bit.{one-shifted, or-pow}
 use Rattle.words.proofs.bits.set_bit.Statement.{statement}
 use Rattle.words.proofs.bits.set_bit.Tie as tie
 
-shl-result : tie.Need-shl-result
-shl-result c = omega arith
+one-bit-requires : tie.Need-one-bit-requires
+one-bit-requires c κs = omega arith
 
 returns : tie.Need-returns
-returns c =
-    let i = c .args .i % 64 in
-    rw (one-shifted 64 i (omega arith)) (or-pow (c .args .w) i)
+returns c = rw (c .one-bit .ensures) (or-pow (c .before .args .w) (c .before .args .i % 64))
 
 pub set-bit-spec : {M : Type 1} → statement M
-set-bit-spec = tie.close (tie.spec shl-result returns)
+set-bit-spec = tie.close (tie.spec one-bit-requires returns)

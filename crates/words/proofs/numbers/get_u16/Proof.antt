@@ -1,10 +1,11 @@
-use borrow.Author.Needs.{needs}
+-- `words::numbers::get_u16` meets its contract.
+use native.Mathlib.Omega.{arith}
 use Rattle.words.proofs.numbers.get_u16.Statement.{statement}
 use Rattle.words.proofs.numbers.get_u16.Tie as tie
-use mathlib.Core.Path.{_≡_}
+use mathlib.Core.Path.{_≡_, sym, ap₂, _∙_}
 use mathlib.Core.List.{List}
 use Prim.Native.Nat.{ℕ, _+_, _*_}
-use native.Mathlib.Nat.{add-zero, mul-zero}
+use native.Mathlib.Nat.{add-zero}
 use native.Mathlib.Numerals.{add-one}
 use lib.ListN.{getD}
 use Rattle.words.specs.Number.{numberAt}
@@ -15,28 +16,30 @@ two-bytes : (s : List ℕ) (i : ℕ) → numberAt 2 s i ≡ getD s i 0 + 256 * g
 two-bytes s i = rw (numberAt-suc 1, numberAt-suc 0, numberAt-zero, add-zero, add-one)
 
 shared-slice-read-wide : tie.Need-shared-slice-read-wide
-shared-slice-read-wide c = search needs
+shared-slice-read-wide c = omega arith
 
 wide-requires : tie.Need-wide-requires
-wide-requires c κs = search needs
+wide-requires c κs = omega arith
 
 add-wide : tie.Need-add-wide
-add-wide c = search needs
+add-wide c = omega arith
 
 shared-slice-read-wide-2 : tie.Need-shared-slice-read-wide-2
-shared-slice-read-wide-2 c = search needs
+shared-slice-read-wide-2 c = omega arith
 
 wide-requires-2 : tie.Need-wide-requires-2
-wide-requires-2 c κs = search needs
+wide-requires-2 c κs = omega arith
 
 mul-result : tie.Need-mul-result
-mul-result c = search needs
+mul-result c = omega arith
 
 add-result : tie.Need-add-result
-add-result c = search needs
+add-result c = omega arith
 
 returns : tie.Need-returns
-returns c = cc (two-bytes (c .before .before .before .before .before .args .s .now) (c .before .before .before .before .before .args .i))
+returns c =
+    let start = c .before .before .before .before .before in
+    ap₂ (λ (x y : ℕ). x + 256 * y) (c .before .before .wide .ensures .0) (c .wide2 .ensures .0) ∙ sym (two-bytes (start .args .s .now) (start .args .i))
 
 pub get-u16-spec : {M : Type 1} → statement M
 get-u16-spec =

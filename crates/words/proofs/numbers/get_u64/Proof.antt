@@ -1,7 +1,7 @@
-use borrow.Author.Needs.{needs}
+-- `words::numbers::get_u64` meets its contract.
 use Rattle.words.proofs.numbers.get_u64.Statement.{statement}
 use Rattle.words.proofs.numbers.get_u64.Tie as tie
-use mathlib.Core.Path.{_≡_}
+use mathlib.Core.Path.{_≡_, sym}
 use mathlib.Core.List.{List}
 use Prim.Native.Nat.{ℕ, _+_, _*_}
 use native.Mathlib.Omega.{arith}
@@ -17,32 +17,38 @@ four-parts s i =
     rw (numberAt-add 2 6 s i, numberAt-add 2 4 s (i + 2), third, numberAt-add 2 2 s (i + 4), fourth)
 
 get-u16-requires : tie.Need-get-u16-requires
-get-u16-requires c κs = search needs
+get-u16-requires c κs = omega arith
 
 add-get-u16 : tie.Need-add-get-u16
-add-get-u16 c = search needs
+add-get-u16 c = omega arith
 
 get-u16-requires-2 : tie.Need-get-u16-requires-2
-get-u16-requires-2 c κs = search needs
+get-u16-requires-2 c κs = omega arith
 
 add-get-u16-2 : tie.Need-add-get-u16-2
-add-get-u16-2 c = search needs
+add-get-u16-2 c = omega arith
 
 get-u16-requires-3 : tie.Need-get-u16-requires-3
-get-u16-requires-3 c κs = search needs
+get-u16-requires-3 c κs = omega arith
 
 add-get-u16-3 : tie.Need-add-get-u16-3
-add-get-u16-3 c = search needs
+add-get-u16-3 c = omega arith
 
 get-u16-requires-4 : tie.Need-get-u16-requires-4
-get-u16-requires-4 c κs = search needs
+get-u16-requires-4 c κs = omega arith
 
 joined-requires : tie.Need-joined-requires
-joined-requires c κs = search needs
+joined-requires c κs = omega arith
 
 returns : tie.Need-returns
 returns c =
-    cc (four-parts (c .before .before .before .before .before .before .args .s .now) (c .before .before .before .before .before .before .args .i))
+    let fourth = c .before in
+    let third = fourth .before in
+    let second = third .before in
+    let first = second .before in
+    let start = first .before .before in
+    rw (c .joined .ensures, first .get-u16 .ensures, second .get-u162 .ensures, third .get-u163 .ensures, fourth .get-u164 .ensures)
+    (sym (four-parts (start .args .s .now) (start .args .i)))
 
 pub get-u64-spec : {M : Type 1} → statement M
 get-u64-spec =

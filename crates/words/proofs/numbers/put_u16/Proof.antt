@@ -1,3 +1,4 @@
+-- `words::numbers::put_u16` meets its contract.
 use borrow.Author.Needs.{needs}
 use Rattle.words.proofs.numbers.put_u16.Statement.{statement}
 use Rattle.words.proofs.numbers.put_u16.Tie as tie
@@ -9,16 +10,16 @@ use Rattle.words.specs.Number.{bytes}
 use Rattle.words.proofs.Place.{withNumber-sets}
 
 cast-s : tie.Need-cast-s
-cast-s c = search needs
+cast-s c = omega arith
 
 slice-write-s : tie.Need-slice-write-s
-slice-write-s c = search needs
+slice-write-s c = omega arith
 
 cast-s-2 : tie.Need-cast-s-2
-cast-s-2 c = search needs
+cast-s-2 c = omega arith
 
 add-s : tie.Need-add-s
-add-s c = search needs
+add-s c = omega arith
 
 slice-write-s-2 : tie.Need-slice-write-s-2
 slice-write-s-2 c = simp length-set (omega arith)

@@ -1,4 +1,4 @@
-use borrow.Author.Needs.{needs}
+-- `words::numbers::put_u64` meets its contract.
 use Rattle.words.proofs.numbers.put_u64.Statement.{statement}
 use Rattle.words.proofs.numbers.put_u64.Tie as tie
 use mathlib.Core.Path.{_≡_, sym, ap, _∙_}
@@ -31,45 +31,50 @@ four-writes s i n fits =
     ∙ sym (withNumber-mod 2 (withNumber 2 s₂ (i + 4) (n / 65536 / 65536 % 65536)) (i + 6) (n / 65536 / 65536 / 65536))
 
 cast-put-u16 : tie.Need-cast-put-u16
-cast-put-u16 c = search needs
+cast-put-u16 c = omega arith
 
 put-u16-requires : tie.Need-put-u16-requires
-put-u16-requires c κs = search needs
+put-u16-requires c κs = omega arith
 
 add-put-u16 : tie.Need-add-put-u16
-add-put-u16 c = search needs
+add-put-u16 c = omega arith
 
 cast-put-u16-2 : tie.Need-cast-put-u16-2
-cast-put-u16-2 c = search needs
+cast-put-u16-2 c = omega arith
 
 put-u16-requires-2 : tie.Need-put-u16-requires-2
-put-u16-requires-2 c κs = search needs
+put-u16-requires-2 c κs = omega arith
 
 add-put-u16-2 : tie.Need-add-put-u16-2
-add-put-u16-2 c = search needs
+add-put-u16-2 c = omega arith
 
 cast-put-u16-3 : tie.Need-cast-put-u16-3
-cast-put-u16-3 c = search needs
+cast-put-u16-3 c = omega arith
 
 put-u16-requires-3 : tie.Need-put-u16-requires-3
-put-u16-requires-3 c κs = search needs
+put-u16-requires-3 c κs = omega arith
 
 add-put-u16-3 : tie.Need-add-put-u16-3
-add-put-u16-3 c = search needs
+add-put-u16-3 c = omega arith
 
 cast-put-u16-4 : tie.Need-cast-put-u16-4
-cast-put-u16-4 c = search needs
+cast-put-u16-4 c = omega arith
 
 put-u16-requires-4 : tie.Need-put-u16-requires-4
-put-u16-requires-4 c κs = search needs
+put-u16-requires-4 c κs = omega arith
 
 same-length : tie.Need-same-length
-same-length c = search needs
+same-length c = omega arith
 
 returns : tie.Need-returns
 returns c =
-    let a = c .before .before .before .before .before .before .before .before .before .before .before .before .before .before .before .before .before in
-    cc (four-writes (a .args .s .now) (a .args .i) (a .args .n) (a .pre))
+    let fourth = c .before .before in
+    let third = fourth .before .before .before .before in
+    let second = third .before .before .before .before in
+    let first = second .before .before .before .before in
+    let start = first .before .before .before in
+    rw (fourth .put-u164 .ensures, third .put-u163 .ensures, second .put-u162 .ensures, first .put-u16 .ensures)
+    (sym (four-writes (start .args .s .now) (start .args .i) (start .args .n) (start .pre)))
 
 pub put-u64-spec : {M : Type 1} → statement M
 put-u64-spec =

@@ -1,15 +1,16 @@
+-- `words::sets::clear` meets its contract. The invariant: the words passed are zero, and nothing else changed.
 use borrow.Author.Needs.{needs}
-use mathlib.Core.Path.{_≡_, sym, ap, _∙_}
+use mathlib.Core.Path.{_≡_, sym}
 use Prim.Native.Nat.{_≤_, _-_}
 use native.Mathlib.Omega.{arith}
 use lib.ListN.{length}
-use Rattle.words.specs.Sets.{withoutWords}
+use Rattle.words.specs.Sets.{clearedWords}
 use Rattle.words.proofs.Member.{cleared-none, cleared-more}
 use Rattle.words.proofs.sets.clear.Statement.{statement}
 use Rattle.words.proofs.sets.clear.Tie as tie
 
 abbrev Inv-loop : tie.InvT-loop
-Inv-loop s₀ words done₀ s done = (done ≤ words) × (length s ≡ length s₀) × (s ≡ withoutWords done s₀)
+Inv-loop s₀ words done₀ s done = (done ≤ words) × (length s ≡ length s₀) × (s ≡ clearedWords done s₀)
 
 abbrev μ-loop : tie.MeasureT-loop
 μ-loop s₀ words done₀ s done = words - done
@@ -18,16 +19,16 @@ loop-holds : tie.Need-loop-holds Inv-loop μ-loop
 loop-holds c = (omega arith, omega arith, sym (cleared-none (c .before .args .s .now)))
 
 mul-put-u64 : tie.Need-mul-put-u64 Inv-loop μ-loop
-mul-put-u64 c = search needs
+mul-put-u64 c = omega arith
 
 put-u64-requires : tie.Need-put-u64-requires Inv-loop μ-loop
-put-u64-requires c κs = search needs
+put-u64-requires c κs = omega arith
 
 add-done : tie.Need-add-done Inv-loop μ-loop
-add-done c = search needs
+add-done c = omega arith
 
 loop-less : tie.Need-loop-less Inv-loop μ-loop
-loop-less c = search needs
+loop-less c = omega arith
 
 loop-again : tie.Need-loop-again Inv-loop μ-loop
 loop-again c =
@@ -36,7 +37,7 @@ loop-again c =
     (omega arith, search needs, cc (cleared-more k s))
 
 same-length : tie.Need-same-length Inv-loop μ-loop
-same-length c = search needs
+same-length c = omega arith
 
 returns : tie.Need-returns Inv-loop μ-loop
 returns c = let e : c .before .loop .done ≡ c .before .before .before .args .words = omega arith in cc

@@ -1,0 +1,27 @@
+-- `geometry::edges::next_vertex` meets its contract: the place of the next vertex is within the slice exactly if there is a next vertex. Assumes nothing.
+use native.Mathlib.Omega.{arith}
+use denote.Ref.{now}
+use Rattle.geometry.specs.Flat.{partOf}
+use Rattle.geometry.proofs.EdgeLaws.{next-inside, next-first}
+use Rattle.geometry.proofs.Flat.{part-length}
+use borrow.Author.Needs.{needs}
+use Rattle.geometry.proofs.edges.next_vertex.Statement.{statement}
+use Rattle.geometry.proofs.edges.next_vertex.Tie as tie
+
+mul-if1 : tie.Need-mul-if1
+mul-if1 c = search needs
+
+add-if1 : tie.Need-add-if1
+add-if1 c = search needs
+
+add-result : tie.Need-add-result
+add-result c = search needs
+
+returns : tie.Need-returns
+returns c = (next-inside (partOf (now (c .before .args .p))) (c .before .args .k) (omega (arith, part-length (now (c .before .args .p)))), omega arith)
+
+returns-2 : tie.Need-returns-2
+returns-2 c = (next-first (partOf (now (c .before .args .p))) (c .before .args .k) (omega (arith, part-length (now (c .before .args .p)))), omega arith)
+
+pub next-vertex-spec : {M : Type 1} → statement M
+next-vertex-spec = tie.close (tie.spec mul-if1 add-if1 add-result returns returns-2)

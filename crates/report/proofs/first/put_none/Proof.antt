@@ -1,0 +1,41 @@
+-- `report::first::put_none` meets its contract: the word, and the steps.
+use mathlib.Core.List.{[], _∷_, _++_}
+use mathlib.Core.Path.{sym}
+use native.Mathlib.Omega.{arith}
+use Rattle.model.specs.Output.{decimal, noneWord}
+use Rattle.model.proofs.Printing.{line-two}
+use Rattle.report.specs.Text.{numberThen}
+use Rattle.report.proofs.Placing.{placed-as, placed-then, room, room-first}
+use borrow.Author.Needs.{needs}
+use Rattle.report.proofs.first.put_none.Statement.{statement}
+use Rattle.report.proofs.first.put_none.Tie as tie
+
+slice-aggregate-put-word : tie.Need-slice-aggregate-put-word
+slice-aggregate-put-word c = search needs
+
+put-word-requires : tie.Need-put-word-requires
+unfolding numberThen noneWord
+put-word-requires c κs =
+    let start = c .before .before .before in
+    room-first _ _ (noneWord ++ 32 ∷ []) (numberThen (start .args .steps) 10) (rw line-two at (start .pre))
+
+put-number-requires : tie.Need-put-number-requires
+unfolding numberThen noneWord
+put-number-requires c κs =
+    let start = c .before .before .before .before .before .before .before in
+    room (numberThen (start .args .steps) 10) (rw line-two at (start .pre)) (c .before .before .before .put-word .ensures)
+
+same-length : tie.Need-same-length
+same-length c = search needs
+
+returns : tie.Need-returns
+unfolding numberThen noneWord
+returns c =
+    let start = c .before .before .before .before .before .before .before .before .before .before in
+    placed-as (sym (line-two noneWord (decimal (start .args .steps))))
+    (placed-then (omega (arith, start .pre)) (c .before .before .before .before .before .before .put-word .ensures) (c .before .before .put-number .ensures))
+
+pub put-none-spec : {M : Type 1} → statement M
+put-none-spec =
+    tie.close
+    (tie.spec slice-aggregate-put-word put-word-requires put-number-requires same-length returns)
