@@ -1,5 +1,10 @@
 pub mod Boards
 pub mod Lists
+pub mod Tests
+pub mod Extremes
+pub mod Conflict
+pub mod Moves
+pub mod Box
 pub mod Numbers
 pub mod Passing
 pub mod Sorted

@@ -1,0 +1,97 @@
+-- The edges of a part one after the other, and the vertices of a part against a limit along a direction. Assumes nothing.
+use mathlib.Core.Bool.{Bool, true, false, cond, _||_}
+use mathlib.Core.List.{List, [], _∷_, map}
+use mathlib.Core.Path.{_≡_, refl, sym, ap, _∙_}
+use Prim.Native.Nat.{ℕ, zero, suc, _+_, _-_, _*_, _≤_, _<_}
+use native.Mathlib.Nat.{not-suc-le-zero, sub-zero}
+use native.Mathlib.Numerals.{add-one}
+use native.Mathlib.Omega.{arith}
+use borrow.Author.Tests.{eq-eqb, ne-eqb}
+use lib.Dec.{eqb}
+use lib.IntN.{ℤ, pos, _-ℤ_}
+use lib.ListN.{length, length-map, getD, List·getD-map}
+use lib.Signed.{leZ, _≤ℤ_, _<ℤ_}
+use Rattle.integers.proofs.Order.{leZ-true, le-leZ, lt-leZ, ≤ℤ-trans, clash}
+use Rattle.model.specs.Content.{Vertex, vertex, Part, origin}
+use Rattle.model.specs.Geometry.{Direction, direction, vertexAt, following, outwardNormal, normals}
+use Rattle.model.specs.Lists.{all, any, rising, below, largestZ}
+use Rattle.model.proofs.Box.{all-below-bound}
+use Rattle.model.proofs.Lists.{all-at, all-of}
+use Rattle.model.proofs.Tests.{any-map}
+use Rattle.geometry.specs.Flat.{partOf, normalOf}
+use Rattle.geometry.proofs.Flat.{part-at}
+
+-- ---- the edges
+
+-- no edge before k passes the test: the others decide
+pub record Remaining (t : Direction → Bool) (P : Part) (k : ℕ) : Type 0 where
+  pub rest : any t (normals P) ≡ any (λ i. t (normalOf P i)) (rising k (length P - k))
+
+rising-first : (k n : ℕ) → k < n → rising k (n - k) ≡ k ∷ rising (k + 1) (n - (k + 1))
+unfolding rising
+rising-first k n h = rw (left, add-one) refl
+  where
+    left : n - k ≡ suc (n - (k + 1))
+    left = omega arith
+
+rising-none : (k n : ℕ) → n ≤ k → rising k (n - k) ≡ []
+unfolding rising
+rising-none k n h = let e : n - k ≡ 0 = omega arith in rw e
+
+module _ (t : Direction → Bool) (P : Part) where
+  pub remaining-all : Remaining t P 0
+  unfolding normals below normalOf
+  remaining-all = record { rest = any-map t (normalOf P) (rising 0 (length P)) ∙ ap (λ n. any (λ i. t (normalOf P i)) (rising 0 n)) (sym (sub-zero (length P))) }
+
+  -- one edge more
+  step : (k : ℕ) → k < length P → any (λ i. t (normalOf P i)) (rising k (length P - k)) ≡ (t (normalOf P k) || any (λ i. t (normalOf P i)) (rising (k + 1) (length P - (k + 1))))
+  unfolding any
+  step k h = ap (any (λ i. t (normalOf P i))) (rising-first k (length P) h)
+
+  pub remaining-next : (k : ℕ) → k < length P → t (normalOf P k) ≡ false → Remaining t P k → Remaining t P (k + 1)
+  remaining-next k h e r =
+      record { rest = r .rest ∙ step k h ∙ ap (λ s. s || any (λ i. t (normalOf P i)) (rising (k + 1) (length P - (k + 1)))) e }
+
+  pub remaining-found : (k : ℕ) → k < length P → t (normalOf P k) ≡ true → Remaining t P k → any t (normals P) ≡ true
+  remaining-found k h e r = r .rest ∙ step k h ∙ ap (λ s. s || any (λ i. t (normalOf P i)) (rising (k + 1) (length P - (k + 1)))) e
+
+  pub remaining-none : (k : ℕ) → length P ≤ k → Remaining t P k → any t (normals P) ≡ false
+  unfolding any
+  remaining-none k h r = r .rest ∙ ap (any (λ i. t (normalOf P i))) (rising-none k (length P) h)
+
+-- the next vertex, by the place of its y
+pub next-inside : (P : Part) (k : ℕ) → suc k < length P → k + 1 ≡ following P k
+unfolding following
+next-inside P k h = rw (ne-eqb (suc k) (length P) (omega arith)) (add-one k)
+
+pub next-first : (P : Part) (k : ℕ) → suc k ≡ length P → 0 ≡ following P k
+unfolding following
+next-first P k h = rw (eq-eqb (suc k) (length P) h)
+
+-- the normal of an edge, by the places of its vertices' numbers
+pub normal-at : (l : List ℤ) (k m : ℕ) → m ≡ following (partOf l) k → 2 * k + 1 < length l → 2 * m + 1 < length l
+    → normalOf (partOf l) k
+    ≡ direction (getD l (2 * m + 1) (pos 0) -ℤ getD l (2 * k + 1) (pos 0)) (getD l (2 * k) (pos 0) -ℤ getD l (2 * m) (pos 0))
+unfolding normalOf outwardNormal
+normal-at l k m e h g =
+    ap (λ i. outwardNormal (vertexAt (partOf l) k) (vertexAt (partOf l) i)) (sym e)
+    ∙ ap (λ v. outwardNormal v (vertexAt (partOf l) m)) (part-at l k h)
+    ∙ ap (λ v. outwardNormal (vertex (getD l (2 * k) (pos 0)) (getD l (2 * k + 1) (pos 0))) v) (part-at l m g)
+
+-- ---- the vertices against a limit
+
+module _ (f : Vertex → ℤ) (P : Part) (z : ℤ) where
+  -- no vertex exceeds it, so the largest does not
+  pub all-within : 0 < length P → ((j : ℕ) → j < length P → f (vertexAt P j) ≤ℤ z) → leZ (largestZ (map f P)) z ≡ true
+  unfolding vertexAt
+  all-within h g = sym (all-below-bound f P h z) ∙ all-of (λ v. leZ (f v) z) P origin (λ j k. le-leZ (f (getD P j origin)) z (g j k))
+
+  -- one vertex exceeds it, so the largest does
+  pub one-beyond : (j : ℕ) → j < length P → z <ℤ f (vertexAt P j) → leZ (largestZ (map f P)) z ≡ false
+  unfolding vertexAt
+  one-beyond j k b = go (leZ (largestZ (map f P)) z) refl
+    where
+      go : (t : Bool) → leZ (largestZ (map f P)) z ≡ t → leZ (largestZ (map f P)) z ≡ false
+      go false e = e
+      go true e =
+          absurd (clash (leZ-true (f (getD P j origin)) z (all-at (λ v. leZ (f v) z) P origin (all-below-bound f P (omega arith) z ∙ e) j k)) b)

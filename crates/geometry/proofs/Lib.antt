@@ -1,0 +1,5 @@
+-- What is proved about the flat parts, the sizes and the tests of this crate.
+pub mod Flat
+pub mod Sizes
+pub mod Lowest
+pub mod EdgeLaws
