@@ -1,4 +1,5 @@
 pub mod Boards
+pub mod Folds
 pub mod Lists
 pub mod Tests
 pub mod Extremes
@@ -11,3 +12,5 @@ pub mod Sorted
 pub mod Accepted
 pub mod ReadBack
 pub mod Search
+pub mod Readers
+pub mod Records
