@@ -1,20 +1,19 @@
 -- What an accepted job's content is sure to have: its refusals 1 to 7 are not given.
-use mathlib.Core.Bool.{Bool, true, false, not, cond, _&&_, _||_}
+use mathlib.Core.Bool.{Bool, true, false, not, cond, _||_}
 use mathlib.Core.List.{List, [], _∷_, map, List·Memᴰ, List·Memᴰ·head, List·Memᴰ·tail, List·Memᴰ·cases-cons, List·Memᴰ·not-nil}
-use mathlib.Core.Logic.{_⊎_, inl, inr, ⊎-elim}
-use mathlib.Core.Path.{_≡_, refl, sym, ap, _∙_, subst}
-use Prim.Native.Nat.{ℕ, zero, suc, _+_, _*_, _/_, _≤_, _<_}
-use native.Mathlib.Nat.{not-suc-le-zero, le-of-suc-le-suc}
+use mathlib.Core.Logic.{⊎-elim}
+use mathlib.Core.Path.{_≡_, refl, sym, ap, subst}
+use Prim.Native.Nat.{ℕ, zero, suc, _≤_, _<_}
+use native.Mathlib.Nat.{not-suc-le-zero}
 use native.Mathlib.Omega.{arith}
-use borrow.Author.Tests.{ltb-true, ltb-false, leb-true, not-true, not-false}
+use borrow.Author.Tests.{ltb-false, leb-true, not-false}
 use lib.Dec.{leb, ltb}
-use lib.ListN.{length, getD, drop, List·getD-eq-default}
-use Rattle.model.specs.Content.{Part, Kind, kind, SpacingClass, Board, Job, kindAt, kindCount, pieceCount, noKind}
+use lib.ListN.{length, getD, drop}
+use Rattle.model.specs.Content.{Part, Kind, Board, Job, kindAt, kindCount, pieceCount, noKind}
 use Rattle.model.specs.Format.{Got, bad, got, joined, followed, many, byteAt, readPart, headInRange, withParts, readKind, kindsStated, kindBytes, kindsGot, kindsIn, boardOf, content, cause1, cause2, cause3, cause4, cause5, cause6, cause7, kindsUnfit, classesOf, kindsLength, refusal}
-use Rattle.model.specs.Grid.{columns, rows, dots}
+use Rattle.model.specs.Grid.{dots}
 use Rattle.model.specs.Lists.{between, sum}
-use Rattle.model.proofs.Search.Pieces.{Sensible}
-use Rattle.model.proofs.Lists.{and-left, and-right, and-four, true-or-false, not-both}
+use Rattle.model.proofs.Lists.{and-left, and-right, and-four, or-left, or-right, not-both}
 
 -- ---- No cause is given
 
@@ -22,15 +21,6 @@ use Rattle.model.proofs.Lists.{and-left, and-right, and-four, true-or-f
 no-cause : (c : Bool) (k n : ℕ) → 0 < k → cond c k n ≡ 0 → (c ≡ false) × (n ≡ 0)
 no-cause true k n h e = absurd (omega arith)
 no-cause false k n h e = (refl, e)
-
--- Neither of two tests holds.
-or-left : (a b : Bool) → (a || b) ≡ false → a ≡ false
-or-left true b e = e
-or-left false b e = refl
-
-or-right : (a b : Bool) → (a || b) ≡ false → b ≡ false
-or-right true b e = absurd (not-both refl e)
-or-right false b e = e
 
 -- None of the sender's seven causes is given for an accepted job.
 pub record NoCause (s : List ℕ) : Type 0 where
@@ -42,6 +32,7 @@ pub record NoCause (s : List ℕ) : Type 0 where
   pub not6 : cause6 s ≡ false
   pub not7 : cause7 s ≡ false
 
+-- The number told is 0, so each cause was passed over.
 pub accepted-no-cause : (s : List ℕ) → refusal s ≡ 0 → NoCause s
 unfolding refusal
 accepted-no-cause s e =
@@ -72,6 +63,7 @@ module _ {A : Type 0} (P : A → Type 0) where
   ReadsAll n bad = Unit {0}
   ReadsAll n (got xs k) = (length xs ≡ n) × ((a : A) → List·Memᴰ a xs → P a)
 
+  -- One value more, in front of others.
   joined-reads : (n k : ℕ) (a : A) → P a → (g : Got (List A)) → ReadsAll n g → ReadsAll (suc n) (joined a k g)
   unfolding joined
   joined-reads n k a p bad r = tt
@@ -104,6 +96,7 @@ parts-read s e (got ps m) =
       turned = omega (arith, between-true 1 15 (byteAt s 1) (parts .2) .1);
     }
 
+-- A type that is read is in range.
 kind-reads : (s : List ℕ) → Reads KindInRange (readKind s)
 unfolding readKind
 kind-reads s = go (headInRange s) refl
@@ -127,6 +120,7 @@ unfolding kindsUnfit kindsIn
 fit-kinds s n bad u r = absurd (not-both refl u)
 fit-kinds s n (got ks m) u r = r
 
+-- The types of an accepted job are such types.
 pub accepted-kinds : (s : List ℕ) → refusal s ≡ 0 → KindsInRange (content s)
 unfolding cause6 content kindsGot kindCount
 accepted-kinds s e =
@@ -142,12 +136,18 @@ kind-turned [] f t = omega arith
 kind-turned (k ∷ ks) f zero = f k (List·Memᴰ·head refl) .turned
 kind-turned (k ∷ ks) f (suc t) = kind-turned ks (λ l h. f l (List·Memᴰ·tail h)) t
 
+-- Where there is a type, something is demanded.
 some-demand : (ks : List Kind) → 0 < length ks → ((k : Kind) → List·Memᴰ k ks → KindInRange k) → 0 < sum (map (λ k. k .demand) ks)
 unfolding sum
 some-demand [] h f = absurd (not-suc-le-zero h)
 some-demand (k ∷ ks) h f = omega (arith, f k (List·Memᴰ·head refl) .demanded)
 
--- An accepted job has a piece, and turn masks of four bits.
+-- What the theorems about the walk ask of a job, and every accepted job has: a piece, and turn masks of four bits.
+pub record Sensible (j : Job) : Type 0 where
+  pub pieced : 0 < pieceCount j
+  pub turned : (t : ℕ) → kindAt j t .rotations < 16
+
+-- An accepted job has both.
 pub accepted-sensible : (s : List ℕ) → refusal s ≡ 0 → Sensible (content s)
 unfolding kindAt kindCount pieceCount
 accepted-sensible s e =

@@ -1,13 +1,13 @@
 -- Laws of the list words of specs/Lists.
-use mathlib.Core.Bool.{Bool, true, false, not, _&&_, _||_, true≢false}
-use mathlib.Core.List.{List, [], _∷_, _++_, map, List·Memᴰ, List·Memᴰ·head, List·Memᴰ·tail}
-use mathlib.Core.Logic.{_⊎_, inl, inr}
+use mathlib.Core.Bool.{Bool, true, false, _&&_, _||_, true≢false}
+use mathlib.Core.List.{List, [], _∷_, _++_, map, List·Memᴰ, reverse, reverseAux, List·Memᴰ·head, List·Memᴰ·tail, List·Memᴰ·cases-cons, List·Memᴰ·not-nil}
+use mathlib.Core.Logic.{_⊎_, inl, inr, ⊎-elim}
 use mathlib.Core.Path.{_≡_, refl, sym, ap, _∙_, subst}
 use Prim.Native.Nat.{ℕ, zero, suc, _+_, _<_, _≤_}
 use native.Mathlib.Nat.{not-suc-le-zero, le-of-suc-le-suc, add-zero, add-suc, suc-add, zero-add}
 use native.Mathlib.Omega.{arith}
 use lib.ListN.{length, getD}
-use Rattle.model.specs.Lists.{all, any, keep, countOf, rising, below}
+use Rattle.model.specs.Lists.{all, countOf, rising, below}
 
 -- Both of two tests hold.
 pub and-left : (a b : Bool) → (a && b) ≡ true → a ≡ true
@@ -72,11 +72,6 @@ below-all p n f = all-of p (below n) 0 (λ i h. let k : i < n = rw (length-below
 
 -- ---- Counting
 
--- A Bool is true or false.
-pub true-or-false : (b : Bool) → (b ≡ true) ⊎ (b ≡ false)
-true-or-false true = inl refl
-true-or-false false = inr refl
-
 -- A Bool that is not both.
 pub not-both : {b : Bool} → b ≡ true → b ≡ false → ⊥
 not-both p q = true≢false (sym p ∙ q)
@@ -132,3 +127,42 @@ module _ {A : Type 0} (f : ℕ → A) where
   pub getD-map-below : (k t : ℕ) (d : A) → t < k → getD (map f (below k)) t d ≡ f t
   unfolding below
   getD-map-below k t d h = getD-map-rising 0 k t d h ∙ ap f (zero-add t)
+
+module _ {A : Type 0} where
+  -- A function over numbers that rise from one more.
+  map-rising-suc : (f : ℕ → A) (i k : ℕ) → map f (rising (suc i) k) ≡ map (λ t. f (suc t)) (rising i k)
+  unfolding rising
+  map-rising-suc f i zero = refl
+  map-rising-suc f i (suc k) = ap {B = List A} (λ (r : List A). f (suc i) ∷ r) (map-rising-suc f (suc i) k)
+
+-- A function of each element, by the element's index.
+pub map-by-index : {A : Type 0} (f : A → ℕ) (xs : List A) (d : A) → map (λ t. f (getD xs t d)) (rising 0 (length xs)) ≡ map f xs
+unfolding rising
+map-by-index f [] d = refl
+map-by-index f (x ∷ xs) d =
+    ap (λ (r : List ℕ). f x ∷ r) (map-rising-suc (λ t. f (getD (x ∷ xs) t d)) 0 (length xs) ∙ map-by-index f xs d)
+
+-- What is in a list laid the other way round, in front of another, is in one of the two.
+mem-reverseAux : {A : Type 0} (xs ys : List A) (a : A) → List·Memᴰ a (reverseAux xs ys) → List·Memᴰ a xs ⊎ List·Memᴰ a ys
+mem-reverseAux [] ys a h = inr h
+mem-reverseAux (x ∷ xs) ys a h =
+    ⊎-elim (λ d. inl (List·Memᴰ·tail d)) (λ d. ⊎-elim (λ e. inl (List·Memᴰ·head e)) (λ m. inr m) (List·Memᴰ·cases-cons d)) (mem-reverseAux xs (x ∷ ys) a h)
+
+-- What is in a list laid the other way round is in the list.
+pub mem-reverse : {A : Type 0} (xs : List A) (a : A) → List·Memᴰ a (reverse xs) → List·Memᴰ a xs
+mem-reverse xs a h = ⊎-elim (λ d. d) (λ d. absurd (List·Memᴰ·not-nil d)) (mem-reverseAux xs [] a h)
+
+-- A test of all of two lists is a test of all of the second.
+pub all-back : {A : Type 0} (p : A → Bool) (xs ys : List A) → all p (xs ++ ys) ≡ true → all p ys ≡ true
+unfolding all
+all-back p [] ys h = h
+all-back p (x ∷ xs) ys h = all-back p xs ys (and-right (p x) (all p (xs ++ ys)) h)
+
+-- Of two tests neither holds: not the first, not the second.
+pub or-left : (a b : Bool) → (a || b) ≡ false → a ≡ false
+or-left true b e = e
+or-left false b e = refl
+
+pub or-right : (a b : Bool) → (a || b) ≡ false → b ≡ false
+or-right true b e = absurd (not-both refl e)
+or-right false b e = e

@@ -25,7 +25,7 @@ module _ (j : Job) where
       go true q t = inr (eqb-true _ _ q, ltb-true _ _ t)
       go false q t = inl (ltb-true _ _ t)
 
-  pub in-order : (e f : Entry) → Precedes j e f → inOrder j e f ≡ true
+  in-order : (e f : Entry) → Precedes j e f → inOrder j e f ≡ true
   unfolding inOrder
   in-order e f (inl h) = rw (ne-eqb (e .kind) (f .kind) (λ q. omega arith)) (lt-ltb _ _ h)
   in-order e f (inr h) = rw (eq-eqb (e .kind) (f .kind) (h .0)) (lt-ltb _ _ (h .1))

@@ -1,52 +1,22 @@
 -- A layout written into the answer numbers is read back from them.
-use mathlib.Core.List.{List, [], _∷_, _++_, map, append-assoc}
+use mathlib.Core.List.{List, [], _∷_, _++_}
 use mathlib.Core.Option.{some}
-use mathlib.Core.Path.{_≡_, refl, sym, ap, ap₂, _∙_, subst}
-use Prim.Native.Nat.{ℕ, zero, suc, _+_, _*_, _/_, _%_, _^_, _≤_, _<_}
-use native.Mathlib.Nat.{not-suc-le-zero, le-of-suc-le-suc, zero-mul, suc-mul, add-comm, zero-add, div-lt-iff-lt-mul, pow-suc}
+use mathlib.Core.Path.{_≡_, refl, sym, _∙_}
+use Prim.Native.Nat.{ℕ, zero, suc, _+_, _*_, _<_}
+use native.Mathlib.Nat.{mod-eq-of-lt, not-suc-le-zero, le-of-suc-le-suc, zero-add}
 use native.Mathlib.Omega.{arith}
-use lib.ListN.{length, getD, take, drop, length-map, List·getD-append}
-use lib.Seq.{take-at, drop-append-add, getD-append-add, ext-getD}
-use Rattle.words.specs.Number.{value, bytes, bytesOf, numberAt, filled}
+use lib.ListN.{length, getD, drop, length-map, List·getD-append}
+use lib.Seq.{getD-append-add, ext-getD}
+use Rattle.words.proofs.Row.{numberAt-bytesOf}
+use Rattle.words.specs.Number.{bytesOf, numberAt, filled}
 use Rattle.model.specs.Content.{Job, pieceCount}
-use Rattle.model.specs.Grid.{Placement, placement}
-use Rattle.model.specs.Layout.{Entry, entry, Layout, entryAt, noEntry}
+use Rattle.model.specs.Layout.{Entry, Layout, entryAt, noEntry}
 use Rattle.model.specs.Lists.{concat, below}
 use Rattle.model.specs.Services.{withNumbers, entryIn, layoutIn, entryNumbers, layoutNumbers, withLayout}
 use Rattle.model.proofs.Lists.{length-below, getD-map-below}
 
--- ---- Numbers of k bytes, at every k
-
--- A number in k bytes has k of them.
-length-bytes : (k n : ℕ) → length (bytes k n) ≡ k
-unfolding bytes
-length-bytes zero n = refl
-length-bytes (suc k) n = ap suc (length-bytes k (n / 256))
-
--- Their value is the number, if it fits them.
-value-bytes : (k n : ℕ) → n < 256 ^ k → value (bytes k n) ≡ n
-unfolding value bytes
-value-bytes zero n h = omega arith
-value-bytes (suc k) n h =
-    let l : n / 256 < 256 ^ k = div-lt-iff-lt-mul {k = 256} (omega arith) .1 (rw pow-suc at h) in
-    rw (value-bytes k (n / 256) l) (omega arith)
-
--- Number i of a row of numbers, whatever follows the row.
-read-row : (k : ℕ) (ns rest : List ℕ) (i : ℕ) → i < length ns → getD ns i 0 < 256 ^ k → numberAt k (bytesOf k ns ++ rest) (i * k) ≡ getD ns i 0
-unfolding numberAt bytesOf
-read-row k [] rest i h l = absurd (not-suc-le-zero h)
-read-row k (n ∷ ns) rest zero h l =
-    rw (zero-mul, append-assoc, take-at (bytes k n) (bytesOf k ns ++ rest) k (length-bytes k n)) (value-bytes k n l)
-read-row k (n ∷ ns) rest (suc i) h l =
-    let q : drop (suc i * k) (bytes k n ++ bytesOf k ns ++ rest) ≡ drop (i * k) (bytesOf k ns ++ rest) =
-    ap₂ (λ (m : ℕ) (s : List ℕ). drop m s) (suc-mul i k ∙ add-comm (i * k) k ∙ ap (λ (m : ℕ). m + i * k) (sym (length-bytes k n))) (append-assoc (bytes k n) (bytesOf k ns) rest)
-    ∙ drop-append-add (bytes k n) (bytesOf k ns ++ rest) (i * k) in
-    rw q (read-row k ns rest i (le-of-suc-le-suc h) l)
-
--- ---- Entries of four numbers
-
 -- A layout is four numbers for each entry.
-length-numbers : (es : Layout) → length (layoutNumbers es) ≡ length es * 4
+pub length-numbers : (es : Layout) → length (layoutNumbers es) ≡ length es * 4
 unfolding layoutNumbers concat entryNumbers
 length-numbers [] = refl
 length-numbers (e ∷ es) = let ih : length (layoutNumbers es) ≡ length es * 4 = length-numbers es in omega arith
@@ -68,11 +38,12 @@ pub record Small (e : Entry) : Type 0 where
   pub rotation-fits : e .place .rotation < 65536
 
 module _ (es : Layout) (rest : List ℕ) (i : ℕ) (h : i < length es) where
+  -- Number c of entry i, at its place in the bytes.
   read-number : (c at : ℕ) → c < 4 → at ≡ (i * 4 + c) * 2 → getD (entryNumbers (entryAt es i)) c 0 < 65536
       → numberAt 2 (bytesOf 2 (layoutNumbers es) ++ rest) at ≡ getD (entryNumbers (entryAt es i)) c 0
   read-number c at l q b =
       let n : getD (layoutNumbers es) (i * 4 + c) 0 ≡ getD (entryNumbers (entryAt es i)) c 0 = number-at es i c h l in
-      rw q (read-row 2 (layoutNumbers es) rest (i * 4 + c) (rw (length-numbers es) (omega arith)) (rw n b) ∙ n)
+      rw q (numberAt-bytesOf 2 (layoutNumbers es) rest (i * 4 + c) (rw (length-numbers es) (omega arith)) ∙ rw n (mod-eq-of-lt b))
 
   -- Entry i of a layout that was written is read back.
   read-entry : Small (entryAt es i) → entryIn (bytesOf 2 (layoutNumbers es) ++ rest) i ≡ entryAt es i

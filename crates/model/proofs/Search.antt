@@ -5,6 +5,7 @@ pub mod ForwardCheck
 pub mod Optimal
 pub mod Pieces
 pub mod Passing
+pub mod CutOff
 pub mod Walk
 pub mod Budget
 pub mod Demand3

@@ -2,15 +2,16 @@
 use mathlib.Core.Bool.{Bool, true, false, cond}
 use mathlib.Core.List.{List, [], _∷_, _++_, map, List·Memᴰ, List·Memᴰ·head, List·Memᴰ·tail, List·Memᴰ·cases-cons, List·Memᴰ·append-cases, List·Memᴰ·not-nil}
 use mathlib.Core.Logic.{_⊎_, inl, inr, ⊎-elim}
-use mathlib.Core.Path.{_≡_, refl, sym, ap, ap₂, _∙_, subst}
+use mathlib.Core.Path.{_≡_, refl, sym, ap₂, _∙_, subst}
 use Prim.Native.Nat.{ℕ, zero, suc, _+_, _≤_, _<_}
-use native.Mathlib.Nat.{not-suc-le-zero, le-of-suc-le-suc, le-antisymm}
+use native.Mathlib.Nat.{not-suc-le-zero, le-antisymm}
 use native.Mathlib.Omega.{arith}
 use borrow.Author.Tests.{eqb-true, eqb-false, eq-eqb, ne-eqb}
 use lib.Dec.{eqb}
-use lib.ListN.{length, getD, replicate, length-append, length-replicate}
-use Rattle.model.specs.Lists.{keep, countOf, concat, sum, rising, below}
-use Rattle.model.proofs.Lists.{true-or-false, not-both}
+use lib.ListN.{length, replicate, length-append, length-replicate}
+use Rattle.model.specs.Lists.{keep, countOf, concat, sum, rising}
+use Rattle.words.proofs.Cases.{true-or-false}
+use Rattle.model.proofs.Lists.{not-both}
 
 -- ---- Strictly and weakly rising lists
 
@@ -38,6 +39,7 @@ unfolding rising
 mem-rising i zero m h = absurd (List·Memᴰ·not-nil h)
 mem-rising i (suc k) m h = ⊎-elim (λ e. omega arith) (λ d. let r = mem-rising (suc i) k m d in omega arith) (List·Memᴰ·cases-cons h)
 
+-- And each such number is among them.
 pub rising-mem : (i k m : ℕ) → i ≤ m → m < i + k → List·Memᴰ m (rising i k)
 unfolding rising
 rising-mem i zero m l h = absurd (omega arith)
@@ -59,6 +61,7 @@ module _ {A : Type 0} (p : A → Bool) where
       go true e h r = ⊎-elim (λ d. (List·Memᴰ·head d, rw d e)) (λ d. (List·Memᴰ·tail (r d .0), r d .1)) (List·Memᴰ·cases-cons h)
       go false e h r = (List·Memᴰ·tail (r h .0), r h .1)
 
+  -- An element of which the test holds is kept.
   pub keep-mem : (xs : List A) (a : A) → List·Memᴰ a xs → p a ≡ true → List·Memᴰ a (keep p xs)
   unfolding keep
   keep-mem (x ∷ xs) a h e = go (p x) refl (List·Memᴰ·cases-cons h) (λ d. keep-mem xs a d e)
@@ -174,12 +177,13 @@ blocks-ascend d i zero = tt
 blocks-ascend d i (suc k) =
     replicate-ascends (d i) i (blocks d (suc i) k) (λ m h. let r = mem-blocks d (suc i) k m h in omega arith) (blocks-ascend d (suc i) k)
 
--- The count of a number in n times that number, and in n times another.
+-- The count of a number in n times that number.
 count-replicate : (n a : ℕ) → countOf (eqb a) (replicate n a) ≡ n
 unfolding countOf
 count-replicate zero a = refl
 count-replicate (suc n) a = rw (eq-eqb a a refl, count-replicate n a) (omega arith)
 
+-- And of another number.
 count-other : (n a t : ℕ) → (t ≡ a → ⊥) → countOf (eqb t) (replicate n a) ≡ 0
 count-other n a t f = countOf-none (eqb t) (replicate n a) (λ m h. ne-eqb t m (λ e. f (e ∙ mem-replicate n a m h)))
 

@@ -1,6 +1,6 @@
--- The third demand, sentence by sentence, as one record over what a run leaves behind. It is written for a job's bytes, a budget and an
--- outcome; `demand3` (proofs/Search/Demand3) says that what `run` leaves behind meets it, for every accepted job, every budget and long enough
--- buffers, whatever these hold.
+-- The third demand, sentence by sentence, as one record over a job's bytes, a budget and what a run leaves behind. The theorem `demand3`
+-- (proofs/Search/Demand3) says that what `run` leaves behind meets it, for every accepted job, every budget and long enough buffers,
+-- whatever these hold.
 use mathlib.Core.List.{List, List·Memᴰ}
 use mathlib.Core.Logic.{_↔_}
 use mathlib.Core.Option.{none, some}
@@ -71,29 +71,30 @@ pub record Fit (s work out : List ℕ) : Type 0 where
 abbrev pub heldIn : List ℕ → RunOutcome → Layout
 heldIn s r = layoutIn (content s) (r .out)
 
+-- "For every accepted job, every budget and long enough buffers, whatever these hold, .."
 pub record Demand3 (s : List ℕ) (budget : ℕ) (r : RunOutcome) : Type 0 where
-  -- "a run answers "stopped" exactly when the walk defined in document 01 needs more steps than the budget."
+  -- "a run answers 'stopped' exactly when the walk defined in document 01 needs more steps than the budget."
   pub stopped : SaysStopped (r .answer) ↔ (budget < stepsNeeded (content s) none)
-  -- "Otherwise it answers "shortest" if some layout passes,
+  -- "Otherwise it answers 'shortest' if some layout passes, .."
   pub otherwise-shortest : (SaysStopped (r .answer) → ⊥) → (es : Layout) → Passes (content s) es → SaysShortest (r .answer)
-  -- and "none" if no layout does."
+  -- ".. and 'none' if no layout does."
   pub otherwise-none : (SaysStopped (r .answer) → ⊥) → ((es : Layout) → Passes (content s) es → ⊥) → SaysNone (r .answer)
-  -- "Over "shortest" it holds a layout that passes,
+  -- "Over 'shortest' it holds a layout that passes, .."
   pub holds-passing : SaysShortest (r .answer) → Passes (content s) (heldIn s r)
-  -- no passing layout is shorter,
+  -- ".. no passing layout is shorter, .."
   pub holds-shortest : SaysShortest (r .answer) → (fs : Layout) → Passes (content s) fs
       → layoutLength (content s) (heldIn s r) ≤ layoutLength (content s) fs
-  -- and it is the first of the shortest in document 01's order."
+  -- ".. and it is the first of the shortest in document 01's order."
   pub holds-first : SaysShortest (r .answer) → FirstOfShortest (content s) (heldIn s r)
-  -- "Over "stopped" it holds the best layout of the steps taken, if there is one,
+  -- "Over 'stopped' it holds the best layout of the steps taken, if there is one, .."
   pub stopped-holds-best : SaysStopped (r .answer) → (es : Layout) → Completed (stepsTaken (content s) none budget) es
       → SaysHeld (r .answer) × BestOf (content s) (stepsTaken (content s) none budget) (heldIn s r)
-  -- and otherwise says that it holds none."
+  -- ".. and otherwise says that it holds none."
   pub stopped-holds-none : SaysStopped (r .answer) → ((es : Layout) → Completed (stepsTaken (content s) none budget) es → ⊥)
       → SaysHeld (r .answer) → ⊥
   -- "A length told with a layout is that layout's."
   pub length-told : SaysHeld (r .answer) → runLength (r .answer) ≡ layoutLength (content s) (heldIn s r)
-  -- "The steps reported are the ones that walk took:
+  -- "The steps reported are the ones that walk took: .."
   pub steps-told : runSteps (r .answer) ≡ length (stepsTaken (content s) none budget)
-  -- as many as it needs, or the whole budget if that is less."
+  -- ".. as many as it needs, or the whole budget if that is less."
   pub steps-least : runSteps (r .answer) ≡ min (stepsNeeded (content s) none) budget

@@ -1,20 +1,19 @@
 -- The walk under a budget: when it is stopped, how many steps it takes, and what it then holds.
-use mathlib.Core.Bool.{Bool, true, false}
+use mathlib.Core.Bool.{true, false}
 use mathlib.Core.Logic.{_↔_}
 use mathlib.Core.Option.{Option, none, some}
 use mathlib.Core.Path.{_≡_, ap, _∙_, subst}
 use Prim.Native.Nat.{ℕ, _≤_, _<_, min}
 use native.Mathlib.Nat.{min-comm}
 use borrow.Author.Tests.{ltb-true, ltb-false, lt-ltb, le-ltb}
-use lib.Dec.{ltb}
-use lib.ListN.{length, take, length-take}
+use lib.ListN.{length, length-take}
 use lib.Seq.{take-all}
-use Rattle.model.specs.Content.{Job, pieceCount}
+use Rattle.model.specs.Content.{Job}
 use Rattle.model.specs.Demand3.{Completed, BestOf}
-use Rattle.model.specs.Layout.{Layout, Passes, layoutLength}
-use Rattle.model.specs.Search.{Step, stepsFrom, stepsNeeded, isStopped, stepsTaken, bestAfter, held}
+use Rattle.model.specs.Layout.{Layout, layoutLength}
+use Rattle.model.specs.Search.{stepsFrom, stepsNeeded, isStopped, stepsTaken, bestAfter, held}
 use Rattle.model.proofs.Search.Completions.{NoShorter}
-use Rattle.model.proofs.Search.Pieces.{Sensible}
+use Rattle.model.proofs.Accepted.{Sensible}
 use Rattle.model.proofs.Search.Walk.{Laid, completed-laid, completed-no-shorter, best-of-steps}
 
 module _ (j : Job) (begin : Option Layout) (budget : ℕ) where
@@ -23,6 +22,7 @@ module _ (j : Job) (begin : Option Layout) (budget : ℕ) where
   unfolding isStopped
   stopped-exactly = (ltb-true budget (stepsNeeded j begin), lt-ltb budget (stepsNeeded j begin))
 
+  -- Not stopped exactly if the budget covers the steps needed.
   pub not-stopped-exactly : (isStopped j begin budget ≡ false) ↔ (stepsNeeded j begin ≤ budget)
   unfolding isStopped
   not-stopped-exactly = (ltb-false budget (stepsNeeded j begin), le-ltb budget (stepsNeeded j begin))
@@ -37,6 +37,7 @@ module _ (j : Job) (begin : Option Layout) (budget : ℕ) where
   unfolding stepsTaken stepsNeeded
   all-taken e = take-all budget (stepsFrom j begin) (not-stopped-exactly .0 e)
 
+  -- And then it holds what the whole walk holds.
   pub all-held : isStopped j begin budget ≡ false → held j begin budget ≡ bestAfter begin (stepsFrom j begin)
   unfolding held
   all-held e = ap (bestAfter begin) (all-taken e)

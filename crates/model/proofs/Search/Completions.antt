@@ -1,19 +1,19 @@
 -- Completions: the candidate numbers that complete what is placed, whatever the best; and what makes a candidate live.
-use mathlib.Core.Bool.{Bool, true, false, not, cond, _&&_, _||_}
-use mathlib.Core.List.{List, [], _∷_, _++_, map, reverse, reverseAux, List·Memᴰ}
+use mathlib.Core.Bool.{Bool, true, false, not, _&&_, _||_}
+use mathlib.Core.List.{List, [], _∷_, _++_, reverse, reverseAux, List·Memᴰ}
 use mathlib.Core.Logic.{_⊎_, inl, inr}
 use mathlib.Core.Option.{Option, none, some}
-use mathlib.Core.Path.{_≡_, refl, sym, ap, _∙_}
+use mathlib.Core.Path.{_≡_, refl, _∙_}
 use Prim.Native.Nat.{ℕ, max, _≤_, _<_}
 use native.Mathlib.Omega.{arith}
-use borrow.Author.Tests.{ltb-true, ltb-false, eqb-true, eq-eqb, lt-ltb, le-ltb, not-true}
-use lib.Dec.{ltb, eqb}
+use borrow.Author.Tests.{ltb-true, ltb-false, lt-ltb}
+use lib.Dec.{ltb}
 use lib.ListN.{getD}
 use Rattle.model.specs.Content.{Job}
-use Rattle.model.specs.Layout.{Entry, Layout, entryOf, entryNumber, entryExtent, conflict, layoutLength}
+use Rattle.model.specs.Layout.{Entry, Layout, entryOf, entryExtent, conflict, layoutLength}
 use Rattle.model.specs.Lists.{any, largest}
 use Rattle.model.specs.Search.{free, abovePrevious, beats, staysBelow, live, lengthOf}
-use Rattle.model.proofs.Lists.{and-left, and-right, and-both, true-or-false, not-both}
+use Rattle.model.proofs.Lists.{and-left, and-right, and-both, not-both}
 
 -- ---- Lengths, and the best so far
 
@@ -23,14 +23,21 @@ unfolding layoutLength largest
 length-cons j e es = refl
 
 -- A layout and the same layout the other way round have one length.
-length-reverseAux : (j : Job) (es fs : Layout) → layoutLength j (reverseAux es fs) ≡ max (layoutLength j es) (layoutLength j fs)
+pub length-reverseAux : (j : Job) (es fs : Layout) → layoutLength j (reverseAux es fs) ≡ max (layoutLength j es) (layoutLength j fs)
 unfolding layoutLength largest
 length-reverseAux j [] fs = omega arith
 length-reverseAux j (e ∷ es) fs = length-reverseAux j es (e ∷ fs) ∙ omega arith
 
+-- So a layout and its reverse have one length.
 pub length-reverse : (j : Job) (es : Layout) → layoutLength j (reverse es) ≡ layoutLength j es
 unfolding layoutLength largest
 length-reverse j es = length-reverseAux j es [] ∙ omega arith
+
+-- The length of two layouts, one after the other.
+pub length-append : (j : Job) (es fs : Layout) → layoutLength j (es ++ fs) ≡ max (layoutLength j es) (layoutLength j fs)
+unfolding layoutLength largest
+length-append j [] fs = omega arith
+length-append j (e ∷ es) fs = let ih : layoutLength j (es ++ fs) ≡ max (layoutLength j es) (layoutLength j fs) = length-append j es fs in omega arith
 
 -- This length is below that of the layout held. (Any is, while none is held.)
 abbrev pub Shorter : Job → ℕ → Option Layout → Type 0
@@ -71,6 +78,7 @@ unfolding beats lengthOf
 beats-shorter j n none e = tt
 beats-shorter j n (some es) e = ltb-true _ _ e
 
+-- And the other way round.
 pub shorter-beats : (j : Job) (n : ℕ) (h : Option Layout) → Shorter j n h → beats n (lengthOf j h) ≡ true
 unfolding beats lengthOf
 shorter-beats j n none s = refl
@@ -94,6 +102,7 @@ live-parts j es b t n e =
     let xy : (x && y) ≡ true = and-left (x && y) (free j es (entryOf j t n)) e in
     (and-left x y xy, and-right x y xy, and-right (x && y) (free j es (entryOf j t n)) e)
 
+-- And the other way round.
 pub live-of : (j : Job) (es : Layout) (b : Option ℕ) (t n : ℕ) → beats (layoutLength j (entryOf j t n ∷ es)) b ≡ true
     → abovePrevious j es (entryOf j t n) ≡ true → free j es (entryOf j t n) ≡ true → live j es b t n ≡ true
 unfolding live staysBelow
@@ -104,6 +113,7 @@ pub free-cons : (j : Job) (f : Entry) (es : Layout) (e : Entry) → conflict j f
 unfolding free any
 free-cons j f es e p q = rw p q
 
+-- It is not in conflict with the latest piece placed.
 pub free-head : (j : Job) (f : Entry) (es : Layout) (e : Entry) → free j (f ∷ es) e ≡ true → conflict j f e ≡ false
 unfolding free any
 free-head j f es e p = go (conflict j f e) refl p
@@ -112,6 +122,7 @@ free-head j f es e p = go (conflict j f e) refl p
     go true d q = absurd (not-both q refl)
     go false d q = d
 
+-- Nor with those before.
 pub free-tail : (j : Job) (f : Entry) (es : Layout) (e : Entry) → free j (f ∷ es) e ≡ true → free j es e ≡ true
 unfolding free any
 free-tail j f es e p = rw (free-head j f es e p) at p

@@ -3,24 +3,21 @@ use mathlib.Core.Bool.{Bool, true, false, cond}
 use mathlib.Core.List.{List}
 use mathlib.Core.Option.{Option, none, some, Option·some-injective, Option·some-ne-none}
 use mathlib.Core.Path.{_≡_, refl, sym, ap, _∙_, subst}
-use Prim.Native.Nat.{ℕ, _+_, _*_, _≤_, _<_}
+use Prim.Native.Nat.{ℕ, _*_, _≤_}
 use native.Mathlib.Omega.{arith}
 use borrow.Author.Tests.{le-ltb, eq-eqb}
-use lib.Dec.{ltb, eqb}
-use lib.ListN.{length}
-use Rattle.model.specs.Content.{Job, pieceCount, kindCount, kindAt}
-use Rattle.model.specs.Demand3.{SaysStopped, SaysShortest, SaysNone, SaysHeld, Completed, BestOf, Fit, heldIn, Demand3}
+use Rattle.model.specs.Content.{Job, pieceCount}
+use Rattle.model.specs.Demand3.{BestOf, Fit, Demand3}
 use Rattle.model.specs.Format.{refusal, content}
 use Rattle.model.specs.Grid.{columns, rows, dots}
 use Rattle.model.specs.Layout.{Entry, Layout, entryAt, entryKind, isEntry, layoutLength, Passes, FirstOfShortest}
-use Rattle.model.specs.Search.{stepsFrom, stepsNeeded, isStopped, stepsTaken, bestAfter, held}
+use Rattle.model.specs.Search.{stepsNeeded, isStopped, stepsTaken, held}
 use Rattle.model.specs.Services.{RunOutcome, runOutcome, numbersIn, wordsIn, workWords, cleared, layoutIn, withLayout, heldAs, finishedAs, stepCount, verdict, runContent, run}
-use Rattle.model.specs.declared.RunAnswer.{RunAnswer}
 use Rattle.model.specs.declared.RunAnswer.the-variants as R
-use Rattle.model.proofs.Accepted.{accepted-kinds, accepted-sensible, accepted-dots}
+use Rattle.model.proofs.Accepted.{Sensible, accepted-kinds, accepted-sensible, accepted-dots}
 use Rattle.model.proofs.ReadBack.{Small, read-layout}
 use Rattle.model.proofs.Search.Budget.{stopped-exactly, not-stopped-exactly, steps-taken, all-held, held-best, held-laid, held-none}
-use Rattle.model.proofs.Search.Pieces.{Sensible, admitted-parts, few-turns, entry-kind}
+use Rattle.model.proofs.Search.Pieces.{admitted-parts, few-turns, entry-kind}
 use Rattle.model.proofs.Search.Walk.{Laid, walk-finds}
 
 -- What run leaves behind where the job is accepted and the buffers are long enough.
@@ -55,9 +52,11 @@ module _ (s : List ℕ) (accepted : refusal s ≡ 0) where
   read-held es out l = read-layout (content s) es out (l .1) (λ i h. candidate-small (entryAt es i) (l .0 .offered i h))
 
 module _ (s : List ℕ) (accepted : refusal s ≡ 0) (budget : ℕ) (work out : List ℕ) where
+  -- The job.
   abbrev j : Job
   j = content s
 
+  -- It is sensible.
   ok : Sensible j
   ok = accepted-sensible s accepted
 
@@ -69,14 +68,15 @@ module _ (s : List ℕ) (accepted : refusal s ≡ 0) (budget : ℕ) (work out : 
   finished-first : (es : Layout) → isStopped j none budget ≡ false → held j none budget ≡ some es → FirstOfShortest j es
   finished-first es e q =
       let f = walk-finds j ok none es (held-laid j ok budget es q .0) tt in
-      subst (FirstOfShortest j) (Option·some-injective (f .0) es (sym (f .1) ∙ sym (all-held j none budget e) ∙ q)) (f .2)
+      subst (FirstOfShortest j) (Option·some-injective (f .0) es (sym (f .2) ∙ sym (all-held j none budget e) ∙ q)) (f .3)
 
   -- Where it is not stopped and nothing is held, no layout passes.
   finished-none : isStopped j none budget ≡ false → held j none budget ≡ none → (fs : Layout) → Passes j fs → ⊥
   finished-none e q fs p =
       let f = walk-finds j ok none fs p tt in
-      Option·some-ne-none (f .0) (sym (f .1) ∙ sym (all-held j none budget e) ∙ q)
+      Option·some-ne-none (f .0) (sym (f .2) ∙ sym (all-held j none budget e) ∙ q)
 
+  -- Stopped, with nothing held.
   stopped-nothing : isStopped j none budget ≡ true → held j none budget ≡ none → Demand3 s budget (outcome true none)
   unfolding heldAs stepCount
   stopped-nothing e q =
@@ -94,6 +94,7 @@ module _ (s : List ℕ) (accepted : refusal s ≡ 0) (budget : ℕ) (work out : 
         steps-least = steps-taken j none budget;
       }
 
+  -- Stopped, with a layout held.
   stopped-holding : (es : Layout) → isStopped j none budget ≡ true → held j none budget ≡ some es → Demand3 s budget (outcome true (some es))
   unfolding heldAs stepCount
   stopped-holding es e q =
@@ -112,6 +113,7 @@ module _ (s : List ℕ) (accepted : refusal s ≡ 0) (budget : ℕ) (work out : 
         steps-least = steps-taken j none budget;
       }
 
+  -- Not stopped, with nothing held: "none".
   finished-nothing : isStopped j none budget ≡ false → held j none budget ≡ none → Demand3 s budget (outcome false none)
   unfolding finishedAs stepCount
   finished-nothing e q =
@@ -129,6 +131,7 @@ module _ (s : List ℕ) (accepted : refusal s ≡ 0) (budget : ℕ) (work out : 
         steps-least = steps-taken j none budget;
       }
 
+  -- Not stopped, with a layout held: "shortest".
   finished-holding : (es : Layout) → isStopped j none budget ≡ false → held j none budget ≡ some es → Demand3 s budget (outcome false (some es))
   unfolding finishedAs stepCount
   finished-holding es e q =
@@ -148,6 +151,7 @@ module _ (s : List ℕ) (accepted : refusal s ≡ 0) (budget : ℕ) (work out : 
         steps-least = steps-taken j none budget;
       }
 
+  -- One of the four is the case.
   any-outcome : (b : Bool) (h : Option Layout) → isStopped j none budget ≡ b → held j none budget ≡ h → Demand3 s budget (outcome b h)
   any-outcome true none e q = stopped-nothing e q
   any-outcome true (some es) e q = stopped-holding es e q

@@ -1,13 +1,12 @@
 -- What the walk does at a candidate, by case: equations of the definitions, through which everything else about them is proved.
 use mathlib.Core.Bool.{true, false}
-use mathlib.Core.List.{List, [], _∷_, _++_}
-use mathlib.Core.Option.{Option, none, some}
+use mathlib.Core.List.{List, [], _∷_}
+use mathlib.Core.Option.{Option, none}
 use mathlib.Core.Path.{_≡_, refl}
 use Prim.Native.Nat.{ℕ}
-use lib.ListN.{getD}
 use Rattle.model.specs.Content.{Job}
-use Rattle.model.specs.Layout.{Entry, Layout, entryOf, layoutLength}
-use Rattle.model.specs.Search.{Step, Searched, step, searched, then, live, forwardCheck, completed, tryCandidates, searchPieces, searchFrom, pieces}
+use Rattle.model.specs.Layout.{Layout, entryOf}
+use Rattle.model.specs.Search.{Searched, step, searched, then, live, forwardCheck, completed, tryCandidates, searchPieces, searchFrom, pieces}
 
 module _ (j : Job) (cs : List (List ℕ)) (next : Layout → Option ℕ → Searched) (t : ℕ) (left : List ℕ) where
   -- No candidate left: nothing is done.
@@ -43,6 +42,7 @@ pub search-back : (j : Job) (cs : List (List ℕ)) (best : Option ℕ) → forwa
 unfolding searchFrom
 search-back j cs best e = rw (e, searchFrom)
 
+-- Where it does not fail, the walk goes over all pieces.
 pub search-walks : (j : Job) (cs : List (List ℕ)) (best : Option ℕ) → forwardCheck j cs (pieces j) [] best ≡ true
     → searchFrom j cs best ≡ searchPieces j cs (pieces j) [] best
 unfolding searchFrom

@@ -1,25 +1,26 @@
 -- Look-ahead cuts off only what holds no completion shorter than the best: where there is one, every type has live candidates for all
 -- of its copies left.
 use mathlib.Core.Bool.{Bool, true, false, cond}
-use mathlib.Core.List.{List, [], _∷_, List·Memᴰ}
+use mathlib.Core.List.{List, [], _∷_}
 use mathlib.Core.Logic.{_⊎_, inl, inr}
 use mathlib.Core.Option.{Option}
 use mathlib.Core.Path.{_≡_, refl, sym, subst}
 use Prim.Native.Nat.{ℕ, suc, _≤_, _<_}
 use native.Mathlib.Omega.{arith}
 use borrow.Author.Tests.{ltb-true, eqb-true, eq-eqb, lt-ltb, le-ltb, le-leb}
-use lib.Dec.{ltb, leb, eqb}
+use lib.Dec.{ltb, eqb}
 use lib.ListN.{getD}
 use Rattle.model.specs.Content.{Job, kindCount}
 use Rattle.model.specs.Layout.{Entry, Layout, entryOf, entryNumber, layoutLength}
 use Rattle.model.specs.Lists.{countOf}
-use Rattle.model.specs.Search.{free, abovePrevious, beats, live, copiesLeft, forwardCheck}
-use Rattle.model.proofs.Lists.{countOf-mono, countOf-more, below-all, true-or-false, not-both}
-use Rattle.model.proofs.Search.Completions.{length-cons, beats-le, live-parts, live-of, free-tail, live-first, Completes, laid, laid-longer}
+use Rattle.model.specs.Search.{abovePrevious, beats, live, copiesLeft, forwardCheck}
+use Rattle.words.proofs.Cases.{true-or-false}
+use Rattle.model.proofs.Lists.{countOf-mono, countOf-more, below-all, not-both}
+use Rattle.model.proofs.Search.Completions.{length-cons, beats-le, live-parts, live-of, free-tail, live-first, Completes, laid}
 
 module _ (j : Job) where
   -- A number above a copy that is above the previous one is above that one too.
-  above-through : (es : Layout) (e f : Entry) → e .kind ≡ f .kind → entryNumber j e < entryNumber j f
+  pub above-through : (es : Layout) (e f : Entry) → e .kind ≡ f .kind → entryNumber j e < entryNumber j f
       → abovePrevious j es e ≡ true → abovePrevious j es f ≡ true
   unfolding abovePrevious
   above-through [] e f k l h = refl

@@ -12,10 +12,11 @@ use lib.Dec.{ltb}
 use lib.ListN.{length, getD}
 use Rattle.model.specs.Content.{Job}
 use Rattle.model.specs.Layout.{Entry, Layout, entryOf, layoutLength}
-use Rattle.model.specs.Search.{Step, Searched, step, searched, then, free, abovePrevious, beats, live, forwardCheck, completed, tryCandidates, searchPieces, searchFrom, pieces, lengthOf, latest, bestAfter}
-use Rattle.model.proofs.Lists.{true-or-false, not-both}
+use Rattle.model.specs.Search.{Step, Searched, step, searched, then, live, forwardCheck, completed, tryCandidates, searchPieces, searchFrom, pieces, lengthOf, latest, bestAfter}
+use Rattle.words.proofs.Cases.{true-or-false}
+use Rattle.model.proofs.Lists.{not-both}
 use Rattle.model.proofs.Sorted.{Above, Rising}
-use Rattle.model.proofs.Search.Completions.{length-reverse, Shorter, NoShorter, shorter-or-not, shorter-lt, shorter-le, beats-shorter, shorter-beats, live-parts, live-first, Completes, CompletesWith, CompletesFrom, laid, laid-longer}
+use Rattle.model.proofs.Search.Completions.{length-reverse, Shorter, NoShorter, shorter-or-not, shorter-lt, shorter-le, beats-shorter, shorter-beats, live-parts, live-first, Completes, CompletesWith, CompletesFrom, laid}
 use Rattle.model.proofs.Search.Equations.{tries-end, tries-dead, tries-back, tries-deep, search-back, search-walks}
 use Rattle.model.proofs.Search.ForwardCheck.{forward-keeps}
 
@@ -25,7 +26,7 @@ use Rattle.model.proofs.Search.ForwardCheck.{forward-keeps}
 pub bestAfter-append : (h : Option Layout) (ss rs : List Step) → bestAfter h (ss ++ rs) ≡ bestAfter (bestAfter h ss) rs
 unfolding bestAfter
 bestAfter-append h [] rs = refl
-bestAfter-append h (s ∷ ss) rs = bestAfter-append (latest h (s .completes)) ss rs
+bestAfter-append h (s ∷ ss) rs = bestAfter-append _ ss rs
 
 module _ (j : Job) (G : Layout → Type 0) where
   -- A layout that a step completes, if it does, has the property G and is shorter than the one held.
@@ -88,6 +89,7 @@ none-shorter j P lay h f = stays refl (λ ns p. ⊎-elim (λ s. absurd (f ns p s
 shorter-laid : (j : Job) (a : ℕ) (h : Option Layout) (es : Layout) → h ≡ some (reverse es) → Shorter j a h → a < layoutLength j es
 shorter-laid j a h es e s = rw (length-reverse j es) at (subst (Shorter j a) e s)
 
+-- And a length that is not below its length.
 noShorter-laid : (j : Job) (a : ℕ) (h : Option Layout) (es : Layout) → h ≡ some (reverse es) → NoShorter j a h → layoutLength j es ≤ a
 noShorter-laid j a h es e s = rw (length-reverse j es) at (subst (NoShorter j a) e s)
 
@@ -192,6 +194,7 @@ module _ (j : Job) (cs : List (List ℕ)) (G : Layout → Type 0) where
         (λ ms c s. not-both (forward-keeps j cs (lengthOf j h) ts (entryOf j t n ∷ es) ms (c .2) (shorter-beats j _ h s)) e)
 
     module _ (n : ℕ) (ns : List ℕ) (above : Above n ns) (es : Layout) (h : Option Layout) (rest : (h : Option Layout) → Tries ns es h) where
+      -- A candidate that is not live, and then the others.
       tries-dead-ran : live j es (lengthOf j h) t n ≡ false → Tries (n ∷ ns) es h
       tries-dead-ran e =
           let r = rest h in
@@ -199,6 +202,7 @@ module _ (j : Job) (cs : List (List ℕ)) (G : Layout → Type 0) where
           (sym (tries-dead j cs (searchPieces j cs ts) t ts n ns es (lengthOf j h) e))
           (record { told = r .told; found = found-then j cs t ts es n ns above h h _ (dead-stays n es h e) (r .found); falling = r .falling })
 
+      -- A candidate that look-ahead gives back, and then the others.
       tries-back-ran : live j es (lengthOf j h) t n ≡ true → forwardCheck j cs ts (entryOf j t n ∷ es) (lengthOf j h) ≡ false → Tries (n ∷ ns) es h
       unfolding then bestAfter latest
       tries-back-ran e f =
@@ -223,6 +227,7 @@ module _ (j : Job) (cs : List (List ℕ)) (G : Layout → Type 0) where
             falling = falling-append j G h ss (w .steps) l (r .falling);
           }
 
+      -- A candidate that look-ahead keeps, the walk behind it, and then the others.
       tries-deep-ran : Enters ts → ((ms : List ℕ) → CompletesFrom j cs t ts (n ∷ ns) es ms → G (reverse (laid j (t ∷ ts) ms es)))
           → live j es (lengthOf j h) t n ≡ true → forwardCheck j cs ts (entryOf j t n ∷ es) (lengthOf j h) ≡ true → Tries (n ∷ ns) es h
       tries-deep-ran enters g e f =
@@ -240,9 +245,12 @@ module _ (j : Job) (cs : List (List ℕ)) (G : Layout → Type 0) where
           (subst (λ (b : Option ℕ). Ran j (CompletesFrom j cs t ts ns es) (λ ms. laid j (t ∷ ts) ms es) G (bestAfter h ss) (tryCandidates j cs (searchPieces j cs ts) t ts ns es b))
           (sym (r .told)) (rest (bestAfter h ss))))
 
+    -- No candidate at all.
     tries-none-ran : (es : Layout) (h : Option Layout) → Tries [] es h
-    unfolding tryCandidates bestAfter
-    tries-none-ran es h = record { told = refl; found = stays refl (λ ms c. absurd (from-none j cs t ts es ms c)); falling = tt }
+    unfolding bestAfter
+    tries-none-ran es h =
+        subst (Ran j (CompletesFrom j cs t ts [] es) (λ ms. laid j (t ∷ ts) ms es) G h) (sym (tries-end j cs (searchPieces j cs ts) t ts es (lengthOf j h)))
+        (record { told = refl; found = stays refl (λ ms c. absurd (from-none j cs t ts es ms c)); falling = tt })
 
     -- Trying the candidates of a piece, given what is promised of the pieces after it.
     pub tries-ran : Enters ts → (ns : List ℕ) → Rising ns → (es : Layout) (h : Option Layout)
@@ -269,6 +277,7 @@ module _ (j : Job) (cs : List (List ℕ)) (G : Layout → Type 0) where
   Walks t ts es h =
       Ran j (Completes j cs (t ∷ ts) es) (λ ns. laid j (t ∷ ts) ns es) G h (searchPieces j cs (t ∷ ts) es (lengthOf j h))
 
+  -- It is trying the candidates of t.
   walks-ran : ((t : ℕ) → Rising (getD cs t [])) → (t : ℕ) (ts : List ℕ) → Enters ts → (es : Layout) (h : Option Layout)
       → ((ns : List ℕ) → Completes j cs (t ∷ ts) es ns → G (reverse (laid j (t ∷ ts) ns es))) → Walks t ts es h
   unfolding searchPieces

@@ -1,26 +1,27 @@
 -- The completions of the empty board are exactly the layouts that pass, and their order is the order of layouts.
-use mathlib.Core.Bool.{Bool, true, false, not, cond, _&&_}
-use mathlib.Core.List.{List, [], _∷_, _++_, map, reverse, reverseAux, reverse-reverse, List·Memᴰ, List·Memᴰ·head, List·Memᴰ·tail, List·Memᴰ·cases-cons, List·Memᴰ·not-nil}
+use mathlib.Core.Bool.{Bool, true, false, not, cond}
+use mathlib.Core.List.{List, [], _∷_, map, reverse, reverseAux, reverse-reverse, List·Memᴰ, List·Memᴰ·head, List·Memᴰ·tail, List·Memᴰ·cases-cons, List·Memᴰ·not-nil}
 use mathlib.Core.Logic.{_⊎_, inl, inr, ⊎-elim}
 use mathlib.Core.Path.{_≡_, refl, sym, ap, ap₂, _∙_, subst}
-use Prim.Native.Nat.{ℕ, zero, suc, _+_, _≤_, _<_}
+use Prim.Native.Nat.{ℕ, zero, suc, _≤_, _<_}
 use native.Mathlib.Nat.{not-suc-le-zero, le-of-suc-le-suc}
 use native.Mathlib.Omega.{arith}
 use borrow.Author.Tests.{ltb-true, ltb-false, eqb-true, eqb-false, eq-eqb, ne-eqb, lt-ltb, not-true}
 use lib.Dec.{ltb, eqb}
-use lib.ListN.{length, getD, length-map}
-use Rattle.model.specs.Candidate.{admitted}
+use lib.ListN.{length, length-map}
 use Rattle.model.specs.Content.{Job, kindAt, kindCount, pieceCount}
-use Rattle.model.specs.Layout.{Entry, Layout, entryAt, entryOf, entryNumber, isEntry, conflict, inOrder, ordered, copies, demandMet, apart, passes, layoutLength, Precedes, Passes, Before}
+use Rattle.model.specs.Layout.{Entry, Layout, entryAt, entryOf, entryNumber, isEntry, conflict, inOrder, ordered, copies, demandMet, apart, passes, Precedes, Passes, Before}
 use Rattle.model.specs.Lists.{all, any, countOf}
 use Rattle.model.specs.Search.{pieces, candidateTable, free, abovePrevious}
-use Rattle.model.proofs.Lists.{and-left, and-right, and-both, and-four, below-all, all-below, all-mem, mem-map, true-or-false, not-both}
+use Rattle.words.proofs.Cases.{true-or-false}
+use Rattle.model.proofs.Lists.{and-left, and-right, and-both, and-four, below-all, all-mem, mem-map}
 use Rattle.model.proofs.Numbers.{number-of-placement}
-use Rattle.model.proofs.Passing.{passes-sound, passes-complete, precedes, in-order}
+use Rattle.model.proofs.Passing.{passes-sound, passes-complete, precedes}
 use Rattle.model.proofs.Search.Completions.{free-cons, free-head, free-tail, Completes, laid}
 use Rattle.model.proofs.Search.Optimal.{NotAfter}
-use Rattle.model.proofs.Search.Pieces.{Sensible, length-pieces, pieces-ascend, mem-pieces, count-pieces, mem-table, entry-kind, entry-of-number, table-mem}
-use Rattle.model.proofs.Sorted.{Ascending, NotBelow, ascending-same, eqb-comm, countOf-none}
+use Rattle.model.proofs.Accepted.{Sensible}
+use Rattle.model.proofs.Search.Pieces.{length-pieces, pieces-ascend, mem-pieces, count-pieces, mem-table, entry-kind, entry-of-number, table-mem}
+use Rattle.model.proofs.Sorted.{Ascending, ascending-same, eqb-comm, countOf-none}
 
 module _ (j : Job) where
   -- The entries of these pieces and candidate numbers, in their order.
@@ -29,7 +30,8 @@ module _ (j : Job) where
   entries (t ∷ ts) [] = []
   entries (t ∷ ts) (n ∷ ns) = entryOf j t n ∷ entries ts ns
 
-  laid-entries : (ts ns : List ℕ) (es : Layout) → laid j ts ns es ≡ reverseAux (entries ts ns) es
+  -- Laying places them one after the other, the latest first.
+  pub laid-entries : (ts ns : List ℕ) (es : Layout) → laid j ts ns es ≡ reverseAux (entries ts ns) es
   laid-entries [] ns es = refl
   laid-entries (t ∷ ts) [] es = refl
   laid-entries (t ∷ ts) (n ∷ ns) es = laid-entries ts ns (entryOf j t n ∷ es)
@@ -66,6 +68,7 @@ module _ (j : Job) where
         and-both (not (conflict j f (entryOf j t n))) _ (ap not (free-at es (entryOf j t n) f (c .1 .1) d))
         (clear-entries ts (entryOf j t n ∷ es) ns (c .1 .2) f (List·Memᴰ·tail d))
 
+    -- No two of its entries are in conflict.
     apart-entries : (ts : List ℕ) (es : Layout) (ns : List ℕ) → Completes j cs ts es ns → apart j (entries ts ns) ≡ true
     unfolding apart
     apart-entries [] es ns c = refl
@@ -83,6 +86,7 @@ module _ (j : Job) where
         go true q = rw q (rw q at h)
         go false q = let d : e .kind ≡ f .kind → ⊥ = eqb-false _ _ q in rw q (lt-ltb (e .kind) (f .kind) (omega arith))
 
+    -- Its entries are in order.
     ordered-entries : (ts : List ℕ) (es : Layout) (ns : List ℕ) → Ascending ts → Completes j cs ts es ns → ordered j (entries ts ns) ≡ true
     unfolding ordered entryOf
     ordered-entries [] es ns a c = refl
@@ -128,19 +132,21 @@ module _ (j : Job) where
   precedes-trans e f g (inr a) (inr b) = inr (omega arith)
 
   -- An entry comes before each of these, and is in conflict with none.
-  abbrev Leads : Entry → Layout → Type 0
+  abbrev pub Leads : Entry → Layout → Type 0
   Leads e es = (f : Entry) → List·Memᴰ f es → Precedes j e f × (conflict j e f ≡ false)
 
   -- So does each entry with all after it.
-  abbrev Leading : Layout → Type 0
+  abbrev pub Leading : Layout → Type 0
   Leading [] = Unit {0}
   Leading (e ∷ es) = Leads e es × Leading es
 
+  -- All but the first of ordered entries are ordered.
   ordered-tail : (e : Entry) (es : Layout) → ordered j (e ∷ es) ≡ true → ordered j es ≡ true
   unfolding ordered
   ordered-tail e [] h = refl
   ordered-tail e (f ∷ es) h = and-right (inOrder j e f) _ h
 
+  -- The first of ordered entries comes before all others.
   ordered-first : (e : Entry) (es : Layout) → ordered j (e ∷ es) ≡ true → (f : Entry) → List·Memᴰ f es → Precedes j e f
   unfolding ordered
   ordered-first e [] h f d = absurd (List·Memᴰ·not-nil d)
@@ -153,6 +159,7 @@ module _ (j : Job) where
       go (inl q) r = subst (Precedes j e) (sym q) first
       go (inr m) r = precedes-trans e g f first (r m)
 
+  -- Ordered entries of which no two are in conflict lead all after them.
   leading : (es : Layout) → ordered j es ≡ true → apart j es ≡ true → Leading es
   unfolding apart
   leading [] o a = tt
@@ -160,6 +167,13 @@ module _ (j : Job) where
     (λ f d. (ordered-first e es o f d, not-true _ (all-mem (λ f. not (conflict j e f)) es f (and-left _ _ a) d))),
     leading es (ordered-tail e es o) (and-right (all (λ f. not (conflict j e f)) es) _ a),
   )
+
+  -- A layout that passes consists of candidates, each of which leads all after it.
+  pub passing-leads : (es : Layout) → Passes j es → Leading es × (all (isEntry j) es ≡ true)
+  unfolding passes
+  passing-leads es p =
+      let parts = and-four (ordered j es) (demandMet j es) (all (isEntry j) es) (apart j es) (passes-complete j es p) in
+      (leading es (parts .0) (parts .3), parts .2)
 
   -- What comes after all that is placed is above the previous copy, and in conflict with nothing placed.
   above-of : (placed : Layout) (e : Entry) → ((f : Entry) → List·Memᴰ f placed → Precedes j f e) → abovePrevious j placed e ≡ true
@@ -173,13 +187,15 @@ module _ (j : Job) where
       go true q (inr l) r = rw q (lt-ltb (entryNumber j f) (entryNumber j e) (l .1))
       go false q l r = rw q r
 
+  -- What is in conflict with none of what is placed is free.
   free-of : (placed : Layout) (e : Entry) → ((f : Entry) → List·Memᴰ f placed → conflict j f e ≡ false) → free j placed e ≡ true
   unfolding free any
   free-of [] e p = refl
   free-of (f ∷ placed) e p = free-cons j f placed e (p f (List·Memᴰ·head refl)) (free-of placed e (λ g d. p g (List·Memᴰ·tail d)))
 
   module _ (turned : (t : ℕ) → kindAt j t .rotations < 16) where
-    completes-of : (es placed : Layout) → all (isEntry j) es ≡ true → Leading es → ((f : Entry) → List·Memᴰ f placed → Leads f es)
+    -- Candidates that lead all after them complete what leads them all.
+    pub completes-of : (es placed : Layout) → all (isEntry j) es ≡ true → Leading es → ((f : Entry) → List·Memᴰ f placed → Leads f es)
         → Completes j (candidateTable j) (map (λ e. e .kind) es) placed (map (entryNumber j) es)
     unfolding all
     completes-of [] placed a l p = tt
@@ -197,13 +213,13 @@ module _ (j : Job) where
         )
 
     -- The entries are those of their types and numbers.
-    entries-of : (es : Layout) → all (isEntry j) es ≡ true → entries (map (λ e. e .kind) es) (map (entryNumber j) es) ≡ es
+    pub entries-of : (es : Layout) → all (isEntry j) es ≡ true → entries (map (λ e. e .kind) es) (map (entryNumber j) es) ≡ es
     unfolding all
     entries-of [] a = refl
     entries-of (e ∷ es) a =
         ap₂ {C = Layout} (λ (x : Entry) (xs : Layout). x ∷ xs) (entry-of-number j turned e (and-left _ _ a)) (entries-of es (and-right (isEntry j e) _ a))
 
-  -- The types of a layout that passes are those of the pieces.
+  -- The types of entries that lead all after them ascend.
   kinds-ascend : (es : Layout) → Leading es → Ascending (map (λ e. e .kind) es)
   kinds-ascend [] l = tt
   kinds-ascend (e ∷ es) l = ((λ m d. let x = mem-map (λ e. e .kind) es m d in below m (x .0) (x .2) (l .0 (x .0) (x .1) .0)), kinds-ascend es (l .1))
@@ -212,11 +228,13 @@ module _ (j : Job) where
       below m f q (inl h) = omega arith
       below m f q (inr h) = omega (arith, h .0)
 
+  -- They are counted as the copies are.
   count-kinds : (es : Layout) (t : ℕ) → countOf (eqb t) (map (λ e. e .kind) es) ≡ copies t es
   unfolding countOf copies
   count-kinds [] t = refl
   count-kinds (e ∷ es) t = rw (eqb-comm (e .kind) t, count-kinds es t)
 
+  -- The types of a layout that passes are those of the pieces.
   kinds-pieces : (es : Layout) → all (isEntry j) es ≡ true → Leading es → ((t : ℕ) → t < kindCount j → copies t es ≡ kindAt j t .demand)
       → map (λ e. e .kind) es ≡ pieces j
   kinds-pieces es a l d = ascending-same (map (λ e. e .kind) es) (pieces j) (kinds-ascend es l) (pieces-ascend j) (λ t. go t (true-or-false (ltb t (kindCount j))))
@@ -231,18 +249,22 @@ module _ (j : Job) where
           none t (map (λ e. e .kind) es) k (λ m i. let x = mem-map (λ e. e .kind) es m i in rw (x .2) (entry-kind j (x .0) (all-mem (isEntry j) es (x .0) a (x .1))))
           ∙ sym (none t (pieces j) k (mem-pieces j))
 
+  -- A layout that passes has N entries.
+  pub passing-length : (es : Layout) → Passes j es → length es ≡ pieceCount j
+  passing-length es p =
+      let l = passing-leads es p in
+      sym (length-map es (λ e. e .kind)) ∙ ap length (kinds-pieces es (l .1) (l .0) (p .demanded)) ∙ length-pieces j
+
   -- A layout that passes is laid by the completion of its numbers.
   pub passing-completes : Sensible j → (es : Layout) → Passes j es
       → Completes j (candidateTable j) (pieces j) [] (map (entryNumber j) es) × (reverse (laid j (pieces j) (map (entryNumber j) es) []) ≡ es)
-  unfolding passes
   passing-completes ok es p =
-      let parts = and-four (ordered j es) (demandMet j es) (all (isEntry j) es) (apart j es) (passes-complete j es p) in
-      let l : Leading es = leading es (parts .0) (parts .3) in
-      let q : map (λ e. e .kind) es ≡ pieces j = kinds-pieces es (parts .2) l (p .demanded) in (
+      let l = passing-leads es p in
+      let q : map (λ e. e .kind) es ≡ pieces j = kinds-pieces es (l .1) (l .0) (p .demanded) in (
         subst (λ (ts : List ℕ). Completes j (candidateTable j) ts [] (map (entryNumber j) es)) q
-            (completes-of (ok .turned) es [] (parts .2) l (λ f d. absurd (List·Memᴰ·not-nil d))),
+            (completes-of (ok .turned) es [] (l .1) (l .0) (λ f d. absurd (List·Memᴰ·not-nil d))),
         laid-layout (pieces j) (map (entryNumber j) es)
-            ∙ subst (λ (ts : List ℕ). entries ts (map (entryNumber j) es) ≡ es) q (entries-of (ok .turned) es (parts .2)),
+            ∙ subst (λ (ts : List ℕ). entries ts (map (entryNumber j) es) ≡ es) q (entries-of (ok .turned) es (l .1)),
       )
 
   -- ---- Order

@@ -1,45 +1,28 @@
 -- The pieces and the candidates of a job: which they are, in which order, and how many.
-use mathlib.Core.Bool.{Bool, true, false, _&&_}
-use mathlib.Core.List.{List, [], _∷_, map, List·Memᴰ, List·Memᴰ·not-nil}
+use mathlib.Core.Bool.{true, false}
+use mathlib.Core.List.{[], map, List·Memᴰ, List·Memᴰ·not-nil}
 use mathlib.Core.Logic.{_⊎_, inl, inr, ⊎-elim}
-use mathlib.Core.Path.{_≡_, refl, sym, ap, _∙_, subst}
-use Prim.Native.Nat.{ℕ, zero, suc, _+_, _*_, _/_, _%_, _^_, _≤_, _<_}
-use native.Mathlib.Nat.{not-suc-le-zero, le-of-suc-le-suc, add-zero, zero-add, suc-add, add-suc, div-eq-of-lt, zero-div, mul-le-mul-right, pow-le-pow-right}
+use mathlib.Core.Path.{_≡_, sym, ap, _∙_, subst}
+use Prim.Native.Nat.{ℕ, suc, _≤_, _<_}
+use native.Mathlib.Nat.{mul-le-mul-right}
 use native.Mathlib.Omega.{arith}
-use borrow.Author.Tests.{ltb-true, ltb-false, eqb-true, ne-eqb, lt-ltb}
+use borrow.Author.Tests.{ltb-true}
 use lib.Dec.{ltb, eqb}
 use lib.ListN.{length, getD, length-map, List·getD-eq-default}
 use Rattle.words.specs.Bits.{testBit}
 use Rattle.model.specs.Candidate.{admitted, isCandidate, candidates, placedVertices, onBoard}
 use Rattle.model.specs.Content.{Kind, Job, kindAt, kindCount, pieceCount, noKind}
-use Rattle.model.specs.Grid.{Placement, columns, rows, dots, numberOf, placementOf, numberLimit}
+use Rattle.model.specs.Grid.{Placement, columns, rows, dots, numberOf, numberLimit}
 use Rattle.model.specs.Layout.{Entry, entryOf, entryNumber, entryKind, isEntry}
-use Rattle.model.specs.Lists.{all, countOf, sum, rising, below}
+use Rattle.model.specs.Lists.{all, countOf, sum, below}
 use Rattle.model.specs.Search.{pieces, candidateTable}
-use Rattle.model.proofs.Lists.{and-four, length-below, getD-map-below, true-or-false, not-both}
-use Rattle.model.proofs.Numbers.{number-of-placement, placement-of-number}
-use Rattle.model.proofs.Sorted.{Rising, Ascending, mem-rising, rising-mem, mem-keep, keep-mem, keep-rises, countOf-none, mem-blocks, blocks-ascend, count-blocks, length-blocks}
-
--- What the theorems about the walk ask of a job, and every accepted job has: a piece, and turn masks of four bits.
-pub record Sensible (j : Job) : Type 0 where
-  pub pieced : 0 < pieceCount j
-  pub turned : (t : ℕ) → kindAt j t .rotations < 16
+use Rattle.words.proofs.Bit.{testBit-above, testBit-none}
+use Rattle.words.proofs.Cases.{le-or-lt}
+use Rattle.model.proofs.Lists.{and-four, length-below, getD-map-below, map-by-index, not-both}
+use Rattle.model.proofs.Numbers.{placement-of-number}
+use Rattle.model.proofs.Sorted.{Rising, Ascending, rising-mem, mem-keep, keep-mem, keep-rises, mem-blocks, blocks-ascend, count-blocks, length-blocks}
 
 -- ---- Pieces
-
-module _ {A : Type 0} where
-  -- A function over numbers that rise from one more.
-  map-rising-suc : (f : ℕ → A) (i k : ℕ) → map f (rising (suc i) k) ≡ map (λ t. f (suc t)) (rising i k)
-  unfolding rising
-  map-rising-suc f i zero = refl
-  map-rising-suc f i (suc k) = ap {B = List A} (λ (r : List A). f (suc i) ∷ r) (map-rising-suc f (suc i) k)
-
--- A function of each element, by the element's index.
-map-by-index : {A : Type 0} (f : A → ℕ) (xs : List A) (d : A) → map (λ t. f (getD xs t d)) (rising 0 (length xs)) ≡ map f xs
-unfolding rising
-map-by-index f [] d = refl
-map-by-index f (x ∷ xs) d =
-    ap (λ (r : List ℕ). f x ∷ r) (map-rising-suc (λ t. f (getD (x ∷ xs) t d)) 0 (length xs) ∙ map-by-index f xs d)
 
 module _ (j : Job) where
   -- There are N pieces.
@@ -65,17 +48,19 @@ module _ (j : Job) where
   -- ---- Candidates
 
   -- The table has the candidates of each type, and of nothing else.
-  table-at : (t : ℕ) → t < kindCount j → getD (candidateTable j) t [] ≡ candidates j t
+  pub table-at : (t : ℕ) → t < kindCount j → getD (candidateTable j) t [] ≡ candidates j t
   unfolding candidateTable
   table-at t h = getD-map-below (candidates j) (kindCount j) t [] h
 
+  -- It has no candidates of a type that is not there.
   table-beyond : (t : ℕ) → kindCount j ≤ t → getD (candidateTable j) t [] ≡ []
   unfolding candidateTable
   table-beyond t h =
       List·getD-eq-default (map (candidates j) (below (kindCount j))) [] (rw (length-map (below (kindCount j)) (candidates j), length-below (kindCount j)) h)
 
+  -- A type is there or not.
   in-table : (t : ℕ) → (t < kindCount j) ⊎ (kindCount j ≤ t)
-  in-table t = ⊎-elim (λ e. inl (ltb-true t (kindCount j) e)) (λ e. inr (ltb-false t (kindCount j) e)) (true-or-false (ltb t (kindCount j)))
+  in-table t = ⊎-elim (λ l. inl l) (λ l. inr (omega arith)) (le-or-lt (suc t) (kindCount j))
 
   -- "A piece tries its candidates in rising order."
   pub table-rises : (t : ℕ) → Rising (getD (candidateTable j) t [])
@@ -103,21 +88,15 @@ module _ (j : Job) where
 
   -- A mask of four bits allows no turn but the four.
   pub few-turns : (w i : ℕ) → w < 16 → testBit w i ≡ true → i < 4
-  unfolding testBit
-  few-turns w i h e = ⊎-elim (λ q. ltb-true i 4 q) (λ q. absurd (not-both e (none (ltb-false i 4 q)))) (true-or-false (ltb i 4))
-    where
-      none : 4 ≤ i → eqb (w / 2 ^ i % 2) 1 ≡ false
-      none l =
-          let big : 2 ^ 4 ≤ 2 ^ i = pow-le-pow-right (omega arith) l in
-          rw (div-eq-of-lt {n = w} {m = 2 ^ i} (omega arith))
+  few-turns w i h e = ⊎-elim (λ l. absurd (not-both e (testBit-above w 4 i h l))) (λ l. l) (le-or-lt 4 i)
 
   -- Where no type stands nothing is a candidate.
   pub entry-kind : (e : Entry) → isEntry j e ≡ true → e .kind < kindCount j
-  unfolding isEntry entryKind kindAt kindCount testBit
+  unfolding isEntry entryKind kindAt kindCount
   entry-kind e h = ⊎-elim (λ l. l) (λ l. absurd (not-both (admitted-parts (entryKind j e) (e .place) h .2) (none l))) (in-table (e .kind))
     where
       none : kindCount j ≤ e .kind → testBit (entryKind j e .rotations) (e .place .rotation) ≡ false
-      none l = rw (List·getD-eq-default (j .kinds) noKind l, zero-div (2 ^ (e .place .rotation)))
+      none l = rw (List·getD-eq-default (j .kinds) noKind l) (testBit-none (e .place .rotation))
 
   module _ (turned : (t : ℕ) → kindAt j t .rotations < 16) where
     -- A candidate is given by its type and its number.

@@ -1,21 +1,25 @@
 -- The theorems about the whole walk: what its steps complete, and what it holds at its end.
-use mathlib.Core.Bool.{Bool, true, false}
-use mathlib.Core.List.{List, [], _∷_, _++_, map, reverse, List·Memᴰ, List·Memᴰ·head, List·Memᴰ·tail, List·Memᴰ·cases-cons, List·Memᴰ·not-nil}
+use mathlib.Core.Bool.{false}
+use mathlib.Core.List.{List, [], _∷_, _++_, map, reverse, List·Memᴰ·head, List·Memᴰ·tail, List·Memᴰ·cases-cons, List·Memᴰ·not-nil}
 use mathlib.Core.Logic.{_⊎_, inl, inr, ⊎-elim}
-use mathlib.Core.Option.{Option, none, some, Option·some-injective, Option·some-ne-none}
+use mathlib.Core.Option.{Option, none, some, Option·some-injective}
 use mathlib.Core.Path.{_≡_, refl, sym, ap, _∙_, subst, subst₂}
 use Prim.Native.Nat.{ℕ, zero, suc, _≤_, _<_}
 use native.Mathlib.Nat.{le-refl}
 use native.Mathlib.Omega.{arith}
-use lib.ListN.{length, getD, take}
+use lib.ListN.{length, take}
 use Rattle.model.specs.Content.{Job, pieceCount}
 use Rattle.model.specs.Demand3.{Completed, BestOf}
-use Rattle.model.specs.Layout.{Entry, Layout, entryNumber, layoutLength, Passes, Before, FirstOfShortest}
-use Rattle.model.specs.Search.{Step, Searched, pieces, candidateTable, searchFrom, stepsFrom, lengthOf, latest, bestAfter}
-use Rattle.model.proofs.Search.Completions.{length-reverse, Shorter, NoShorter, shorter-le, shorter-not, shorter-lt, Completes, laid}
-use Rattle.model.proofs.Search.Optimal.{Improves, Falling, NotAfter, Wins, Found, stays, finds, Ran, search-ran}
-use Rattle.model.proofs.Search.Passing.{entries, laid-layout, completion-passes, completion-length, passing-completes, not-after-before}
-use Rattle.model.proofs.Search.Pieces.{Sensible, length-pieces, table-rises}
+use Rattle.model.specs.Layout.{Layout, entryNumber, layoutLength, Passes, Before, FirstOfShortest}
+use Rattle.model.specs.Search.{Step, Searched, pieces, candidateTable, forwardCheck, searchFrom, stepsFrom, lengthOf, latest, bestAfter}
+use Rattle.model.proofs.Search.Completions.{length-reverse, Shorter, NoShorter, shorter-or-not, shorter-le, shorter-not, shorter-lt, shorter-beats, Completes, laid}
+use Rattle.model.proofs.Lists.{not-both}
+use Rattle.model.proofs.Search.Equations.{search-back}
+use Rattle.model.proofs.Search.ForwardCheck.{forward-keeps}
+use Rattle.model.proofs.Search.Optimal.{Improves, Falling, Wins, Found, stays, finds, Ran, search-ran}
+use Rattle.model.proofs.Search.Passing.{laid-layout, completion-passes, completion-length, passing-completes, not-after-before}
+use Rattle.model.proofs.Accepted.{Sensible}
+use Rattle.model.proofs.Search.Pieces.{length-pieces, table-rises}
 
 -- ---- Completed layouts
 
@@ -31,6 +35,11 @@ completed-cases s ss es c =
 
 module _ (j : Job) (G : Layout → Type 0) where
   -- The first of falling steps fall.
+  falling-front : (h : Option Layout) (ss rs : List Step) → Falling j G h (ss ++ rs) → Falling j G h ss
+  falling-front h [] rs f = tt
+  falling-front h (s ∷ ss) rs f = (f .0, falling-front (latest h (s .completes)) ss rs (f .1))
+
+  -- So do the first k of them.
   falling-take : (h : Option Layout) (k : ℕ) (ss : List Step) → Falling j G h ss → Falling j G h (take k ss)
   falling-take h zero ss f = tt
   falling-take h (suc k) [] f = tt
@@ -66,6 +75,7 @@ module _ (j : Job) (G : Layout → Type 0) where
   latest-holds n h none i k = k
   latest-holds n h (some es) i k = let l : layoutLength j es < n = shorter-lt j _ _ h (i .1) k in omega arith
 
+  -- What is held after steps is no longer than what was held before them.
   falling-holds : (h : Option Layout) (ss : List Step) → Falling j G h ss → (n : ℕ) → NoShorter j n h → NoShorter j n (bestAfter h ss)
   unfolding bestAfter
   falling-holds h [] f n k = k
@@ -101,11 +111,13 @@ abbrev pub Laid : Job → Layout → Type 0
 Laid j es = Passes j es × (length es ≡ pieceCount j)
 
 module _ (j : Job) (ok : Sensible j) where
+  -- The induction, for the whole walk: completions are the layouts that pass.
   walk-ran : (h : Option Layout) → Ran j (Completes j (candidateTable j) (pieces j) []) (λ ns. laid j (pieces j) ns []) (Laid j) h (searchFrom j (candidateTable j) (lengthOf j h))
   walk-ran h =
       search-ran j (candidateTable j) (Laid j) (table-rises j) (rw (length-pieces j) (ok .pieced)) h
       (λ ns c. (completion-passes j ns c, completion-length j ns c))
 
+  -- What its steps complete falls in length and passes.
   walk-falls : (h : Option Layout) → Falling j (Laid j) h (stepsFrom j h)
   unfolding stepsFrom
   walk-falls h = walk-ran h .falling
@@ -116,6 +128,19 @@ module _ (j : Job) (ok : Sensible j) where
   step-completes h before s after q es e =
       subst (Improves j (Laid j) (bestAfter h before)) e (falling-at j (Laid j) h before s after (subst (Falling j (Laid j) h) q (walk-falls h)))
 
+  -- Each completed layout is shorter than every one completed before it.
+  pub steps-fall : (h : Option Layout) (before : List Step) (s : Step) (after : List Step) → stepsFrom j h ≡ before ++ s ∷ after
+      → (es fs : Layout) → s .completes ≡ some es → Completed before fs → layoutLength j es < layoutLength j fs
+  steps-fall h before s after q es fs e c =
+      let f : Falling j (Laid j) h (before ++ s ∷ after) = subst (Falling j (Laid j) h) q (walk-falls h) in
+      shorter-lt j _ _ (bestAfter h before) (step-completes h before s after q es e .1)
+      (falling-shortest j (Laid j) h before (falling-front j (Laid j) h before (s ∷ after) f) fs c)
+
+  -- The length of the best that the walk tells is that of the layout held.
+  pub best-told : (h : Option Layout) → searchFrom j (candidateTable j) (lengthOf j h) .best ≡ lengthOf j (bestAfter h (stepsFrom j h))
+  unfolding stepsFrom
+  best-told h = walk-ran h .told
+
   -- So is every layout that the first k steps complete, and it is shorter than the best that the walk began with.
   pub completed-laid : (h : Option Layout) (k : ℕ) (es : Layout) → Completed (take k (stepsFrom j h)) es → Laid j es × Shorter j (layoutLength j es) h
   completed-laid h k es c = falling-improves j (Laid j) h (take k (stepsFrom j h)) (falling-take j (Laid j) h k (stepsFrom j h) (walk-falls h)) es c
@@ -125,11 +150,17 @@ module _ (j : Job) (ok : Sensible j) where
       → NoShorter j (layoutLength j es) (bestAfter h (take k (stepsFrom j h)))
   completed-no-shorter h k es c = falling-shortest j (Laid j) h (take k (stepsFrom j h)) (falling-take j (Laid j) h k (stepsFrom j h) (walk-falls h)) es c
 
+  -- What is held after steps and is shorter than what was held before them was completed by one of them.
+  held-completed : (h : Option Layout) (ss : List Step) (es : Layout) → bestAfter h ss ≡ some es → Shorter j (layoutLength j es) h → Completed ss es
+  held-completed h ss es e s =
+      ⊎-elim (λ q. absurd (shorter-not j _ h s (subst (NoShorter j (layoutLength j es)) (sym e ∙ q) (le-refl (layoutLength j es)))))
+      (λ r. subst (Completed ss) (Option·some-injective (r .0) es (sym (r .2) ∙ e)) (r .1)) (held-or-completed h ss)
+
   -- The best after the first k steps of a walk that begins with none is "the shortest that they completed".
   pub best-of-steps : (k : ℕ) (es : Layout) → bestAfter none (take k (stepsFrom j none)) ≡ some es → BestOf j (take k (stepsFrom j none)) es
   best-of-steps k es e =
       record {
-        completed = ⊎-elim (λ q. absurd (Option·some-ne-none es (sym e ∙ q))) (λ r. subst (Completed (take k (stepsFrom j none))) (Option·some-injective (r .0) es (sym (r .2) ∙ e)) (r .1)) (held-or-completed none (take k (stepsFrom j none)));
+        completed = held-completed none (take k (stepsFrom j none)) es e tt;
         shortest = λ fs c. subst (NoShorter j (layoutLength j fs)) e (completed-no-shorter none k fs c);
       }
 
@@ -199,17 +230,56 @@ module _ (j : Job) (ok : Sensible j) where
       go (stays e f) = inr (e, none-passes h f)
       go (finds ks c e s w) = inl (reverse (laid j (pieces j) ks []), e, wins-first ks c w, rw (length-reverse j (laid j (pieces j) ks [])) s)
 
-  -- If some layout passes that is shorter than the best that the walk begins with, the last layout that the walk completes is the first of
-  -- the shortest. While it begins with none, every layout is shorter.
+  -- If some layout passes that is shorter than the best that the walk begins with, the walk completes one, and the last that it completes
+  -- is the first of the shortest. While it begins with none, every layout is shorter.
   pub walk-finds : (h : Option Layout) (fs : Layout) → Passes j fs → Shorter j (layoutLength j fs) h
-      → (es : Layout) × (bestAfter h (stepsFrom j h) ≡ some es) × FirstOfShortest j es
+      → (es : Layout) × Completed (stepsFrom j h) es × (bestAfter h (stepsFrom j h) ≡ some es) × FirstOfShortest j es
   walk-finds h fs p s =
-      ⊎-elim (λ r. (r .0, r .1, r .2)) (λ r. absurd (shorter-not j _ h s (r .1 fs p))) (walk-ends h)
+      ⊎-elim (λ r. (r .0, held-completed h (stepsFrom j h) (r .0) (r .1) (r .3), r .1, r .2)) (λ r. absurd (shorter-not j _ h s (r .1 fs p))) (walk-ends h)
 
-  -- If none does, the walk completes none, and the best that it began with stays. While it begins with none, this says that no layout passes.
+  -- If none does, the walk completes none, and the best that it began with stays. While it begins with none, this says that no layout
+  -- passes.
   pub walk-keeps : (h : Option Layout) → ((fs : Layout) → Passes j fs → NoShorter j (layoutLength j fs) h)
       → (bestAfter h (stepsFrom j h) ≡ h) × ((es : Layout) → Completed (stepsFrom j h) es → ⊥)
   walk-keeps h f = (
     ⊎-elim (λ r. absurd (shorter-not j _ h (r .3) (f (r .0) (r .2 .passing)))) (λ r. r .0) (walk-ends h),
     λ es c. let i = falling-improves j (Laid j) h (stepsFrom j h) (walk-falls h) es c in shorter-not j _ h (i .1) (f es (i .0 .0)),
   )
+
+  -- Where look-ahead fails before the first step, the walk takes none, and no passing layout is shorter than the best that it begins with.
+  pub no-first-step : (h : Option Layout) → forwardCheck j (candidateTable j) (pieces j) [] (lengthOf j h) ≡ false
+      → (stepsFrom j h ≡ []) × ((fs : Layout) → Passes j fs → NoShorter j (layoutLength j fs) h)
+  unfolding stepsFrom
+  no-first-step h e = (
+    ap (λ (w : Searched). w .steps) (search-back j (candidateTable j) (lengthOf j h) e),
+    none-passes h (λ ns c. ⊎-elim (λ s. absurd (not-both (forward-keeps j (candidateTable j) (lengthOf j h) (pieces j) [] ns c (shorter-beats j _ h s)) e)) (λ s. s) (shorter-or-not j _ h)),
+  )
+
+  -- ---- With no best to begin with
+
+  -- If some layout passes, the walk completes one, and the last that it completes is the first of the shortest.
+  pub some-passes : (fs : Layout) → Passes j fs
+      → (es : Layout) × Completed (stepsFrom j none) es × (bestAfter none (stepsFrom j none) ≡ some es) × FirstOfShortest j es
+  some-passes fs p = walk-finds none fs p tt
+
+  -- If none passes, the walk completes none.
+  pub no-layout-passes : ((fs : Layout) → Passes j fs → ⊥) → (es : Layout) → Completed (stepsFrom j none) es → ⊥
+  no-layout-passes f = walk-keeps none f .1
+
+  -- ---- With a layout that passes to begin with (that it passes is not needed)
+
+  module _ (begin : Layout) where
+    -- If a shorter one passes, the walk completes one, and the last that it completes is the first of the shortest.
+    pub shorter-passes : (fs : Layout) → Passes j fs → layoutLength j fs < layoutLength j begin
+        → (es : Layout) × Completed (stepsFrom j (some begin)) es × (bestAfter (some begin) (stepsFrom j (some begin)) ≡ some es) × FirstOfShortest j es
+    shorter-passes fs q l = walk-finds (some begin) fs q l
+
+    -- Otherwise it completes none, and the one that it began with stays, which is as short as any.
+    pub none-shorter-passes : ((fs : Layout) → Passes j fs → layoutLength j fs < layoutLength j begin → ⊥)
+        → (bestAfter (some begin) (stepsFrom j (some begin)) ≡ some begin)
+        × ((es : Layout) → Completed (stepsFrom j (some begin)) es → ⊥)
+        × ((fs : Layout) → Passes j fs → layoutLength j begin ≤ layoutLength j fs)
+    none-shorter-passes f =
+        let l : (fs : Layout) → Passes j fs → layoutLength j begin ≤ layoutLength j fs =
+        λ fs q. ⊎-elim (λ s. absurd (f fs q s)) (λ s. s) (shorter-or-not j (layoutLength j fs) (some begin)) in
+        (walk-keeps (some begin) l .0, walk-keeps (some begin) l .1, l)

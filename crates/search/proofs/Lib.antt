@@ -1,0 +1,10 @@
+pub mod Spending
+pub mod Tests
+pub mod Counting
+pub mod Extents
+pub mod LiveSets
+pub mod Steps
+pub mod Kept
+pub mod Held
+pub mod Answer
+pub mod Levels
