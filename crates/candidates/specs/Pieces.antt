@@ -12,10 +12,12 @@ use Rattle.model.specs.Lists.{any, below}
 use Rattle.geometry.specs.Flat.{partOf}
 use Rattle.candidates.specs.declared.pieces.Piece.{Piece}
 
--- The piece's parts have at most eight vertices each and stand within a plane.
+-- The piece has one to six parts of one to eight vertices each, which stand within a plane.
 pub record Fitting (p : Piece) : Type 0 where
+  pub some : 1 ≤ p .count
   pub few : p .count ≤ 6
   pub within : p .first + 96 ≤ 1024
+  pub least : (i : ℕ) → i < p .count → 1 ≤ getD (p .sizes) i 0
   pub short : (i : ℕ) → i < p .count → getD (p .sizes) i 0 ≤ 8
 
 -- It is the piece of kind t.

@@ -14,3 +14,4 @@ pub mod ReadBack
 pub mod Search
 pub mod Readers
 pub mod Records
+pub mod Ranges

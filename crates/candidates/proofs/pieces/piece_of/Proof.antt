@@ -10,7 +10,7 @@ use Rattle.model.specs.Content.{kindAt}
 use Rattle.model.specs.Format.{content}
 use Rattle.job.specs.View.{PartAt}
 use Rattle.candidates.proofs.PieceLaws.{written-more}
-use Rattle.candidates.proofs.ViewLaws.{few-kinds, kind-in, part-in, part-short}
+use Rattle.candidates.proofs.ViewLaws.{few-kinds, kind-in, some-part, part-in, part-short}
 use Rattle.candidates.proofs.pieces.piece_of.Statement.{statement}
 use Rattle.candidates.proofs.pieces.piece_of.Tie as tie
 use Rattle.candidates.proofs.pieces.piece_of.Reads as reads
@@ -103,6 +103,8 @@ returns c =
     let e : at .loop .i ≡ length (kindAt (content (start .args .job .now)) (start .args .kind) .parts) = omega arith in
     record {
       fitting = record {
+        some = omega (arith, some-part (start .args .job .now) (start .args .view) (start .pre .0) (start .args .kind) (start .pre .1));
+        least = λ i h. rw (at .loop .inv .3 i (omega arith)) (omega (arith, part-in (start .args .job .now) (start .args .view) (start .pre .0) (start .args .kind) (start .pre .1) i (omega arith) .least));
         few = omega arith;
         within = omega arith;
         short = λ i h. rw (at .loop .inv .3 i (omega arith)) (part-short (start .args .job .now) (start .args .view) (start .pre .0) (start .args .kind) (start .pre .1) i (omega arith));
