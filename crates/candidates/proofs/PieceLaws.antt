@@ -7,22 +7,25 @@ use native.Mathlib.Nat.{not-suc-le-zero}
 use native.Mathlib.Omega.{arith}
 use borrow.Author.Count.{below-more}
 use lib.IntN.{ℤ}
-use lib.ListN.{length, getD, take, drop, set}
+use lib.ListN.{length, getD, take, drop, set, length-map}
 use lib.Seq.{getD-set-same, getD-set-other}
-use Rattle.model.specs.Content.{Part}
-use Rattle.model.specs.Geometry.{separated, piecesConflict}
+use Rattle.model.specs.Content.{Part, kindAt, kindCount}
+use Rattle.model.specs.Format.{content}
+use Rattle.model.specs.Geometry.{rotated, separated, piecesConflict}
 use Rattle.model.specs.Lists.{any, rising, below}
 use Rattle.model.proofs.Folds as Folds
 use Rattle.model.proofs.Tests.{any-map, any-same}
 use Rattle.geometry.specs.Flat.{partOf, shifted}
-use Rattle.candidates.specs.Pieces.{partIn, partsIn, partConflicts}
+use Rattle.candidates.specs.Pieces.{PieceOf, partIn, partsIn, partConflicts}
+use Rattle.candidates.specs.Turned.{TurnedOf, slot}
+use Rattle.candidates.proofs.TurnLaws.{part-of-numbers}
 use Rattle.candidates.specs.declared.pieces.Piece.{Piece}
 
 -- ---- a list written from the front
 
-pub written-more : (l : List ℕ) (i r : ℕ) (f : ℕ → ℕ) → i < length l → ((j : ℕ) → j < i → getD l j 0 ≡ f j) → r ≡ f i → (j : ℕ) → j < i + 1 → getD (set l i r) j 0 ≡ f j
-written-more l i r f h before e =
-    below-more _ i (λ j g. getD-set-other l i j r 0 (λ d. omega arith) ∙ before j g) (getD-set-same l i r 0 h ∙ e)
+module _ {A : Type 0} (d : A) (l : List A) (i : ℕ) (r : A) (f : ℕ → A) where
+  pub written-more : i < length l → ((j : ℕ) → j < i → getD l j d ≡ f j) → r ≡ f i → (j : ℕ) → j < i + 1 → getD (set l i r) j d ≡ f j
+  written-more h before e = below-more _ i (λ j g. getD-set-other l i j r d (λ q. omega arith) ∙ before j g) (getD-set-same l i r d h ∙ e)
 
 -- ---- a test of the numbers below n, one after the other
 
@@ -69,3 +72,36 @@ pieces-conflict-below gap table p k Qs = any-map (λ P. any (λ Q. not (separate
 -- the window from a to a + m
 pub window : (table : List ℤ) (a m : ℕ) → take (a + m - a) (drop a table) ≡ take m (drop a table)
 window table a m = let e : a + m - a ≡ m = omega arith in ap (λ n. take n (drop a table)) e
+
+-- ---- the piece of a kind
+
+module _ {A B : Type 0} (g : A → B) (d : A) where
+  rising-index : (f : ℕ → B) (a : ℕ) (xs : List A) → ((i : ℕ) → i < length xs → f (a + i) ≡ g (getD xs i d)) → map f (rising a (length xs)) ≡ map g xs
+  unfolding rising
+  rising-index f a [] h = refl
+  rising-index f a (x ∷ xs) h =
+      ap (λ (y : B). y ∷ map f (rising (suc a) (length xs))) (ap f (omega arith) ∙ h 0 (omega arith))
+      ∙ ap (λ (ys : List B). g x ∷ ys) (rising-index f (suc a) xs (λ i l. ap f (omega arith) ∙ h (suc i) (omega arith)))
+
+  -- a function of the places is a function of the elements
+  map-index : (f : ℕ → B) (xs : List A) → ((i : ℕ) → i < length xs → f i ≡ g (getD xs i d)) → map f (below (length xs)) ≡ map g xs
+  unfolding below
+  map-index f xs h = rising-index f 0 xs (λ i l. ap f (omega arith) ∙ h i l)
+
+-- The parts of the piece of kind t in plane k are the kind's parts turned k quarter turns.
+pub parts-turned : (s : List ℕ) (table : List ℤ) (t : ℕ) (p : Piece) (k : ℕ) → TurnedOf s table → PieceOf s t p → t < kindCount (content s) → k < 4
+    → partsIn table p k ≡ map (map (rotated k)) (kindAt (content s) t .parts)
+unfolding partsIn partIn
+parts-turned s table t p k x y ht hk =
+    ap (λ n. map (partIn table p k) (below n)) (y .count)
+    ∙ map-index (map (rotated k)) [] (partIn table p k) (kindAt (content s) t .parts) one
+  where
+    one : (i : ℕ) → i < length (kindAt (content s) t .parts) → partIn table p k i ≡ map (rotated k) (getD (kindAt (content s) t .parts) i [])
+    one i l =
+        let P : Part = getD (kindAt (content s) t .parts) i [] in
+        let n : getD (p .sizes) i 0 ≡ length (map (rotated k) P) = y .size i (rw (y .count) l) ∙ sym (length-map P (rotated k)) in
+        let a : k * 1024 + p .first + i * 16 ≡ slot k (t * 6 + i) = omega (arith, y .first) in
+        ap (λ m. partOf (take (m * 2) (drop (k * 1024 + p .first + i * 16) table))) n
+        ∙ ap (λ m. partOf (take (length (map (rotated k) P) * 2) (drop m table))) a
+        ∙ ap partOf (x .held t i k ht l hk)
+        ∙ part-of-numbers (map (rotated k) P)

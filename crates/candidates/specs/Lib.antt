@@ -2,3 +2,4 @@
 pub mod Turned
 pub mod Pieces
 pub mod Boxes
+pub mod Placements

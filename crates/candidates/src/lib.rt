@@ -2,3 +2,4 @@
 pub mod turned;
 pub mod pieces;
 pub mod boxes;
+pub mod placements;

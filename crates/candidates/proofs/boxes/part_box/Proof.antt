@@ -1,3 +1,14 @@
+use mathlib.Core.List.{List}
+use mathlib.Core.Path.{_≡_, ap, _∙_}
+use Prim.Native.Nat.{_+_, _*_}
+use native.Mathlib.Omega.{arith}
+use denote.Ref.{now}
+use lib.IntN.{ℤ}
+use lib.ListN.{getD}
+use Rattle.geometry.specs.Boxes.{extentsOf}
+use Rattle.geometry.specs.Flat.{partOf}
+use Rattle.candidates.specs.Pieces.{partIn}
+use Rattle.candidates.proofs.PieceLaws.{window}
 use borrow.Author.Needs.{needs}
 use Rattle.candidates.proofs.boxes.part_box.Statement.{statement}
 use Rattle.candidates.proofs.boxes.part_box.Tie as tie
@@ -31,11 +42,11 @@ array-read-to c = search needs
 
 -- src/boxes.rt:30:21
 mul-to-2 : tie.Need-mul-to-2
-mul-to-2 c = ?
+mul-to-2 c = omega (arith, c .before .before .pre .0 .0 .0 .short (c .before .before .args .i) (c .before .before .pre .0 .1))
 
 -- src/boxes.rt:30:14
 add-to : tie.Need-add-to
-add-to c = ?
+add-to c = omega (arith, c .before .before .pre .0 .0 .0 .short (c .before .before .args .i) (c .before .before .pre .0 .1))
 
 -- src/boxes.rt:31:12
 mul-bounds : tie.Need-mul-bounds
@@ -51,7 +62,7 @@ part-bounds-start c = search needs
 
 -- src/boxes.rt:31:12
 part-bounds-end : tie.Need-part-bounds-end
-part-bounds-end c = ?
+part-bounds-end c = omega (arith, c .before .before .pre .0 .0 .0 .short (c .before .before .args .i) (c .before .before .pre .0 .1))
 
 -- src/boxes.rt:31:5
 bounds-requires : tie.Need-bounds-requires
@@ -59,7 +70,11 @@ bounds-requires c κs = search needs
 
 -- src/boxes.rt:24:1
 returns : tie.Need-returns
-returns c = ?
+unfolding partIn
+returns c =
+    let e = c .before .before .before .before in
+    c .bounds .ensures
+    ∙ ap (λ (w : List ℤ). extentsOf (partOf w)) (window (now (e .args .turned)) (e .args .k * 1024 + e .args .p .first + e .args .i * 16) (getD (e .args .p .sizes) (e .args .i) 0 * 2))
 
 pub part-box-spec : {M : Type 1} → statement M
 part-box-spec =
