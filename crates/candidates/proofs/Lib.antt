@@ -4,3 +4,4 @@ pub mod ViewLaws
 pub mod PieceLaws
 pub mod BoxLaws
 pub mod PlacementLaws
+pub mod RowLaws

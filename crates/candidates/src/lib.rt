@@ -3,3 +3,5 @@ pub mod turned;
 pub mod pieces;
 pub mod boxes;
 pub mod placements;
+pub mod conflicts;
+pub mod rows;
