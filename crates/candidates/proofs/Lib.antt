@@ -5,3 +5,4 @@ pub mod PieceLaws
 pub mod BoxLaws
 pub mod PlacementLaws
 pub mod RowLaws
+pub mod PreparedLaws

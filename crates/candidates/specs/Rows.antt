@@ -1,12 +1,15 @@
 -- Conflict of two placed pieces, and the row of one candidate, as the code computes them. The laws say that they are the model's `conflict` and
 -- `rowBit`.
-use mathlib.Core.Bool.{Bool, _&&_}
+use mathlib.Core.Bool.{Bool, true, _&&_}
 use mathlib.Core.List.{List, map}
 use mathlib.Core.Path.{_≡_}
 use Prim.Native.Nat.{ℕ, _+_, _*_, _/_, _%_, _≤_, _<_}
 use lib.IntN.{ℤ, pos, _-ℤ_}
 use lib.ListN.{length}
 use Rattle.words.specs.Bits.{bitsWhere}
+use Rattle.model.specs.Candidate.{isCandidate}
+use Rattle.model.specs.Content.{kindCount}
+use Rattle.model.specs.Format.{content}
 use Rattle.model.specs.Geometry.{piecesConflict}
 use Rattle.geometry.specs.Flat.{shifted}
 use Rattle.job.specs.declared.View.{View}
@@ -51,6 +54,12 @@ bitOf v b table p a q u gap m = offered v b u m && conflictBetween table (v .ste
 -- "candidate n is bit n mod 64 of word n div 64": word w of the row.
 unfoldable pub wordOf : View → Boxes → List ℤ → Piece → Placed → Piece → ℕ → ℕ → ℕ → ℕ
 wordOf v b table p a q u gap w = bitsWhere 64 (λ i. bitOf v b table p a q u gap (w * 64 + i))
+
+-- The row's candidate and its second kind exist.
+pub record RowAsked (s : List ℕ) (t n u : ℕ) : Type 0 where
+  pub kind : t < kindCount (content s)
+  pub other : u < kindCount (content s)
+  pub candidate : isCandidate (content s) t n ≡ true
 
 -- What the row of a candidate is computed from.
 pub record RowReady (v : View) (table : List ℤ) (p : Piece) (a : Placed) (q : Piece) (u : ℕ) : Type 0 where

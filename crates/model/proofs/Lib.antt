@@ -15,3 +15,4 @@ pub mod Search
 pub mod Readers
 pub mod Records
 pub mod Ranges
+pub mod AcceptedJob

@@ -25,7 +25,10 @@ is-candidate-requires c κs = search needs
 -- src/rows.rt:25:9
 returns : tie.Need-returns
 unfolding bitOf
-returns c = sym (ap (λ t. t && _) (sym (c .before .is-candidate .ensures) ∙ not-true _ (c .if1 .taken)))
+returns c =
+    let e = c .before .before in
+    sym
+    (ap (λ t. t && conflictBetween (now (e .args .turned)) (e .args .view .step) (e .args .p) (e .args .a) (e .args .q) (placedOf (e .args .view .rows) (e .args .m)) (e .args .gap)) (sym (c .before .is-candidate .ensures) ∙ not-true _ (c .if1 .taken)))
 
 -- src/rows.rt:27:9
 placed-of-requires : tie.Need-placed-of-requires
