@@ -6,3 +6,4 @@ pub mod BoxLaws
 pub mod PlacementLaws
 pub mod RowLaws
 pub mod PreparedLaws
+pub mod AnswerLaws

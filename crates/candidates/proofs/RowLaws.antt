@@ -16,7 +16,7 @@ use mir.ValLaws.{toZ-ofZ, toZ-pos}
 use Rattle.integers.proofs.Sizes.{bounded, fits-natAbs}
 use Rattle.integers.proofs.Solver.{_⊟_}
 use lib.Bits.{bitOr}
-use Rattle.words.specs.Bits.{ bitsWhere, withBit}
+use Rattle.words.specs.Bits.{bitsWhere, withBit}
 use Rattle.words.specs.Number.{withNumber, filled}
 use Rattle.words.proofs.Bit.{bitsWhere-more, or-pow}
 use Rattle.words.proofs.Row.{filled-none, filled-more}

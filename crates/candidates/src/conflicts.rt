@@ -5,8 +5,8 @@ ghost use lib.IntN.{pos, _-ℤ_};
 ghost use lib.ListN.{length};
 ghost use Rattle.candidates.specs.Pieces.{Fitting};
 ghost use Rattle.candidates.specs.Rows.{Near, placedOf, conflictBetween};
-use crate::pieces::pieces_conflict;
 use crate::pieces::Piece;
+use crate::pieces::pieces_conflict;
 
 // A dot and a rotation.
 pub struct Placed {
@@ -36,7 +36,15 @@ fn way(from: usize, to: usize) -> i16
 }
 
 // Whether the piece p at the place a is in conflict with the piece q at the place c. Only the way from the one dot to the other counts.
-pub fn conflict_between(turned: &[i16], step: usize, p: Piece, a: Placed, q: Piece, c: Placed, gap: u16) -> bool
+pub fn conflict_between(
+    turned: &[i16],
+    step: usize,
+    p: Piece,
+    a: Placed,
+    q: Piece,
+    c: Placed,
+    gap: u16,
+) -> bool
     requires { ⌜ ((Fitting p × Near step a) × (Fitting q × Near step c)) × (length (now turned) ≡ 4096) ⌝ }
     ensures { λ r. ⌜ r ≡ conflictBetween (now (turned .entry)) step p a q c gap ⌝ }
 {

@@ -52,11 +52,13 @@ loop-again : tie.Need-loop-again Inv-loop μ-loop
 loop-again c =
     let call = c .before .before in
     let at = call .before .before .before .before in
-    let e = at .before .before in
-    (omega arith, search needs,
-    call .put-u64 .ensures
-    ∙ ap₂ (λ r m. withNumber 8 r (at .loop .w * 8) m) (at .loop .inv .2) (call .before .row-word .ensures)
-    ∙ sym (fill-more (wordOf (e .args .view) (e .args .boxes) (now (e .args .turned)) (e .args .p) (e .args .a) (e .args .q) (e .args .u) (e .args .gap)) (now (e .args .row)) (at .loop .w)))
+    let e = at .before .before in (
+      omega arith,
+      search needs,
+      call .put-u64 .ensures
+          ∙ ap₂ (λ r m. withNumber 8 r (at .loop .w * 8) m) (at .loop .inv .2) (call .before .row-word .ensures)
+          ∙ sym (fill-more (wordOf (e .args .view) (e .args .boxes) (now (e .args .turned)) (e .args .p) (e .args .a) (e .args .q) (e .args .u) (e .args .gap)) (now (e .args .row)) (at .loop .w)),
+    )
 
 -- src/rows.rt:56:1
 same-length : tie.Need-same-length Inv-loop μ-loop

@@ -1,3 +1,4 @@
+use native.Mathlib.Omega.{arith}
 use borrow.Author.Needs.{needs}
 use Rattle.candidates.proofs.rows.pair_gap.Statement.{statement}
 use Rattle.candidates.proofs.rows.pair_gap.Tie as tie
@@ -22,7 +23,7 @@ array-read-h c = search needs
 
 -- src/rows.rt:84:16
 cast-result : tie.Need-cast-result
-cast-result c = ?
+cast-result c = omega (arith, c .before .before .pre .0 .gaps (c .before .before .args .other) (c .before .before .pre .1 .1))
 
 -- src/rows.rt:84:9
 returns : tie.Need-returns
@@ -30,7 +31,7 @@ returns c = search needs
 
 -- src/rows.rt:86:5
 cast-result-2 : tie.Need-cast-result-2
-cast-result-2 c = ?
+cast-result-2 c = omega (arith, c .before .before .pre .0 .gaps (c .before .before .args .kind) (c .before .before .pre .1 .0))
 
 -- src/rows.rt:76:1
 returns-2 : tie.Need-returns-2

@@ -51,10 +51,11 @@ loop-less c = omega arith
 loop-again : tie.Need-loop-again Inv-loop μ-loop
 loop-again c =
     let at = c .before .before .before in
-    let e = at .before in
-    (omega arith,
-    word-more (λ k. bitOf (e .args .view) (e .args .boxes) (now (e .args .turned)) (e .args .p) (e .args .a) (e .args .q) (e .args .u) (e .args .gap) (e .args .w * 64 + k)) (at .loop .i) (at .loop .word) _ _
-    (omega arith) (at .loop .inv .1) (c .before .row-bit .ensures) (c .marked .ensures))
+    let e = at .before in (
+      omega arith,
+      word-more (λ k. bitOf (e .args .view) (e .args .boxes) (now (e .args .turned)) (e .args .p) (e .args .a) (e .args .q) (e .args .u) (e .args .gap) (e .args .w * 64 + k)) (at .loop .i) (at .loop .word) _ _
+          (omega arith) (at .loop .inv .1) (c .before .row-bit .ensures) (c .marked .ensures),
+    )
 
 -- src/rows.rt:42:1
 returns : tie.Need-returns Inv-loop μ-loop
