@@ -21,7 +21,7 @@ use Rattle.model.proofs.Search.Pieces.{admitted-parts, few-turns, entry
 use Rattle.model.proofs.Search.Walk.{Laid, walk-finds}
 
 -- What run leaves behind where the job is accepted and the buffers are long enough.
-run-fit : (s : List ℕ) (budget : ℕ) (work out : List ℕ) → Fit s work out
+pub run-fit : (s : List ℕ) (budget : ℕ) (work out : List ℕ) → Fit s work out
     → run s budget work out ≡ runOutcome (verdict (content s) budget) (cleared (content s) work) (withLayout (held (content s) none budget) out)
 unfolding run runContent
 run-fit s budget work out fit =
@@ -48,7 +48,7 @@ module _ (s : List ℕ) (accepted : refusal s ≡ 0) where
       }
 
   -- A layout that passes is read back from the answer numbers.
-  read-held : (es : Layout) (out : List ℕ) → Laid (content s) es → layoutIn (content s) (withLayout (some es) out) ≡ es
+  pub read-held : (es : Layout) (out : List ℕ) → Laid (content s) es → layoutIn (content s) (withLayout (some es) out) ≡ es
   read-held es out l = read-layout (content s) es out (l .1) (λ i h. candidate-small (entryAt es i) (l .0 .offered i h))
 
 module _ (s : List ℕ) (accepted : refusal s ≡ 0) (budget : ℕ) (work out : List ℕ) where
