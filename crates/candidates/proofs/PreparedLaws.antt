@@ -4,30 +4,31 @@ use mathlib.Core.List.{List, [], _∷_, _++_, map}
 use mathlib.Core.Logic.{_⊎_, inl, inr, ⊎-elim}
 use mathlib.Core.Path.{_≡_, refl, sym, ap, ap₂, subst, _∙_}
 use Prim.Native.Nat.{ℕ, zero, suc, _+_, _*_, _/_, _%_, _≤_, _<_, max}
-use native.Mathlib.Nat.{div-mul-le-self, div-le-self, mul-le-mul-right, mod-lt, not-suc-le-zero}
+use native.Mathlib.Nat.{div-mul-le-self, div-le-self, mul-le-mul-right, mod-lt, not-suc-le-zero, div-lt-iff-lt-mul}
 use native.Mathlib.Omega.{arith}
 use borrow.Author.Tests.{ltb-true}
 use lib.Dec.{ltb}
 use lib.IntN.{ℤ, pos, negsuc, _+ℤ_, _-ℤ_}
 use lib.ListN.{length, getD, length-append, length-map}
-use lib.Signed.{leZ}
+use lib.Signed.{leZ, _≤ℤ_}
 use Rattle.integers.proofs.Order.{leZ-true, ≤ℤ-pos}
 use Rattle.words.specs.Bits.{testBit, bitsWhere}
 use Rattle.words.proofs.Bit.{testBit-above, bitsWhere-cong}
 use Rattle.words.proofs.Cases.{le-or-lt}
 use Rattle.model.specs.Candidate.{placedPart, placedParts, placedVertices, onBoard, admitted, isCandidate, natural, extent}
-use Rattle.model.specs.Content.{Vertex, Part, Kind, Board, kindAt, kindCount}
+use Rattle.model.specs.Content.{Vertex, Part, Kind, Board, Job, kindAt, kindCount}
 use Rattle.model.specs.Format.{content, refusal}
 use Rattle.model.specs.Gap.{kindGap, pairGap}
 use Rattle.model.specs.Geometry.{rotated, moved, separated, piecesConflict}
-use Rattle.model.specs.Grid.{Placement, placement, rows, columns, placementOf}
+use Rattle.model.specs.Grid.{Placement, placement, rows, columns, dots, numberLimit, placementOf}
 use Rattle.model.specs.Layout.{entry, entryOf, entryKind, conflict}
 use Rattle.model.specs.Lists.{all, any, concat, below, largestZ, smallestZ}
 use Rattle.model.specs.Services.{rowBit, rowWords}
 use Rattle.model.proofs.Accepted.{accepted-kinds, accepted-sensible}
 use Rattle.model.proofs.Box.{all-onBoard, placed-vertices, extent-placed, largest-x-moved, largest-y-moved, smallest-x-moved, smallest-y-moved}
 use Rattle.model.proofs.Folds.{map-same}
-use Rattle.model.proofs.Lists.{and-left, and-right}
+use Rattle.model.proofs.Lists.{and-left, and-right, not-both}
+use Rattle.model.proofs.Numbers.{rows-positive}
 use Rattle.model.proofs.Moves.{Vertexed, separated-placed}
 use Rattle.model.proofs.Ranges.{accepted-board, accepted-gap}
 use Rattle.geometry.specs.Boxes.{extentsOf}
@@ -194,6 +195,13 @@ module _ (s : List ℕ) (v : View) (table : List ℤ) (x : Viewed s v) (z : Turn
   unfolding entryOf placementOf
   place-is-2 n = ap (λ m. entry u (placement (n / 4 / m) (n / 4 % m) (n % 4))) (x .view .rows)
 
+  -- The same of two numbers.
+  pub numbers-conflict : (n m : ℕ)
+      → conflictBetween table (v .step) p (placedOf (v .rows) n) q (placedOf (v .rows) m) (pairGap (content s) (kindAt (content s) t) (kindAt (content s) u))
+      ≡ conflict (content s) (entryOf (content s) t n) (entryOf (content s) u m)
+  numbers-conflict n m =
+      conflict-is (placedOf (v .rows) n) (placedOf (v .rows) m) (omega arith) (omega arith) ∙ ap₂ (conflict (content s)) (place-is n) (place-is-2 m)
+
   module _ (b : Boxes) (y : BoxesOf s b) (gap n : ℕ) (eg : gap ≡ pairGap (content s) (kindAt (content s) t) (kindAt (content s) u)) where
     -- A bit of the row is what the model says.
     pub bit-is : (m : ℕ) → bitOf v b table p (placedOf (v .rows) n) q u gap m ≡ rowBit (content s) t n u m
@@ -206,8 +214,7 @@ module _ (s : List ℕ) (v : View) (table : List ℤ) (x : Viewed s v) (z : Turn
         same : test ≡ conflict (content s) (entryOf (content s) t n) (entryOf (content s) u m)
         same =
             ap (λ g. conflictBetween table (v .step) p (placedOf (v .rows) n) q (placedOf (v .rows) m) g) eg
-            ∙ conflict-is (placedOf (v .rows) n) (placedOf (v .rows) m) (omega arith) (omega arith)
-            ∙ ap₂ (conflict (content s)) (place-is n) (place-is-2 m)
+            ∙ numbers-conflict n m
 
         go : (w : Bool) → isCandidate (content s) u m ≡ w → (offered v b u m && test) ≡ rowBit (content s) t n u m
         go true e = ap (λ w. w && test) (offered-is s v b x y u hu m ∙ e) ∙ same ∙ rw (e, rowBit)
@@ -217,3 +224,48 @@ module _ (s : List ℕ) (v : View) (table : List ℤ) (x : Viewed s v) (z : Turn
     pub words-are : (k : ℕ) → map (wordOf v b table p (placedOf (v .rows) n) q u gap) (below k) ≡ map (λ w. bitsWhere 64 (λ i. rowBit (content s) t n u (w * 64 + i))) (below k)
     unfolding wordOf
     words-are k = map-same _ _ (below k) (λ w. bitsWhere-cong 64 _ _ (λ i l. bit-is (w * 64 + i)))
+
+-- ---- what every candidate keeps
+
+-- A number that is one of a board's has a column of the board.
+column-within : (b : Board) (n : ℕ) → n < numberLimit b → n / 4 / rows b < columns b
+unfolding numberLimit dots
+column-within b n h = div-lt-iff-lt-mul (rows-positive b) .1 (omega arith)
+
+pub number-near : (s : List ℕ) (v : View) → Viewed s v → (n : ℕ) → n < numberLimit (content s .sheet) → Near (v .step) (placedOf (v .rows) n)
+number-near s v x n h =
+    let b = bounded s v x in
+    record {
+      across = omega (arith, b .across (n / 4 / v .rows) (rw (x .view .rows, x .view .columns) (column-within (content s .sheet) n h)));
+      up = omega (arith, b .up (n / 4 % v .rows) (mod-lt (n / 4) (b .rows .0)));
+      turn = omega arith;
+    }
+
+-- A candidate's number is one of the board's.
+pub candidate-number : (j : Job) (t n : ℕ) → isCandidate j t n ≡ true → n < numberLimit (j .sheet)
+unfolding isCandidate admitted placementOf numberLimit dots
+candidate-number j t n e =
+    let c : n / 4 / rows (j .sheet) < columns (j .sheet) = ltb-true _ _ (and-left _ _ (and-left _ _ (and-left _ _ e))) in
+    let d : n / 4 < columns (j .sheet) * rows (j .sheet) = div-lt-iff-lt-mul (rows-positive (j .sheet)) .0 c in
+    omega arith
+
+natural-most : (z : ℤ) (n : ℕ) → z ≤ℤ pos n → natural z ≤ n
+unfolding natural
+natural-most (pos m) n h = ≤ℤ-pos h
+natural-most (negsuc m) n h = omega arith
+
+-- A candidate ends on the board: at most at L, which is at most 1000.
+pub candidate-extent : (s : List ℕ) (v : View) (b : Boxes) → Viewed s v → BoxesOf s b → (t : ℕ) → t < kindCount (content s) → (c r k : ℕ)
+    → admitted (content s) (kindAt (content s) t) (placement c r k) ≡ true → extent (content s .sheet) (kindAt (content s) t) (placement c r k) ≤ content s .sheet .L
+unfolding placeable fitsAt within extentAt
+candidate-extent s v b x y t h c r k e =
+    let p : placeable v b t c r k ≡ true = placeable-is s v b x y t h c r k ∙ e in
+    let fits = and-right (ltb c (v .columns) && ltb r (v .rows) && testBit (getD (v .rotations) t 0) k) _ p in
+    let across = and-left _ _ fits in
+    let high = leZ-true _ _ (and-right (leZ (pos 0) (boxAt b t k .«min_x» +ℤ pos (c * v .step))) _ across) in
+    let turn : k < 4 = turn-small (and-right (ltb c (v .columns) && ltb r (v .rows)) _ (and-left _ _ p)) in
+    rw (← (extent-is s v b x y t h c r k turn), ← (x .view .len)) (natural-most _ (v .length) high)
+  where
+    turn-small : testBit (getD (v .rotations) t 0) k ≡ true → k < 4
+    turn-small g =
+        ⊎-elim (λ l. absurd (not-both g (testBit-above (getD (v .rotations) t 0) 4 k (rw (kind-in s v x t h .rotations) (accepted-sensible s (x .accepted) .turned t)) l))) (λ l. l) (le-or-lt 4 k)

@@ -2,20 +2,20 @@
 ghost use mathlib.Core.Bool.{cond};
 ghost use mathlib.Core.List.{map};
 ghost use mathlib.Core.Path.{_≡_};
-ghost use Prim.Native.Nat.{_+_, _*_, _%_, _≤_, _<_, max};
-ghost use lib.ListN.{length, getD};
+ghost use Prim.Native.Nat.{_+_, _*_, _%_, _≤_, _<_};
+ghost use lib.ListN.{length};
 ghost use Rattle.words.specs.Bits.{withBit};
 ghost use Rattle.words.specs.Number.{filled};
 ghost use Rattle.model.specs.Format.{content};
 ghost use Rattle.model.specs.Grid.{setWords};
 ghost use Rattle.model.specs.Lists.{below};
 ghost use Rattle.model.specs.Services.{withWords, rowWords, rowContent, conflictRow};
-ghost use Rattle.candidates.specs.Placements.{Bounded};
 ghost use Rattle.candidates.specs.Rows.{Prepared, RowAsked, RowReady, bitOf, wordOf};
 use crate::boxes::Boxes;
 use crate::boxes::boxes_of;
 use crate::conflicts::Placed;
 use crate::conflicts::conflict_between;
+use crate::conflicts::pair_gap;
 use crate::conflicts::placed_of;
 use crate::pieces::Piece;
 use crate::pieces::piece_of;
@@ -109,20 +109,6 @@ fn fill(
         );
         w += 1;
     }
-}
-
-// The gap of a pair of kinds: the larger of the two.
-fn pair_gap(view: View, kind: usize, other: usize) -> u16
-    requires { ⌜ Bounded view × ((kind < view .kinds) × (other < view .kinds)) ⌝ }
-    ensures { λ r. ⌜ r ≡ max (getD (view .gaps) kind 0) (getD (view .gaps) other 0) ⌝ }
-{
-    let gaps = view.gaps;
-    let g = gaps[kind];
-    let h = gaps[other];
-    if g < h {
-        return h as u16;
-    }
-    g as u16
 }
 
 // The words of the row, for a candidate and a kind that exist, into the first words of the buffer.

@@ -1,3 +1,4 @@
+-- `candidates::conflicts::conflict_between` meets its contract. Assumes nothing.
 use mathlib.Core.List.{map}
 use mathlib.Core.Path.{_≡_, ap₂, _∙_}
 use borrow.Author.Needs.{sfits-of}
@@ -11,40 +12,28 @@ use Rattle.candidates.specs.Rows.{conflictBetween}
 use borrow.Author.Needs.{needs}
 use Rattle.candidates.proofs.conflicts.conflict_between.Statement.{statement}
 use Rattle.candidates.proofs.conflicts.conflict_between.Tie as tie
-use Rattle.candidates.proofs.conflicts.conflict_between.Reads as reads
-use Rattle.candidates.proofs.conflicts.conflict_between.Lts as lts
-use Rattle.candidates.proofs.conflicts.way.Reads as way-reads
-use Rattle.candidates.proofs.pieces.pieces_conflict.Reads as pieces-conflict-reads
 
--- src/conflicts.rt:43:18
 mul-way : tie.Need-mul-way
 mul-way c = search needs
 
--- src/conflicts.rt:43:35
 mul-way-2 : tie.Need-mul-way-2
 mul-way-2 c = search needs
 
--- src/conflicts.rt:43:9
 way-requires : tie.Need-way-requires
 way-requires c κs = search needs
 
--- src/conflicts.rt:44:18
 mul-way-3 : tie.Need-mul-way-3
 mul-way-3 c = search needs
 
--- src/conflicts.rt:44:32
 mul-way-4 : tie.Need-mul-way-4
 mul-way-4 c = search needs
 
--- src/conflicts.rt:44:9
 way-requires-2 : tie.Need-way-requires-2
 way-requires-2 c κs = search needs
 
--- src/conflicts.rt:45:5
 pieces-conflict-requires : tie.Need-pieces-conflict-requires
 pieces-conflict-requires c κs = search needs
 
--- src/conflicts.rt:39:1
 returns : tie.Need-returns
 unfolding conflictBetween
 returns c =

@@ -1,3 +1,4 @@
+-- `candidates::conflicts::way` meets its contract. Assumes nothing.
 use mathlib.Core.Path.{_∙_}
 use mir.Syntax.{w16}
 use mir.ValLaws.{toZ-ofZ}
@@ -5,22 +6,16 @@ use Rattle.candidates.proofs.RowLaws.{way-fits, way-value}
 use borrow.Author.Needs.{needs}
 use Rattle.candidates.proofs.conflicts.way.Statement.{statement}
 use Rattle.candidates.proofs.conflicts.way.Tie as tie
-use Rattle.candidates.proofs.conflicts.way.Reads as reads
-use Rattle.candidates.proofs.conflicts.way.Lts as lts
 
--- src/conflicts.rt:35:6
 cast-result : tie.Need-cast-result
 cast-result c = search needs
 
--- src/conflicts.rt:35:20
 cast-result-2 : tie.Need-cast-result-2
 cast-result-2 c = search needs
 
--- src/conflicts.rt:35:5
 sub-result : tie.Need-sub-result
 sub-result c = rw (way-value (c .args .from) (c .args .to) (c .pre .0) (c .pre .1)) (way-fits (c .args .from) (c .args .to) (c .pre .0) (c .pre .1))
 
--- src/conflicts.rt:31:1
 returns : tie.Need-returns
 returns c = toZ-ofZ w16 _ (sub-result c) ∙ way-value (c .args .from) (c .args .to) (c .pre .0) (c .pre .1)
 

@@ -1,3 +1,4 @@
+-- `candidates::rows::fill` meets its contract. Assumes nothing.
 use mathlib.Core.List.{map}
 use mathlib.Core.Path.{_≡_, refl, sym, ap, ap₂, _∙_}
 use Prim.Native.Nat.{_-_, _*_, _≤_}
@@ -11,10 +12,6 @@ use Rattle.candidates.specs.Rows.{wordOf}
 use Rattle.candidates.proofs.RowLaws.{fill-none, fill-more}
 use Rattle.candidates.proofs.rows.fill.Statement.{statement}
 use Rattle.candidates.proofs.rows.fill.Tie as tie
-use Rattle.candidates.proofs.rows.fill.Reads as reads
-use Rattle.candidates.proofs.rows.fill.Lts as lts
-use Rattle.candidates.proofs.rows.row_word.Reads as row-word-reads
-use Rattle.words.proofs.numbers.put_u64.Reads as put-u64-reads
 
 abbrev Inv-loop : tie.InvT-loop
 Inv-loop view boxes turned p a q u gap n row₀ w₀ row w =
@@ -23,31 +20,24 @@ Inv-loop view boxes turned p a q u gap n row₀ w₀ row w =
 abbrev μ-loop : tie.MeasureT-loop
 μ-loop view boxes turned p a q u gap n row₀ w₀ row w = n - w
 
--- src/rows.rt:61:5
 loop-holds : tie.Need-loop-holds Inv-loop μ-loop
 loop-holds c = (omega arith, refl, fill-none _ _)
 
--- src/rows.rt:62:38
 mul-put-u64 : tie.Need-mul-put-u64 Inv-loop μ-loop
 mul-put-u64 c = omega arith
 
--- src/rows.rt:62:45
 row-word-requires : tie.Need-row-word-requires Inv-loop μ-loop
 row-word-requires c κs = (c .before .before .before .before .pre .0, omega arith)
 
--- src/rows.rt:62:9
 put-u64-requires : tie.Need-put-u64-requires Inv-loop μ-loop
 put-u64-requires c κs = omega arith
 
--- src/rows.rt:63:9
 add-w : tie.Need-add-w Inv-loop μ-loop
 add-w c = omega arith
 
--- src/rows.rt:61:5
 loop-less : tie.Need-loop-less Inv-loop μ-loop
 loop-less c = omega arith
 
--- src/rows.rt:61:5
 loop-again : tie.Need-loop-again Inv-loop μ-loop
 loop-again c =
     let call = c .before .before in
@@ -60,11 +50,9 @@ loop-again c =
           ∙ sym (fill-more (wordOf (e .args .view) (e .args .boxes) (now (e .args .turned)) (e .args .p) (e .args .a) (e .args .q) (e .args .u) (e .args .gap)) (now (e .args .row)) (at .loop .w)),
     )
 
--- src/rows.rt:56:1
 same-length : tie.Need-same-length Inv-loop μ-loop
 same-length c = omega arith
 
--- src/rows.rt:56:1
 returns : tie.Need-returns Inv-loop μ-loop
 returns c =
     let e = c .before .before .before in

@@ -1,3 +1,4 @@
+-- `candidates::rows::fill_for` meets its contract. Assumes nothing.
 use mathlib.Core.List.{List, map}
 use mathlib.Core.Path.{_≡_, sym, ap, subst, _∙_}
 use Prim.Native.Nat.{ℕ, _+_, _*_, _/_}
@@ -15,47 +16,34 @@ use Rattle.candidates.proofs.RowLaws.{candidate-near}
 use borrow.Author.Needs.{needs}
 use Rattle.candidates.proofs.rows.fill_for.Statement.{statement}
 use Rattle.candidates.proofs.rows.fill_for.Tie as tie
-use Rattle.candidates.proofs.rows.fill_for.Reads as reads
-use Rattle.candidates.proofs.rows.fill_for.Lts as lts
-use Rattle.candidates.proofs.conflicts.placed_of.Reads as placed-of-reads
-use Rattle.candidates.proofs.pieces.piece_of.Reads as piece-of-reads
-use Rattle.candidates.proofs.rows.fill.Reads as fill-reads
-use Rattle.candidates.proofs.rows.pair_gap.Reads as pair-gap-reads
 
--- src/rows.rt:94:9
 piece-of-requires : tie.Need-piece-of-requires
 piece-of-requires c κs = search needs
 
--- src/rows.rt:95:9
 piece-of-requires-2 : tie.Need-piece-of-requires-2
 piece-of-requires-2 c κs = search needs
 
--- src/rows.rt:96:9
 placed-of-requires : tie.Need-placed-of-requires
 placed-of-requires c κs =
     let e = c .before .before .before .before in
     bounded (now (e .args .job)) (e .args .view) (e .pre .0 .0 .viewed) .rows .0
 
--- src/rows.rt:97:14
 mul-n : tie.Need-mul-n
 mul-n c =
     let e = c .before .before .before .before .before .before in
     omega (arith, few-dots (now (e .args .job)) (e .args .view) (e .pre .0 .0 .viewed))
 
--- src/rows.rt:97:14
 add-n : tie.Need-add-n
 add-n c =
     let e = c .before .before .before .before .before .before in
     omega (arith, few-dots (now (e .args .job)) (e .args .view) (e .pre .0 .0 .viewed))
 
--- src/rows.rt:98:47
 pair-gap-requires : tie.Need-pair-gap-requires
 pair-gap-requires c κs =
     let e = c .before .before .before .before .before .before in
     let x = e .pre .0 .0 .viewed in
     (bounded (now (e .args .job)) (e .args .view) x, (rw (x .view .kinds) (e .pre .0 .1 .kind), rw (x .view .kinds) (e .pre .0 .1 .other)))
 
--- src/rows.rt:98:5
 fill-requires : tie.Need-fill-requires
 fill-requires c κs =
     let place = c .before .before .before in
@@ -80,11 +68,9 @@ fill-requires c κs =
       (omega arith, rw (word-count s v x) (e .pre .1)),
     )
 
--- src/rows.rt:90:1
 same-length : tie.Need-same-length
 same-length c = search needs
 
--- src/rows.rt:90:1
 returns : tie.Need-returns
 unfolding withWords rowWords
 returns c =

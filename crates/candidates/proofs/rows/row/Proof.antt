@@ -1,3 +1,4 @@
+-- `candidates::rows::row` meets its contract. Assumes nothing.
 use mathlib.Core.Path.{_≡_, refl, sym, ap, _∙_}
 use denote.Ref.{now}
 use Rattle.model.specs.declared.Written.the-variants as W
@@ -6,14 +7,7 @@ use Rattle.candidates.proofs.AnswerLaws.{row-refused, row-accepted}
 use borrow.Author.Needs.{needs}
 use Rattle.candidates.proofs.rows.row.Statement.{statement}
 use Rattle.candidates.proofs.rows.row.Tie as tie
-use Rattle.candidates.proofs.rows.row.Reads as reads
-use Rattle.candidates.proofs.rows.row.Lts as lts
-use Rattle.candidates.proofs.boxes.boxes_of.Reads as boxes-of-reads
-use Rattle.candidates.proofs.rows.row_content.Reads as row-content-reads
-use Rattle.candidates.proofs.turned.turn_all.Reads as turn-all-reads
-use Rattle.job.proofs.open.Reads as open-reads
 
--- src/rows.rt:126:9
 open-requires : tie.Need-open-requires
 open-requires c κs = search needs
 
@@ -21,7 +15,6 @@ open-requires c κs = search needs
 viewed : (c : tie.Else1) → Viewed (now (c .before .before .before .before .args .job)) (c .before .«open» .result .view)
 viewed c = record { accepted = sym (c .before .«open» .ensures .0) ∙ c .if1 .left; view = c .before .«open» .ensures .1 (c .if1 .left) }
 
--- src/rows.rt:129:9
 returns : tie.Need-returns
 returns c =
     let o = c .before .«open» in
@@ -29,37 +22,29 @@ returns c =
     let q = row-refused (now (e .args .job)) (e .args .kind) (e .args .number) (e .args .other) (now (e .args .row)) (λ z. c .if1 .taken (o .ensures .0 ∙ z)) in
     (ap W.Refused (o .ensures .0) ∙ sym (ap (λ w. w .answer) q), sym (ap (λ w. w .buffer) q))
 
--- src/rows.rt:133:25
 slice-aggregate-turn-all : tie.Need-slice-aggregate-turn-all
 slice-aggregate-turn-all c = search needs
 
--- src/rows.rt:133:5
 turn-all-requires : tie.Need-turn-all-requires
 turn-all-requires c κs = (viewed (c .before .before), refl)
 
--- src/rows.rt:134:37
 slice-aggregate-boxes-of : tie.Need-slice-aggregate-boxes-of
 slice-aggregate-boxes-of c = search needs
 
--- src/rows.rt:134:9
 boxes-of-requires : tie.Need-boxes-of-requires
 boxes-of-requires c κs = (viewed (c .before .before .before .before .before), c .before .before .turn-all .ensures)
 
--- src/rows.rt:135:28
 slice-aggregate-row-content : tie.Need-slice-aggregate-row-content
 slice-aggregate-row-content c = search needs
 
--- src/rows.rt:135:5
 row-content-requires : tie.Need-row-content-requires
 row-content-requires c κs =
     let turn = c .before .before .before .before .before in
     record { viewed = viewed (turn .before .before .before); turned = turn .turn-all .ensures; boxes = c .before .before .boxes-of .ensures }
 
--- src/rows.rt:122:1
 same-length : tie.Need-same-length
 same-length c = search needs
 
--- src/rows.rt:122:1
 returns-2 : tie.Need-returns-2
 returns-2 c =
     let call = c .before .before in

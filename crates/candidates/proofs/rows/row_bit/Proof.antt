@@ -1,3 +1,4 @@
+-- `candidates::rows::row_bit` meets its contract. Assumes nothing.
 use mathlib.Core.Bool.{true, _&&_}
 use mathlib.Core.Path.{_≡_, sym, ap, subst, _∙_}
 use borrow.Author.Tests.{not-true, not-false}
@@ -8,21 +9,14 @@ use Rattle.candidates.proofs.RowLaws.{candidate-near}
 use borrow.Author.Needs.{needs}
 use Rattle.candidates.proofs.rows.row_bit.Statement.{statement}
 use Rattle.candidates.proofs.rows.row_bit.Tie as tie
-use Rattle.candidates.proofs.rows.row_bit.Reads as reads
-use Rattle.candidates.proofs.rows.row_bit.Lts as lts
-use Rattle.candidates.proofs.conflicts.conflict_between.Reads as conflict-between-reads
-use Rattle.candidates.proofs.conflicts.placed_of.Reads as placed-of-reads
-use Rattle.candidates.proofs.placements.is_candidate.Reads as is-candidate-reads
 
 -- the candidate exists
 exists : (c : tie.Else1) → offered (c .before .before .args .view) (c .before .before .args .boxes) (c .before .before .args .u) (c .before .before .args .m) ≡ true
 exists c = sym (c .before .is-candidate .ensures) ∙ not-false _ (c .if1 .left)
 
--- src/rows.rt:24:9
 is-candidate-requires : tie.Need-is-candidate-requires
 is-candidate-requires c κs = search needs
 
--- src/rows.rt:25:9
 returns : tie.Need-returns
 unfolding bitOf
 returns c =
@@ -30,11 +24,9 @@ returns c =
     sym
     (ap (λ t. t && conflictBetween (now (e .args .turned)) (e .args .view .step) (e .args .p) (e .args .a) (e .args .q) (placedOf (e .args .view .rows) (e .args .m)) (e .args .gap)) (sym (c .before .is-candidate .ensures) ∙ not-true _ (c .if1 .taken)))
 
--- src/rows.rt:27:9
 placed-of-requires : tie.Need-placed-of-requires
 placed-of-requires c κs = search needs
 
--- src/rows.rt:28:5
 conflict-between-requires : tie.Need-conflict-between-requires
 conflict-between-requires c κs =
     let e = c .before .before .before in (
@@ -45,7 +37,6 @@ conflict-between-requires c κs =
       e .pre .size,
     )
 
--- src/rows.rt:20:1
 returns-2 : tie.Need-returns-2
 unfolding bitOf
 returns-2 c =

@@ -1,3 +1,4 @@
+-- `candidates::rows::row_content` meets its contract. Assumes nothing.
 use mathlib.Core.Path.{_≡_, sym, ap, _∙_}
 use native.Mathlib.Omega.{arith}
 use borrow.Author.Tests.{not-true, not-false}
@@ -10,10 +11,6 @@ use Rattle.candidates.proofs.PreparedLaws.{bounded, offered-is}
 use borrow.Author.Needs.{needs}
 use Rattle.candidates.proofs.rows.row_content.Statement.{statement}
 use Rattle.candidates.proofs.rows.row_content.Tie as tie
-use Rattle.candidates.proofs.rows.row_content.Reads as reads
-use Rattle.candidates.proofs.rows.row_content.Lts as lts
-use Rattle.candidates.proofs.placements.is_candidate.Reads as is-candidate-reads
-use Rattle.candidates.proofs.rows.fill_for.Reads as fill-for-reads
 
 -- the candidate and both kinds exist
 asked : (c : tie.Else2) → RowAsked (now (c .before .before .before .before .before .before .before .args .job)) (c .before .before .before .before .before .before .before .args .kind)
@@ -30,7 +27,6 @@ asked c =
           sym (offered-is s v (e .args .boxes) (e .pre .viewed) (e .pre .boxes) (e .args .kind) (h .0) (e .args .number)) ∙ sym (c .before .is-candidate .ensures) ∙ not-false _ (c .if2 .left);
     }
 
--- src/rows.rt:108:9
 returns : tie.Need-returns
 returns c =
     let e = c .before .before .before .before .before in
@@ -40,7 +36,6 @@ returns c =
     let q = row-absent (content s) (e .args .kind) (e .args .number) (e .args .other) (now (e .args .row)) (kind-absent s v x (e .args .kind) (e .args .number) (e .args .other) (c .if1 .taken)) in
     (sym (ap (λ o. o .answer) q), sym (ap (λ o. o .buffer) q))
 
--- src/rows.rt:110:9
 is-candidate-requires : tie.Need-is-candidate-requires
 is-candidate-requires c κs =
     let e = c .before .before .before .before .before in
@@ -49,7 +44,6 @@ is-candidate-requires c κs =
     let x = e .pre .viewed in
     (bounded s v x, rw (x .view .kinds) (kinds-exist s v x (e .args .kind) (e .args .other) (c .if1 .left) .0))
 
--- src/rows.rt:111:9
 returns-2 : tie.Need-returns-2
 returns-2 c =
     let e = c .before .before .before .before .before .before .before in
@@ -61,19 +55,16 @@ returns-2 c =
     (candidate-absent (content s) (e .args .kind) (e .args .number) (e .args .other) (sym (offered-is s v (e .args .boxes) x (e .pre .boxes) (e .args .kind) (h .0) (e .args .number)) ∙ sym (c .before .is-candidate .ensures) ∙ not-true _ (c .if2 .taken))) in
     (sym (ap (λ o. o .answer) q), sym (ap (λ o. o .buffer) q))
 
--- src/rows.rt:113:14
 mul-n : tie.Need-mul-n
 mul-n c =
     let e = c .before .before .before .before .before .before .before .before in
     omega (arith, few-dots (now (e .args .job)) (e .args .view) (e .pre .viewed))
 
--- src/rows.rt:113:14
 add-n : tie.Need-add-n
 add-n c =
     let e = c .before .before .before .before .before .before .before .before in
     omega (arith, few-dots (now (e .args .job)) (e .args .view) (e .pre .viewed))
 
--- src/rows.rt:115:9
 returns-3 : tie.Need-returns-3
 returns-3 c =
     let e = c .before .before .before .before .before .before .before .before .before in
@@ -84,7 +75,6 @@ returns-3 c =
     (rw (word-count s v x) at (c .if3 .taken)) in
     (sym (ap (λ o. o .answer) q), sym (ap (λ o. o .buffer) q))
 
--- src/rows.rt:117:5
 fill-for-requires : tie.Need-fill-for-requires
 fill-for-requires c κs =
     let e = c .before .before .before .before .before .before .before .before .before .before in
@@ -93,17 +83,14 @@ fill-for-requires c κs =
     let x = e .pre .viewed in
     ((e .pre, asked (c .before .before .before)), omega (arith, word-count s v x, c .before .if3 .left))
 
--- src/rows.rt:118:20
 cast-t18 : tie.Need-cast-t18
 cast-t18 c =
     let e = c .before .before .before .before .before .before .before .before .before .before .before .before .before in
     omega (arith, few-dots (now (e .args .job)) (e .args .view) (e .pre .viewed))
 
--- src/rows.rt:102:1
 same-length : tie.Need-same-length
 same-length c = search needs
 
--- src/rows.rt:102:1
 returns-4 : tie.Need-returns-4
 returns-4 c =
     let e = c .before .before .before .before .before .before .before .before .before .before .before .before .before in

@@ -1,3 +1,4 @@
+-- `candidates::rows::row_word` meets its contract. Assumes nothing.
 use mathlib.Core.Path.{_≡_, ap, _∙_}
 use Prim.Native.Nat.{_+_, _-_, _*_, _≤_}
 use native.Mathlib.Omega.{arith}
@@ -8,10 +9,6 @@ use Rattle.candidates.specs.Rows.{bitOf, wordOf}
 use Rattle.candidates.proofs.RowLaws.{word-none, word-more}
 use Rattle.candidates.proofs.rows.row_word.Statement.{statement}
 use Rattle.candidates.proofs.rows.row_word.Tie as tie
-use Rattle.candidates.proofs.rows.row_word.Reads as reads
-use Rattle.candidates.proofs.rows.row_word.Lts as lts
-use Rattle.candidates.proofs.rows.marked.Reads as marked-reads
-use Rattle.candidates.proofs.rows.row_bit.Reads as row-bit-reads
 
 abbrev Inv-loop : tie.InvT-loop
 Inv-loop view boxes turned p a q u gap w word₀ i₀ word i = (i ≤ 64) × (word ≡ bitsWhere i (λ k. bitOf view boxes turned p a q u gap (w * 64 + k)))
@@ -19,35 +16,27 @@ Inv-loop view boxes turned p a q u gap w word₀ i₀ word i = (i ≤ 64) × (wo
 abbrev μ-loop : tie.MeasureT-loop
 μ-loop view boxes turned p a q u gap w word₀ i₀ word i = 64 - i
 
--- src/rows.rt:48:5
 loop-holds : tie.Need-loop-holds Inv-loop μ-loop
 loop-holds c = (omega arith, word-none _)
 
--- src/rows.rt:49:85
 mul-row-bit : tie.Need-mul-row-bit Inv-loop μ-loop
 mul-row-bit c = omega arith
 
--- src/rows.rt:49:85
 add-row-bit : tie.Need-add-row-bit Inv-loop μ-loop
 add-row-bit c = omega arith
 
--- src/rows.rt:49:39
 row-bit-requires : tie.Need-row-bit-requires Inv-loop μ-loop
 row-bit-requires c κs = c .before .before .pre .0
 
--- src/rows.rt:49:9
 marked-requires : tie.Need-marked-requires Inv-loop μ-loop
 marked-requires c κs = search needs
 
--- src/rows.rt:50:9
 add-i : tie.Need-add-i Inv-loop μ-loop
 add-i c = omega arith
 
--- src/rows.rt:48:5
 loop-less : tie.Need-loop-less Inv-loop μ-loop
 loop-less c = omega arith
 
--- src/rows.rt:48:5
 loop-again : tie.Need-loop-again Inv-loop μ-loop
 loop-again c =
     let at = c .before .before .before in
@@ -57,7 +46,6 @@ loop-again c =
           (omega arith) (at .loop .inv .1) (c .before .row-bit .ensures) (c .marked .ensures),
     )
 
--- src/rows.rt:42:1
 returns : tie.Need-returns Inv-loop μ-loop
 unfolding wordOf
 returns c =

@@ -1,39 +1,30 @@
+-- `candidates::conflicts::pair_gap` meets its contract. Assumes nothing.
 use native.Mathlib.Omega.{arith}
 use borrow.Author.Needs.{needs}
-use Rattle.candidates.proofs.rows.pair_gap.Statement.{statement}
-use Rattle.candidates.proofs.rows.pair_gap.Tie as tie
-use Rattle.candidates.proofs.rows.pair_gap.Reads as reads
-use Rattle.candidates.proofs.rows.pair_gap.Lts as lts
+use Rattle.candidates.proofs.conflicts.pair_gap.Statement.{statement}
+use Rattle.candidates.proofs.conflicts.pair_gap.Tie as tie
 
--- src/rows.rt:81:13
 mul-g : tie.Need-mul-g
 mul-g c = search needs
 
--- src/rows.rt:81:13
 array-read-g : tie.Need-array-read-g
 array-read-g c = search needs
 
--- src/rows.rt:82:13
 mul-h : tie.Need-mul-h
 mul-h c = search needs
 
--- src/rows.rt:82:13
 array-read-h : tie.Need-array-read-h
 array-read-h c = search needs
 
--- src/rows.rt:84:16
 cast-result : tie.Need-cast-result
 cast-result c = omega (arith, c .before .before .pre .0 .gaps (c .before .before .args .other) (c .before .before .pre .1 .1))
 
--- src/rows.rt:84:9
 returns : tie.Need-returns
 returns c = search needs
 
--- src/rows.rt:86:5
 cast-result-2 : tie.Need-cast-result-2
 cast-result-2 c = omega (arith, c .before .before .pre .0 .gaps (c .before .before .args .kind) (c .before .before .pre .1 .0))
 
--- src/rows.rt:76:1
 returns-2 : tie.Need-returns-2
 returns-2 c = search needs
 
