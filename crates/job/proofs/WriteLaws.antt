@@ -16,9 +16,13 @@ use Rattle.model.specs.Content.{Vertex}
 use Rattle.model.specs.Lists.{concat, below, rising}
 use Rattle.model.specs.Services.{coordinate, vertexNumbers, partNumbers}
 use Rattle.model.proofs.Folds.{map-append, map-below-more, concat-more}
+use Rattle.model.specs.Format.{Got, got, many}
 use Rattle.model.proofs.Lists.{length-below}
+use Rattle.model.proofs.Readers.{many-sum}
 use Rattle.job.specs.Parts.{vertexFrom, partFrom}
+use Rattle.job.specs.Records.{Reads, valuesOf}
 use Rattle.job.specs.Write.{written}
+use Rattle.job.proofs.RecordLaws.{values-none, values-more}
 
 pub written-none : (at : ℕ) (s : List ℕ) → written at [] s ≡ s
 unfolding written bytesOf
@@ -102,23 +106,52 @@ numbers-length g c h (x ∷ xs) = length-append (g x) (concat (map g xs)) ∙ ap
 length-corners : (s : List ℕ) (k : ℕ) → length (cornerNumbers s k) ≡ k * 2
 length-corners s k = numbers-length vertexNumbers 2 (λ p. length-vertex p) (partFrom s k) ∙ ap (λ n. n * 2) (length-map (below k) (vertexFrom s) ∙ length-below k)
 
-pub part-start : (at n : ℕ) (s a u : List ℕ) → u ≡ written at (n ∷ []) a → u ≡ written at (n ∷ cornerNumbers s 0) a
+pub corners-none : (at : ℕ) (s a : List ℕ) → a ≡ written at (cornerNumbers s 0) a
 unfolding concat below rising
-part-start at n s a u e = e
+corners-none at s a = sym (written-none at a)
 
-pub part-more : (at n k : ℕ) (s a u v : List ℕ) → (at + (n * 2 + 1)) * 2 ≤ length a → k < n → u ≡ written at (n ∷ cornerNumbers s k) a
-    → v ≡ written (at + 1 + k * 2) (vertexNumbers (vertexFrom s k)) u → v ≡ written at (n ∷ cornerNumbers s (k + 1)) a
-part-more at n k s a u v h l eu ev =
+pub corners-more : (at k : ℕ) (s a u v : List ℕ) → (at + k * 2) * 2 ≤ length a → u ≡ written at (cornerNumbers s k) a
+    → v ≡ written (at + k * 2) (vertexNumbers (vertexFrom s k)) u → v ≡ written at (cornerNumbers s (k + 1)) a
+corners-more at k s a u v h eu ev =
     let c = length-corners s k in
     let more : cornerNumbers s (k + 1) ≡ cornerNumbers s k ++ vertexNumbers (vertexFrom s k) =
     ap (λ l. concat (map vertexNumbers l)) (map-below-more (vertexFrom s) k)
     ∙ ap concat (map-append vertexNumbers (partFrom s k) (vertexFrom s k ∷ []))
     ∙ concat-more (map vertexNumbers (partFrom s k)) (vertexNumbers (vertexFrom s k)) in
-    written-then at (at + 1 + k * 2) (n ∷ cornerNumbers s k) (vertexNumbers (vertexFrom s k)) a u v (omega arith) (omega arith) eu ev
-    ∙ ap (λ l. written at (n ∷ l) a) (sym more)
+    written-then at (at + k * 2) (cornerNumbers s k) (vertexNumbers (vertexFrom s k)) a u v (omega arith) h eu ev
+    ∙ ap (λ l. written at l a) (sym more)
 
-pub part-end : (at n : ℕ) (s a u : List ℕ) → u ≡ written at (n ∷ cornerNumbers s n) a → u ≡ written at (partNumbers (partFrom s n)) a
+pub part-end : (at n k : ℕ) (s a u v : List ℕ) → k ≡ n → (at + 1) * 2 ≤ length a → u ≡ written at (n ∷ []) a → v ≡ written (at + 1) (cornerNumbers s k) u
+    → v ≡ written at (partNumbers (partFrom s n)) a
 unfolding partNumbers
-part-end at n s a u e =
+part-end at n k s a u v e h eu ev =
     let l : length (partFrom s n) ≡ n = length-map (below n) (vertexFrom s) ∙ length-below n in
-    e ∙ ap (λ m. written at (m ∷ cornerNumbers s n) a) (sym l)
+    written-then at (at + 1) (n ∷ []) (cornerNumbers s k) a u v refl h eu ev
+    ∙ ap₂ (λ m j. written at (m ∷ cornerNumbers s j) a) (sym l) e
+
+-- ---- Records, a number for each byte
+
+module _ {A : Type 0} (f : List ℕ → Got A) (g : A → List ℕ) (each : (s : List ℕ) (a : A) (k : ℕ) → f s ≡ got a k → length (g a) ≡ k) where
+  -- The numbers of the records that were read.
+  abbrev pub recordNumbers : ℕ → List ℕ → List ℕ
+  recordNumbers n s = concat (map g (valuesOf (many f n s)))
+
+  pub records-none : (at : ℕ) (s a : List ℕ) → a ≡ written at (recordNumbers 0 s) a
+  unfolding concat
+  records-none at s a = sym (ap (λ l. written at (concat (map g l)) a) (values-none f s) ∙ written-none at a)
+
+  numbers-more : (n m : ℕ) (s : List ℕ) (x : A) (k : ℕ) → Reads (many f n s) m → f (drop m s) ≡ got x k → recordNumbers (n + 1) s ≡ recordNumbers n s ++ g x
+  numbers-more n m s x k r e =
+      ap (λ l. concat (map g l)) (values-more f s n m x k r e) ∙ ap concat (map-append g (valuesOf (many f n s)) (x ∷ []))
+      ∙ concat-more (map g (valuesOf (many f n s))) (g x)
+
+  -- They are as many as the bytes of the records.
+  pub records-length : (n m : ℕ) (s : List ℕ) → Reads (many f n s) m → length (recordNumbers n s) ≡ m
+  records-length n m s r = many-sum f g each n s (valuesOf (many f n s)) m r
+
+  pub records-more : (at n m : ℕ) (s a u v : List ℕ) (x : A) (k : ℕ) → (at + m) * 2 ≤ length a → Reads (many f n s) m → f (drop m s) ≡ got x k
+      → u ≡ written at (recordNumbers n s) a → v ≡ written (at + m) (g x) u → v ≡ written at (recordNumbers (n + 1) s) a
+  records-more at n m s a u v x k h r e eu ev =
+      let l = records-length n m s r in
+      written-then at (at + m) (recordNumbers n s) (g x) a u v (omega arith) h eu ev
+      ∙ ap (λ l. written at l a) (sym (numbers-more n m s x k r e))
