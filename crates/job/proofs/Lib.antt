@@ -9,3 +9,4 @@ pub mod Ranges
 pub mod RecordLaws
 pub mod TableLaws
 pub mod ViewLaws
+pub mod WriteLaws

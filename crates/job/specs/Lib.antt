@@ -10,3 +10,4 @@ pub mod Table
 pub mod Refusal
 pub mod Soundness
 pub mod View
+pub mod Write

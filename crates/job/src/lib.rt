@@ -5,6 +5,7 @@ ghost use Rattle.model.specs.Format.{refusal};
 ghost use Rattle.job.specs.View.{ViewOf};
 
 mod accepted;
+mod answer;
 mod board;
 mod causes;
 mod classes;

@@ -45,7 +45,7 @@ fn next(i: usize, n: usize) -> usize
 
 // Corner k is not looked at for the edge from p to q: it is one of the two. Every other one is, neighbour of the edge or not.
 fn spared(n: usize, p: usize, q: usize, k: usize) -> bool
-    requires { ⌜ (n ≤ 8) × (k < n) ⌝ }
+    requires { ⌜ ((n ≤ 8) × (k < n)) × (q < n) ⌝ }
     ensures { λ r. ⌜ r ≡ (eqb k p || eqb k q) ⌝ }
 {
     (k == p) | (k == q)

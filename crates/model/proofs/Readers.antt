@@ -1,7 +1,7 @@
 -- Records read one after the other: one more at the end, and what holds of what was read.
 use mathlib.Core.Bool.{Bool, true, false}
-use mathlib.Core.List.{List, [], _∷_, _++_}
-use mathlib.Core.Path.{_≡_, refl, sym, ap, subst, _∙_}
+use mathlib.Core.List.{List, [], _∷_, _++_, map}
+use mathlib.Core.Path.{_≡_, refl, sym, ap, ap₂, subst, _∙_}
 use Prim.Native.Nat.{ℕ, zero, suc, _+_, _-_, _*_, _<_, _≤_}
 use native.Mathlib.Nat.{add-zero, zero-add, add-assoc, not-suc-le-zero, le-of-suc-le-suc}
 use native.Mathlib.Numerals.{add-one}
@@ -9,6 +9,7 @@ use native.Mathlib.Omega.{arith}
 use lib.ListN.{length, getD, drop, length-append}
 use lib.Seq.{drop-drop}
 use Rattle.model.specs.Content.{Kind}
+use Rattle.model.specs.Lists.{concat}
 use Rattle.model.specs.Format.{Got, bad, got, joined, followed, many, kindsIn}
 
 module _ {A : Type 0} where
@@ -157,6 +158,30 @@ module _ {A : Type 0} where
 
       pub many-each : (n : ℕ) (s : List ℕ) (xs : List A) (m : ℕ) → many f n s ≡ got xs m → (i : ℕ) → i < length xs → P (getD xs i d)
       many-each n s xs m e = subst Each e (each-read n s)
+
+    -- Lists that are as long as the bytes of each record are together as long as the bytes of all.
+    module _ (g : A → List ℕ) (each : (s : List ℕ) (a : A) (k : ℕ) → f s ≡ got a k → length (g a) ≡ k) where
+      abbrev Summed : Got (List A) → Type 0
+      Summed bad = Unit {0}
+      Summed (got xs m) = length (concat (map g xs)) ≡ m
+
+      summed-joined : (a : A) (k : ℕ) (r : Got (List A)) → length (g a) ≡ k → Summed r → Summed (joined a k r)
+      unfolding joined concat
+      summed-joined a k bad h l = tt
+      summed-joined a k (got xs m) h l = length-append (g a) (concat (map g xs)) ∙ ap₂ (λ x y. x + y) h l
+
+      summed-followed : (n : ℕ) → ((s : List ℕ) → Summed (many f n s)) → (s : List ℕ) (r : Got A) → f s ≡ r → Summed (followed r (many f n) s)
+      unfolding followed
+      summed-followed n ih s bad e = tt
+      summed-followed n ih s (got a k) e = summed-joined a k (many f n (drop k s)) (each s a k e) (ih (drop k s))
+
+      summed : (n : ℕ) (s : List ℕ) → Summed (many f n s)
+      unfolding many concat
+      summed zero s = refl
+      summed (suc n) s = summed-followed n (summed n) s (f s) refl
+
+      pub many-sum : (n : ℕ) (s : List ℕ) (xs : List A) (m : ℕ) → many f n s ≡ got xs m → length (concat (map g xs)) ≡ m
+      many-sum n s xs m e = subst Summed e (summed n s)
 
 -- The kinds that were read.
 pub kinds-got : (g : Got (List Kind)) (ks : List Kind) (m : ℕ) → g ≡ got ks m → kindsIn g ≡ ks
