@@ -1,6 +1,9 @@
 -- `candidates::placements::stays_within` meets its contract. Assumes nothing.
+use mathlib.Core.Path.{ap, ap₂}
+use lib.IntN.{pos}
+use lib.Signed.{leZ}
 use Rattle.candidates.specs.Placements.{within}
-use Rattle.candidates.proofs.PlacementLaws.{wide-fits, moved-fits, moved-value, limit-value}
+use Rattle.candidates.proofs.PlacementLaws.{both, wide-fits, moved-fits, moved-value, limit-value}
 use borrow.Author.Needs.{needs}
 use Rattle.candidates.proofs.placements.stays_within.Statement.{statement}
 use Rattle.candidates.proofs.placements.stays_within.Tie as tie
@@ -29,7 +32,8 @@ cast-result-5 c = search needs
 returns : tie.Need-returns
 unfolding within
 returns c =
-    rw (moved-value (c .args .low) (c .args .by) (c .fits .low) (c .pre .0), moved-value (c .args .high) (c .args .by) (c .fits .high) (c .pre .0), limit-value (c .args .limit) (c .pre .1))
+    both (ap (leZ (pos 0)) (moved-value (c .args .low) (c .args .by) (c .fits .low) (c .pre .0)))
+    (ap₂ leZ (moved-value (c .args .high) (c .args .by) (c .fits .high) (c .pre .0)) (limit-value (c .args .limit) (c .pre .1)))
 
 pub stays-within-spec : {M : Type 1} → statement M
 stays-within-spec =
