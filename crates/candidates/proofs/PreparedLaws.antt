@@ -24,13 +24,14 @@ use Rattle.model.specs.Grid.{Placement, placement, rows, columns, dots, numberL
 use Rattle.model.specs.Layout.{entry, entryOf, entryKind, conflict}
 use Rattle.model.specs.Lists.{all, any, concat, below, largestZ, smallestZ}
 use Rattle.model.specs.Services.{rowBit, rowWords}
-use Rattle.model.proofs.Accepted.{accepted-kinds, accepted-sensible}
+use Rattle.model.proofs.Accepted.{accepted-no-cause, accepted-kinds, accepted-sensible}
 use Rattle.model.proofs.Box.{all-onBoard, placed-vertices, extent-placed, largest-x-moved, largest-y-moved, smallest-x-moved, smallest-y-moved}
 use Rattle.model.proofs.Folds.{map-same}
 use Rattle.model.proofs.Lists.{and-left, and-right, not-both}
 use Rattle.model.proofs.Numbers.{rows-positive}
 use Rattle.model.proofs.Moves.{Vertexed, separated-placed}
-use Rattle.model.proofs.Ranges.{accepted-board, accepted-gap}
+use Rattle.model.proofs.AcceptedKinds.{gap-most}
+use Rattle.model.proofs.Causes.{board-fits}
 use Rattle.geometry.specs.Boxes.{extentsOf}
 use Rattle.geometry.specs.Flat.{shifted}
 use Rattle.geometry.specs.declared.extents.Extents.{Extents}
@@ -62,22 +63,27 @@ reached n g c h =
     let b : n / g * g ≤ n = div-mul-le-self n g in
     omega arith
 
+-- the board's numbers are at most 1000
+sheet-range : (s : List ℕ) → refusal s ≡ 0 → (content s .sheet .W ≤ 1000) × (content s .sheet .L ≤ 1000) × (content s .sheet .g ≤ 1000)
+unfolding content
+sheet-range s e = let f = board-fits s (accepted-no-cause s e .not4) in (f .widthMost, f .lengthMost, f .stepMost)
+
 module _ (s : List ℕ) (v : View) (x : Viewed s v) where
   pub bounded : Bounded v
   unfolding rows columns
   bounded =
-      let r = accepted-board s (x .accepted) in
+      let r = sheet-range s (x .accepted) in
       let sheet : Board = content s .sheet in
       record {
         kinds = rw (x .view .kinds) (few-kinds s v x);
-        rows = rw (x .view .rows) (omega arith, omega (arith, div-le-self (sheet .W) (sheet .g), r .wide));
-        columns = rw (x .view .columns) (omega (arith, div-le-self (sheet .L) (sheet .g), r .long));
-        size = (rw (x .view .len) (r .long .1), rw (x .view .width) (r .wide .1));
-        step = rw (x .view .step) (r .stepped .1);
+        rows = rw (x .view .rows) (omega arith, omega (arith, div-le-self (sheet .W) (sheet .g), r .0));
+        columns = rw (x .view .columns) (omega (arith, div-le-self (sheet .L) (sheet .g), r .1));
+        size = (rw (x .view .len) (r .1), rw (x .view .width) (r .0));
+        step = rw (x .view .step) (r .2);
         across = λ c h. rw (x .view .step, x .view .len) (reached (sheet .L) (sheet .g) c (rw (x .view .columns) at h));
         up = λ c h. rw (x .view .step, x .view .width) (reached (sheet .W) (sheet .g) c (rw (x .view .rows) at h));
         rotations = λ t h. rw (kind-in s v x t (rw (x .view .kinds) at h) .rotations) (accepted-sensible s (x .accepted) .turned t);
-        gaps = λ t h. rw (kind-in s v x t (rw (x .view .kinds) at h) .gap) (accepted-gap s (x .accepted) (kindAt (content s) t));
+        gaps = λ t h. rw (kind-in s v x t (rw (x .view .kinds) at h) .gap) (gap-most s (x .accepted) (kindAt (content s) t));
       }
 
   -- the vertices of a kind

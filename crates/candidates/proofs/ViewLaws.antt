@@ -7,7 +7,7 @@ use lib.ListN.{length, getD, drop}
 use Rattle.model.specs.Content.{Part, kindAt, kindCount}
 use Rattle.model.specs.Format.{byteAt, vertices, content}
 use Rattle.model.proofs.Accepted.{accepted-kinds}
-use Rattle.model.proofs.Ranges.{accepted-part}
+use Rattle.model.proofs.AcceptedKinds.{kind-ranges}
 use Rattle.job.specs.View.{PartAt, KindIn, ViewOf}
 use Rattle.job.specs.declared.View.{View}
 use Rattle.candidates.specs.Turned.{Viewed}
@@ -25,7 +25,7 @@ module _ (s : List ℕ) (v : View) (x : Viewed s v) where
     kind-in = x .view .kind t h
 
     pub some-part : 1 ≤ length (kindAt (content s) t .parts)
-    some-part = accepted-part s (x .accepted) t h
+    some-part = kind-ranges s (x .accepted) t h .partsLeast
 
     pub part-in : (i : ℕ) → i < length (kindAt (content s) t .parts) → PartAt s (getD (v .«part_at») (t * 6 + i) 0) (getD (kindAt (content s) t .parts) i [])
     part-in i l = kind-in .part i l

@@ -20,6 +20,5 @@ pub mod Readers
 pub mod Records
 pub mod Causes
 pub mod AcceptedKinds
-pub mod Ranges
 pub mod Refusals
 pub mod Program
