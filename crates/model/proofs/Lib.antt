@@ -1,5 +1,6 @@
 pub mod Boards
 pub mod Decimal
+pub mod Folds
 pub mod Lists
 pub mod Tests
 pub mod Extremes
@@ -15,3 +16,6 @@ pub mod ReadBack
 pub mod Permuted
 pub mod ClassOrder
 pub mod Search
+pub mod Readers
+pub mod Records
+pub mod Ranges

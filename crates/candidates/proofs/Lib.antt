@@ -1,0 +1,6 @@
+-- What is proved about the definitions of this crate.
+pub mod TurnLaws
+pub mod ViewLaws
+pub mod PieceLaws
+pub mod BoxLaws
+pub mod PlacementLaws

@@ -1,0 +1,5 @@
+pub mod Bools
+pub mod ClassLaws
+pub mod KindLaws
+pub mod Ranges
+pub mod RecordLaws
