@@ -7,12 +7,12 @@ ghost use Rattle.geometry.specs.Boxes.{extentsOf};
 ghost use Rattle.candidates.specs.Turned.{Viewed, TurnedOf};
 ghost use Rattle.candidates.specs.Pieces.{Fitting, partIn, partsIn};
 ghost use Rattle.candidates.specs.Boxes.{BoxesOf};
-use crate::pieces::piece_of;
 use crate::pieces::Piece;
+use crate::pieces::piece_of;
+use geometry::extents::Extents;
 use geometry::extents::bounds;
 use geometry::extents::join;
 use geometry::extents::point;
-use geometry::extents::Extents;
 use job::View;
 
 // The box of kind t turned k quarter turns stands at t × 4 + k.

@@ -43,7 +43,15 @@ pub fn piece_of(job: &[u8], view: View, kind: usize) -> Piece
 }
 
 // Whether a part is not separated from some part of q, turned l quarter turns and moved by (dx, dy). The first such part ends the test.
-fn part_conflicts(part: &[i16], turned: &[i16], q: Piece, l: usize, dx: i16, dy: i16, gap: u16) -> bool
+fn part_conflicts(
+    part: &[i16],
+    turned: &[i16],
+    q: Piece,
+    l: usize,
+    dx: i16,
+    dy: i16,
+    gap: u16,
+) -> bool
     requires { ⌜ (Fitting q × (l < 4)) × (length (now turned) ≡ 4096) ⌝ }
     ensures { λ r. ⌜ r ≡ partConflicts gap (partOf (now (part .entry))) (map (map (shifted dx dy)) (partsIn (now (turned .entry)) q l)) ⌝ }
 {
@@ -63,7 +71,16 @@ fn part_conflicts(part: &[i16], turned: &[i16], q: Piece, l: usize, dx: i16, dy:
 }
 
 // Whether the piece p, turned k quarter turns, is in conflict at this gap with the piece q, turned l quarter turns and moved by (dx, dy).
-pub fn pieces_conflict(turned: &[i16], p: Piece, k: usize, q: Piece, l: usize, dx: i16, dy: i16, gap: u16) -> bool
+pub fn pieces_conflict(
+    turned: &[i16],
+    p: Piece,
+    k: usize,
+    q: Piece,
+    l: usize,
+    dx: i16,
+    dy: i16,
+    gap: u16,
+) -> bool
     requires { ⌜ ((Fitting p × (k < 4)) × (Fitting q × (l < 4))) × (length (now turned) ≡ 4096) ⌝ }
     ensures { λ r. ⌜ r ≡ piecesConflict gap (partsIn (now (turned .entry)) p k) (map (map (shifted dx dy)) (partsIn (now (turned .entry)) q l)) ⌝ }
 {

@@ -21,11 +21,19 @@ fn stays_on_board(view: View, e: Extents, column: usize, row: usize) -> bool
     requires { ⌜ Bounded view × ((column < view .columns) × (row < view .rows)) ⌝ }
     ensures { λ r. ⌜ r ≡ fitsAt view e column row ⌝ }
 {
-    stays_within(e.min_x, e.max_x, column * view.step, view.length) & stays_within(e.min_y, e.max_y, row * view.step, view.width)
+    stays_within(e.min_x, e.max_x, column * view.step, view.length)
+        & stays_within(e.min_y, e.max_y, row * view.step, view.width)
 }
 
 // Whether a kind may stand on this dot at this rotation.
-pub fn is_placement(view: View, boxes: Boxes, kind: usize, column: usize, row: usize, rotation: usize) -> bool
+pub fn is_placement(
+    view: View,
+    boxes: Boxes,
+    kind: usize,
+    column: usize,
+    row: usize,
+    rotation: usize,
+) -> bool
     requires { ⌜ Bounded view × (kind < view .kinds) ⌝ }
     ensures { λ r. ⌜ r ≡ placeable view boxes kind column row rotation ⌝ }
 {
@@ -46,7 +54,14 @@ pub fn is_candidate(view: View, boxes: Boxes, kind: usize, number: usize) -> boo
     ensures { λ r. ⌜ r ≡ offered view boxes kind number ⌝ }
 {
     let rows = view.rows;
-    is_placement(view, boxes, kind, number / 4 / rows, number / 4 % rows, number % 4)
+    is_placement(
+        view,
+        boxes,
+        kind,
+        number / 4 / rows,
+        number / 4 % rows,
+        number % 4,
+    )
 }
 
 // The x of what ends at `high`, moved by this much; 0 where that lies before the board.

@@ -72,12 +72,14 @@ loop-again : tie.Need-loop-again Inv-loop μ-loop
 loop-again c =
     let at = c .before .before .before in
     let e = at .before .before .before in
-    let n = at .loop .n in
-    (omega arith, simp length-set (at .loop .inv .1),
-    written-more noBox (at .loop .of) n _ (λ m. extentsOf (turnedVertices (now (e .args .job)) (m / 4) (m % 4))) (omega arith) (at .loop .inv .2)
-    (c .piece-box .ensures
-    ∙ ap (λ (Ps : List Part). extentsOf (concat Ps))
-    (parts-turned (now (e .args .job)) (now (e .args .turned)) (n / 4) (c .before .piece-of .result) (n % 4) (e .pre .1) (c .before .piece-of .ensures) (omega (arith, e .pre .0 .view .kinds)) (omega arith))))
+    let n = at .loop .n in (
+      omega arith,
+      simp length-set (at .loop .inv .1),
+      written-more noBox (at .loop .of) n _ (λ m. extentsOf (turnedVertices (now (e .args .job)) (m / 4) (m % 4))) (omega arith) (at .loop .inv .2)
+          (c .piece-box .ensures
+          ∙ ap (λ (Ps : List Part). extentsOf (concat Ps))
+          (parts-turned (now (e .args .job)) (now (e .args .turned)) (n / 4) (c .before .piece-of .result) (n % 4) (e .pre .1) (c .before .piece-of .ensures) (omega (arith, e .pre .0 .view .kinds)) (omega arith))),
+    )
 
 -- src/boxes.rt:50:1
 returns : tie.Need-returns Inv-loop μ-loop
@@ -87,11 +89,11 @@ returns c =
     record {
       size = at .loop .inv .1;
       exact = λ t k h l.
-      let q : (t * 4 + k) / 4 ≡ t = omega arith in
-      let r : (t * 4 + k) % 4 ≡ k = omega arith in
-      at .loop .inv .2 (t * 4 + k) (omega (arith, e .pre .0 .view .kinds))
-      ∙ ap (λ m. extentsOf (turnedVertices (now (e .args .job)) m ((t * 4 + k) % 4))) q
-      ∙ ap (λ m. extentsOf (turnedVertices (now (e .args .job)) t m)) r;
+          let q : (t * 4 + k) / 4 ≡ t = omega arith in
+          let r : (t * 4 + k) % 4 ≡ k = omega arith in
+          at .loop .inv .2 (t * 4 + k) (omega (arith, e .pre .0 .view .kinds))
+          ∙ ap (λ m. extentsOf (turnedVertices (now (e .args .job)) m ((t * 4 + k) % 4))) q
+          ∙ ap (λ m. extentsOf (turnedVertices (now (e .args .job)) t m)) r;
     }
 
 pub boxes-of-spec : {M : Type 1} → statement M

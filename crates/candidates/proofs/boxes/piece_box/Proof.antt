@@ -28,9 +28,11 @@ part-box-requires c κs = ((c .pre .0, c .pre .0 .0 .some), c .pre .1)
 -- src/boxes.rt:42:5
 loop-holds : tie.Need-loop-holds Inv-loop μ-loop
 loop-holds c =
-    let e = c .before in
-    (omega arith, c .part-box .ensures ∙ box-first (partIn (now (e .args .turned)) (e .args .p) (e .args .k)) (e .args .p .count)
-    (part-some (now (e .args .turned)) (e .args .p) (e .args .k) (e .pre .0 .0) (e .pre .0 .1) (e .pre .1)))
+    let e = c .before in (
+      omega arith,
+      c .part-box .ensures ∙ box-first (partIn (now (e .args .turned)) (e .args .p) (e .args .k)) (e .args .p .count)
+          (part-some (now (e .args .turned)) (e .args .p) (e .args .k) (e .pre .0 .0) (e .pre .0 .1) (e .pre .1)),
+    )
 
 -- src/boxes.rt:43:21
 part-box-requires-2 : tie.Need-part-box-requires-2 Inv-loop μ-loop

@@ -87,9 +87,12 @@ loop-less c = search needs
 -- src/pieces.rt:34:5
 loop-again : tie.Need-loop-again Inv-loop μ-loop
 loop-again c =
-    let at = c .before .before in
-    (omega arith, at .loop .inv .1, simp length-set (at .loop .inv .2),
-    written-more 0 (at .loop .sizes) (at .loop .i) _ _ (omega arith) (at .loop .inv .3) (c .byte .ensures ∙ here (c .before) .stated))
+    let at = c .before .before in (
+      omega arith,
+      at .loop .inv .1,
+      simp length-set (at .loop .inv .2),
+      written-more 0 (at .loop .sizes) (at .loop .i) _ _ (omega arith) (at .loop .inv .3) (c .byte .ensures ∙ here (c .before) .stated),
+    )
 
 -- src/pieces.rt:39:16
 mul-t9 : tie.Need-mul-t9 Inv-loop μ-loop

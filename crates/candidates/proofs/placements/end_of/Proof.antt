@@ -31,9 +31,10 @@ returns c = end-before _ (ap (λ z. ltZ z (pos 0)) (sym (value (c .before))) ∙
 
 -- src/placements.rt:61:5
 cast-result : tie.Need-cast-result
-cast-result c =
-    (rw (value (c .before)) (end-nonneg (c .before .args .high +ℤ pos (c .before .args .by)) (ap (λ z. ltZ z (pos 0)) (sym (value (c .before))) ∙ c .if1 .left)),
-    rw (value (c .before)) (end-fits (c .before .args .high) (c .before .args .by) (c .before .fits .high) (c .before .pre)))
+cast-result c = (
+  rw (value (c .before)) (end-nonneg (c .before .args .high +ℤ pos (c .before .args .by)) (ap (λ z. ltZ z (pos 0)) (sym (value (c .before))) ∙ c .if1 .left)),
+  rw (value (c .before)) (end-fits (c .before .args .high) (c .before .args .by) (c .before .fits .high) (c .before .pre)),
+)
 
 -- src/placements.rt:53:1
 returns-2 : tie.Need-returns-2

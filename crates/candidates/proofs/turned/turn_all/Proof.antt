@@ -46,10 +46,12 @@ loop-again c =
     let start = at .before .before in
     let s = start .args .job .now in
     let v = start .args .view in
-    let h : at .loop .kind < kindCount (content s) = rw (start .pre .0 .view .kinds) at (turn .if1 .taken) in
-    (omega arith, search needs,
-    kinds-more s (at .loop .turned) _ (at .loop .kind) (λ t l. kind-in s v (start .pre .0) t (omega arith) .fewParts)
-    (λ t l. part-short s v (start .pre .0) t (omega arith)) (at .loop .inv .2) (call .turn-kind .ensures))
+    let h : at .loop .kind < kindCount (content s) = rw (start .pre .0 .view .kinds) at (turn .if1 .taken) in (
+      omega arith,
+      search needs,
+      kinds-more s (at .loop .turned) _ (at .loop .kind) (λ t l. kind-in s v (start .pre .0) t (omega arith) .fewParts)
+          (λ t l. part-short s v (start .pre .0) t (omega arith)) (at .loop .inv .2) (call .turn-kind .ensures),
+    )
 
 -- src/turned.rt:115:1
 same-length : tie.Need-same-length Inv-loop μ-loop

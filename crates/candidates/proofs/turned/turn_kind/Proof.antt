@@ -99,11 +99,14 @@ loop-again c =
     let call = c .before in
     let turn = call .before .before .before in
     let at = turn .before in
-    let start = at .before .before .before .before in
-    (omega arith, at .loop .inv .1, search needs,
-    kind-more (start .args .job .now) (start .args .kind) (start .args .turned .now) (at .loop .turned) _ (at .loop .i) _ (omega arith) (omega arith)
-    (λ i h. part-short (start .args .job .now) (start .args .view) (start .pre .0 .0) (start .args .kind) (start .pre .0 .1) i (omega arith))
-    (part-read-at _ _ _ _ (call .before .before .byte .ensures) (here turn)) (at .loop .inv .3) (call .turn-part .ensures))
+    let start = at .before .before .before .before in (
+      omega arith,
+      at .loop .inv .1,
+      search needs,
+      kind-more (start .args .job .now) (start .args .kind) (start .args .turned .now) (at .loop .turned) _ (at .loop .i) _ (omega arith) (omega arith)
+          (λ i h. part-short (start .args .job .now) (start .args .view) (start .pre .0 .0) (start .args .kind) (start .pre .0 .1) i (omega arith))
+          (part-read-at _ _ _ _ (call .before .before .byte .ensures) (here turn)) (at .loop .inv .3) (call .turn-part .ensures),
+    )
 
 -- src/turned.rt:99:1
 same-length : tie.Need-same-length Inv-loop μ-loop

@@ -53,10 +53,12 @@ loop-again c =
     let call = c .before in
     let at = call .before .before .before in
     let start = at .before .before in
-    let n : length (vertices (start .args .n) (drop (start .args .from) (start .args .job .now))) ≡ start .args .n = length-vertices _ _ in
-    (omega arith, search needs,
-    turned-more (vertices (start .args .n) (drop (start .args .from) (start .args .job .now))) (start .args .q) (omega arith) (omega arith) (start .args .turned .now) (at .loop .turned) _
-    (at .loop .k) (at .loop .inv .1) (omega arith) (at .loop .inv .2) (call .turn-vertices .ensures))
+    let n : length (vertices (start .args .n) (drop (start .args .from) (start .args .job .now))) ≡ start .args .n = length-vertices _ _ in (
+      omega arith,
+      search needs,
+      turned-more (vertices (start .args .n) (drop (start .args .from) (start .args .job .now))) (start .args .q) (omega arith) (omega arith) (start .args .turned .now) (at .loop .turned) _
+          (at .loop .k) (at .loop .inv .1) (omega arith) (at .loop .inv .2) (call .turn-vertices .ensures),
+    )
 
 -- src/turned.rt:87:1
 same-length : tie.Need-same-length Inv-loop μ-loop

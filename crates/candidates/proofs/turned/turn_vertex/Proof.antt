@@ -26,9 +26,13 @@ signed-byte-requires-2 c κs = search needs
 -- src/turned.rt:55:18
 turned-x-requires : tie.Need-turned-x-requires
 turned-x-requires c κs =
-    let start = c .before .before in
-    (start .before .pre .0, (byte-fits _ _ (start .shared-slice-known .given _) (sfits-of (c .before .signed-byte .ok)) (c .before .signed-byte .ensures),
-    byte-fits _ _ (start .shared-slice-known .given _) (sfits-of (c .signed-byte2 .ok)) (c .signed-byte2 .ensures)))
+    let start = c .before .before in (
+      start .before .pre .0,
+      (
+        byte-fits _ _ (start .shared-slice-known .given _) (sfits-of (c .before .signed-byte .ok)) (c .before .signed-byte .ensures),
+        byte-fits _ _ (start .shared-slice-known .given _) (sfits-of (c .signed-byte2 .ok)) (c .signed-byte2 .ensures),
+      ),
+    )
 
 -- src/turned.rt:55:5
 mul-turned : tie.Need-mul-turned

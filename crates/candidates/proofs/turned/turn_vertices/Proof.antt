@@ -57,9 +57,11 @@ loop-less c = search needs
 loop-again : tie.Need-loop-again Inv-loop μ-loop
 loop-again c =
     let at = c .before .before .before .before in
-    let start = at .before .before in
-    (omega arith, search needs,
-    cc (written-more (rotated (start .args .k)) (start .args .turned .now) (start .args .to) (at .loop .m) (start .args .job .now) (start .args .from)))
+    let start = at .before .before in (
+      omega arith,
+      search needs,
+      cc (written-more (rotated (start .args .k)) (start .args .turned .now) (start .args .to) (at .loop .m) (start .args .job .now) (start .args .from)),
+    )
 
 -- src/turned.rt:60:1
 same-length : tie.Need-same-length Inv-loop μ-loop

@@ -1,0 +1,3 @@
+-- What is proved about the definitions of this crate.
+pub mod EntryLaws
+pub mod AdmissionLaws
