@@ -4,3 +4,6 @@ pub mod ViewLaws
 pub mod PieceLaws
 pub mod BoxLaws
 pub mod PlacementLaws
+pub mod RowLaws
+pub mod PreparedLaws
+pub mod AnswerLaws

@@ -3,3 +3,4 @@ pub mod Turned
 pub mod Pieces
 pub mod Boxes
 pub mod Placements
+pub mod Rows

@@ -19,3 +19,4 @@ pub mod Search
 pub mod Readers
 pub mod Records
 pub mod Ranges
+pub mod AcceptedJob

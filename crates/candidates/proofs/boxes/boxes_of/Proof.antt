@@ -1,3 +1,4 @@
+-- `candidates::boxes::boxes_of` meets its contract. Assumes nothing.
 use mathlib.Core.List.{List}
 use mathlib.Core.Path.{_≡_, refl, ap, _∙_}
 use Prim.Native.Nat.{ℕ, _+_, _-_, _*_, _/_, _%_, _≤_, _<_}
@@ -14,11 +15,6 @@ use Rattle.candidates.proofs.PieceLaws.{written-more, parts-turned}
 use Rattle.candidates.proofs.ViewLaws.{few-kinds}
 use Rattle.candidates.proofs.boxes.boxes_of.Statement.{statement}
 use Rattle.candidates.proofs.boxes.boxes_of.Tie as tie
-use Rattle.candidates.proofs.boxes.boxes_of.Reads as reads
-use Rattle.candidates.proofs.boxes.boxes_of.Lts as lts
-use Rattle.candidates.proofs.boxes.piece_box.Reads as piece-box-reads
-use Rattle.candidates.proofs.pieces.piece_of.Reads as piece-of-reads
-use Rattle.geometry.proofs.extents.point.Reads as point-reads
 
 abbrev Inv-loop : tie.InvT-loop
 Inv-loop job view turned kinds of₀ n₀ of n =
@@ -27,47 +23,37 @@ Inv-loop job view turned kinds of₀ n₀ of n =
 abbrev μ-loop : tie.MeasureT-loop
 μ-loop job view turned kinds of₀ n₀ of n = kinds * 4 - n
 
--- src/boxes.rt:55:19
 point-requires : tie.Need-point-requires Inv-loop μ-loop
 point-requires c κs = search needs
 
--- src/boxes.rt:57:5
 loop-holds : tie.Need-loop-holds Inv-loop μ-loop
 loop-holds c =
     let e = c .before .before in
     (omega (arith, few-kinds (e .args .job .now) (e .args .view) (e .pre .0), e .pre .0 .view .kinds), refl, below-none _)
 
--- src/boxes.rt:57:15
 mul-loop : tie.Need-mul-loop Inv-loop μ-loop
 mul-loop c = omega arith
 
--- src/boxes.rt:58:35
 piece-of-requires : tie.Need-piece-of-requires Inv-loop μ-loop
 piece-of-requires c κs =
     let e = c .before .before .before .before in
     (e .pre .0, omega (arith, e .pre .0 .view .kinds))
 
--- src/boxes.rt:58:17
 piece-box-requires : tie.Need-piece-box-requires Inv-loop μ-loop
 piece-box-requires c κs = ((c .piece-of .ensures .fitting, omega arith), c .before .before .before .before .before .pre .1 .size)
 
--- src/boxes.rt:58:9
 mul-of : tie.Need-mul-of Inv-loop μ-loop
 mul-of c = omega arith
 
--- src/boxes.rt:58:9
 array-set-from-of : tie.Need-array-set-from-of Inv-loop μ-loop
 array-set-from-of c = omega arith
 
--- src/boxes.rt:59:9
 add-n : tie.Need-add-n Inv-loop μ-loop
 add-n c = omega arith
 
--- src/boxes.rt:57:5
 loop-less : tie.Need-loop-less Inv-loop μ-loop
 loop-less c = omega arith
 
--- src/boxes.rt:57:5
 loop-again : tie.Need-loop-again Inv-loop μ-loop
 loop-again c =
     let at = c .before .before .before in
@@ -81,7 +67,6 @@ loop-again c =
           (parts-turned (now (e .args .job)) (now (e .args .turned)) (n / 4) (c .before .piece-of .result) (n % 4) (e .pre .1) (c .before .piece-of .ensures) (omega (arith, e .pre .0 .view .kinds)) (omega arith))),
     )
 
--- src/boxes.rt:50:1
 returns : tie.Need-returns Inv-loop μ-loop
 returns c =
     let at = c .before in

@@ -1,3 +1,4 @@
+-- `candidates::boxes::part_box` meets its contract. Assumes nothing.
 use mathlib.Core.List.{List}
 use mathlib.Core.Path.{_≡_, ap, _∙_}
 use Prim.Native.Nat.{_+_, _*_}
@@ -12,63 +13,46 @@ use Rattle.candidates.proofs.PieceLaws.{window}
 use borrow.Author.Needs.{needs}
 use Rattle.candidates.proofs.boxes.part_box.Statement.{statement}
 use Rattle.candidates.proofs.boxes.part_box.Tie as tie
-use Rattle.candidates.proofs.boxes.part_box.Reads as reads
-use Rattle.candidates.proofs.boxes.part_box.Lts as lts
-use Rattle.geometry.proofs.extents.bounds.Reads as bounds-reads
 
--- src/boxes.rt:29:16
 mul-from : tie.Need-mul-from
 mul-from c = search needs
 
--- src/boxes.rt:29:16
 add-from : tie.Need-add-from
 add-from c = search needs
 
--- src/boxes.rt:29:37
 mul-from-2 : tie.Need-mul-from-2
 mul-from-2 c = search needs
 
--- src/boxes.rt:29:16
 add-from-2 : tie.Need-add-from-2
 add-from-2 c = search needs
 
--- src/boxes.rt:30:21
 mul-to : tie.Need-mul-to
 mul-to c = search needs
 
--- src/boxes.rt:30:21
 array-read-to : tie.Need-array-read-to
 array-read-to c = search needs
 
--- src/boxes.rt:30:21
 mul-to-2 : tie.Need-mul-to-2
 mul-to-2 c = omega (arith, c .before .before .pre .0 .0 .0 .short (c .before .before .args .i) (c .before .before .pre .0 .1))
 
--- src/boxes.rt:30:14
 add-to : tie.Need-add-to
 add-to c = omega (arith, c .before .before .pre .0 .0 .0 .short (c .before .before .args .i) (c .before .before .pre .0 .1))
 
--- src/boxes.rt:31:12
 mul-bounds : tie.Need-mul-bounds
 mul-bounds c = search needs
 
--- src/boxes.rt:31:12
 sub-bounds : tie.Need-sub-bounds
 sub-bounds c = search needs
 
--- src/boxes.rt:31:12
 part-bounds-start : tie.Need-part-bounds-start
 part-bounds-start c = search needs
 
--- src/boxes.rt:31:12
 part-bounds-end : tie.Need-part-bounds-end
 part-bounds-end c = omega (arith, c .before .before .pre .0 .0 .0 .short (c .before .before .args .i) (c .before .before .pre .0 .1))
 
--- src/boxes.rt:31:5
 bounds-requires : tie.Need-bounds-requires
 bounds-requires c κs = search needs
 
--- src/boxes.rt:24:1
 returns : tie.Need-returns
 unfolding partIn
 returns c =

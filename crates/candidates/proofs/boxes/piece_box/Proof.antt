@@ -1,3 +1,4 @@
+-- `candidates::boxes::piece_box` meets its contract. Assumes nothing.
 use mathlib.Core.List.{List, map}
 use mathlib.Core.Path.{_≡_, sym, ap, ap₂, _∙_}
 use Prim.Native.Nat.{_+_, _-_, _*_, _≤_}
@@ -10,10 +11,6 @@ use Rattle.candidates.specs.Pieces.{partIn, partsIn}
 use Rattle.candidates.proofs.BoxLaws.{box-first, box-more, part-some}
 use Rattle.candidates.proofs.boxes.piece_box.Statement.{statement}
 use Rattle.candidates.proofs.boxes.piece_box.Tie as tie
-use Rattle.candidates.proofs.boxes.piece_box.Reads as reads
-use Rattle.candidates.proofs.boxes.piece_box.Lts as lts
-use Rattle.candidates.proofs.boxes.part_box.Reads as part-box-reads
-use Rattle.geometry.proofs.extents.join.Reads as join-reads
 
 abbrev Inv-loop : tie.InvT-loop
 Inv-loop turned p k n e₀ i₀ e i = ((1 ≤ i) × (i ≤ n)) × (e ≡ extentsOf (concat (map (partIn turned p k) (below i))))
@@ -21,11 +18,9 @@ Inv-loop turned p k n e₀ i₀ e i = ((1 ≤ i) × (i ≤ n)) × (e ≡ extents
 abbrev μ-loop : tie.MeasureT-loop
 μ-loop turned p k n e₀ i₀ e i = n - i
 
--- src/boxes.rt:40:9
 part-box-requires : tie.Need-part-box-requires Inv-loop μ-loop
 part-box-requires c κs = ((c .pre .0, c .pre .0 .0 .some), c .pre .1)
 
--- src/boxes.rt:42:5
 loop-holds : tie.Need-loop-holds Inv-loop μ-loop
 loop-holds c =
     let e = c .before in (
@@ -34,23 +29,18 @@ loop-holds c =
           (part-some (now (e .args .turned)) (e .args .p) (e .args .k) (e .pre .0 .0) (e .pre .0 .1) (e .pre .1)),
     )
 
--- src/boxes.rt:43:21
 part-box-requires-2 : tie.Need-part-box-requires-2 Inv-loop μ-loop
 part-box-requires-2 c κs = ((c .before .before .before .pre .0, c .loop-test .taken), c .before .before .before .pre .1)
 
--- src/boxes.rt:43:9
 join-requires : tie.Need-join-requires Inv-loop μ-loop
 join-requires c κs = search needs
 
--- src/boxes.rt:44:9
 add-i : tie.Need-add-i Inv-loop μ-loop
 add-i c = omega arith
 
--- src/boxes.rt:42:5
 loop-less : tie.Need-loop-less Inv-loop μ-loop
 loop-less c = omega arith
 
--- src/boxes.rt:42:5
 loop-again : tie.Need-loop-again Inv-loop μ-loop
 loop-again c =
     let at = c .before .before .before in
@@ -59,7 +49,6 @@ loop-again c =
     (part-some (now (e .args .turned)) (e .args .p) (e .args .k) (e .pre .0 .0) (e .pre .0 .1) (e .pre .1)) (at .loop .i) (omega arith) (omega arith) in
     (omega arith, c .join .ensures ∙ ap₂ joined (at .loop .inv .1) (c .before .part-box2 .ensures) ∙ sym more)
 
--- src/boxes.rt:35:1
 returns : tie.Need-returns Inv-loop μ-loop
 unfolding partsIn
 returns c =

@@ -1,3 +1,4 @@
+-- `candidates::pieces::part_conflicts` meets its contract. Assumes nothing.
 use mathlib.Core.Bool.{Bool, true, false, not}
 use mathlib.Core.List.{List, map}
 use mathlib.Core.Path.{_≡_, refl, sym, ap, _∙_}
@@ -17,9 +18,6 @@ use Rattle.candidates.specs.Pieces.{partsIn, partConflicts}
 use Rattle.candidates.proofs.PieceLaws.{conflictAt, none-yet, none-more, some-below, part-conflicts-below, window}
 use Rattle.candidates.proofs.pieces.part_conflicts.Statement.{statement}
 use Rattle.candidates.proofs.pieces.part_conflicts.Tie as tie
-use Rattle.candidates.proofs.pieces.part_conflicts.Reads as reads
-use Rattle.candidates.proofs.pieces.part_conflicts.Lts as lts
-use Rattle.geometry.proofs.pairs.separated.Reads as separated-reads
 
 abbrev Inv-loop : tie.InvT-loop
 Inv-loop part turned l dx dy gap base sizes n i₀ i =
@@ -28,7 +26,6 @@ Inv-loop part turned l dx dy gap base sizes n i₀ i =
 abbrev μ-loop : tie.MeasureT-loop
 μ-loop part turned l dx dy gap base sizes n i₀ i = n - i
 
--- src/pieces.rt:50:16
 -- ---- what is known of one part
 
 -- the test of part i, as the loop makes it
@@ -57,77 +54,59 @@ tested c =
 mul-base : tie.Need-mul-base Inv-loop μ-loop
 mul-base c = omega arith
 
--- src/pieces.rt:50:16
 add-base : tie.Need-add-base Inv-loop μ-loop
 add-base c = omega arith
 
--- src/pieces.rt:54:5
 loop-holds : tie.Need-loop-holds Inv-loop μ-loop
 loop-holds c = (omega arith, none-yet _)
 
--- src/pieces.rt:55:27
 mul-from : tie.Need-mul-from Inv-loop μ-loop
 mul-from c = omega arith
 
--- src/pieces.rt:55:20
 add-from : tie.Need-add-from Inv-loop μ-loop
 add-from c = omega arith
 
--- src/pieces.rt:56:25
 mul-to : tie.Need-mul-to Inv-loop μ-loop
 mul-to c = omega arith
 
--- src/pieces.rt:56:25
 array-read-to : tie.Need-array-read-to Inv-loop μ-loop
 array-read-to c = omega arith
 
--- src/pieces.rt:56:25
 mul-to-2 : tie.Need-mul-to-2 Inv-loop μ-loop
 mul-to-2 c = omega (arith, c .before .before .before .before .pre .0 .0 .short (c .before .loop .i) (c .loop-test .taken))
 
--- src/pieces.rt:56:18
 add-to : tie.Need-add-to Inv-loop μ-loop
 add-to c = omega (arith, c .before .before .before .before .pre .0 .0 .short (c .before .loop .i) (c .loop-test .taken))
 
--- src/pieces.rt:57:46
 mul-separated : tie.Need-mul-separated Inv-loop μ-loop
 mul-separated c = omega (arith, c .before .before .before .before .pre .0 .0 .short (c .before .loop .i) (c .loop-test .taken))
 
--- src/pieces.rt:57:46
 sub-separated : tie.Need-sub-separated Inv-loop μ-loop
 sub-separated c = omega (arith, c .before .before .before .before .pre .0 .0 .short (c .before .loop .i) (c .loop-test .taken))
 
--- src/pieces.rt:57:46
 part-separated-start : tie.Need-part-separated-start Inv-loop μ-loop
 part-separated-start c = omega (arith, c .before .before .before .before .pre .0 .0 .short (c .before .loop .i) (c .loop-test .taken))
 
--- src/pieces.rt:57:46
 part-separated-end : tie.Need-part-separated-end Inv-loop μ-loop
 part-separated-end c = omega (arith, c .before .before .before .before .pre .0 .0 .short (c .before .loop .i) (c .loop-test .taken))
 
--- src/pieces.rt:57:13
 separated-requires : tie.Need-separated-requires Inv-loop μ-loop
 separated-requires c κs = search needs
 
--- src/pieces.rt:58:13
 returns : tie.Need-returns Inv-loop μ-loop
 returns c =
     let e = c .before .before .before .before .before .before .before in
     answer e true (some-below _ (c .before .before .before .before .loop .i) _ (c .before .before .before .loop-test .taken) (sym (tested (c .before)) ∙ c .if1 .taken))
 
--- src/pieces.rt:60:9
 add-i : tie.Need-add-i Inv-loop μ-loop
 add-i c = omega arith
 
--- src/pieces.rt:54:5
 loop-less : tie.Need-loop-less Inv-loop μ-loop
 loop-less c = search needs
 
--- src/pieces.rt:54:5
 loop-again : tie.Need-loop-again Inv-loop μ-loop
 loop-again c = (omega arith, none-more _ (c .before .before .before .before .loop .i) (c .before .before .before .before .loop .inv .1) (sym (tested (c .before)) ∙ c .if1 .left))
 
--- src/pieces.rt:46:1
 returns-2 : tie.Need-returns-2 Inv-loop μ-loop
 returns-2 c =
     let e = c .before .before .before .before in

@@ -1,3 +1,4 @@
+-- `candidates::pieces::piece_of` meets its contract. Assumes nothing.
 use mathlib.Core.List.{[]}
 use mathlib.Core.Path.{_≡_, refl, _∙_}
 use Prim.Native.Nat.{ℕ, _+_, _-_, _*_, _≤_, _<_}
@@ -13,9 +14,6 @@ use Rattle.candidates.proofs.PieceLaws.{written-more}
 use Rattle.candidates.proofs.ViewLaws.{few-kinds, kind-in, some-part, part-in, part-short}
 use Rattle.candidates.proofs.pieces.piece_of.Statement.{statement}
 use Rattle.candidates.proofs.pieces.piece_of.Tie as tie
-use Rattle.candidates.proofs.pieces.piece_of.Reads as reads
-use Rattle.candidates.proofs.pieces.piece_of.Lts as lts
-use Rattle.candidates.proofs.turned.byte.Reads as byte-reads
 
 abbrev Inv-loop : tie.InvT-loop
 Inv-loop job kind places n sizes₀ i₀ sizes i =
@@ -25,7 +23,6 @@ Inv-loop job kind places n sizes₀ i₀ sizes i =
 abbrev μ-loop : tie.MeasureT-loop
 μ-loop job kind places n sizes₀ i₀ sizes i = n - i
 
--- src/pieces.rt:31:13
 -- the part of this turn of the loop
 here : (c : tie.In-loop Inv-loop μ-loop) → PartAt (now (c .before .before .before .before .before .args .job))
     (getD (c .before .before .before .before .before .args .view .«part_at») (c .before .before .before .before .before .args .kind * 6 + c .before .loop .i) 0)
@@ -37,54 +34,42 @@ here c =
 mul-n : tie.Need-mul-n Inv-loop μ-loop
 mul-n c = omega (arith, few-kinds (c .before .before .before .args .job .now) (c .before .before .before .args .view) (c .before .before .before .pre .0))
 
--- src/pieces.rt:31:13
 array-read-n : tie.Need-array-read-n Inv-loop μ-loop
 array-read-n c = omega (arith, few-kinds (c .before .before .before .args .job .now) (c .before .before .before .args .view) (c .before .before .before .pre .0))
 
--- src/pieces.rt:34:5
 loop-holds : tie.Need-loop-holds Inv-loop μ-loop
 loop-holds c =
     let start = c .before .before .before in
     let k = kind-in (start .args .job .now) (start .args .view) (start .pre .0) (start .args .kind) (start .pre .1) in
     (omega (arith, few-kinds (start .args .job .now) (start .args .view) (start .pre .0), k .parts, k .fewParts), k .parts, refl, below-none _)
 
--- src/pieces.rt:35:37
 mul-byte : tie.Need-mul-byte Inv-loop μ-loop
 mul-byte c = omega arith
 
--- src/pieces.rt:35:37
 add-byte : tie.Need-add-byte Inv-loop μ-loop
 add-byte c = omega arith
 
--- src/pieces.rt:35:30
 mul-byte-2 : tie.Need-mul-byte-2 Inv-loop μ-loop
 mul-byte-2 c = omega arith
 
--- src/pieces.rt:35:30
 array-read-byte : tie.Need-array-read-byte Inv-loop μ-loop
 array-read-byte c = omega arith
 
--- src/pieces.rt:35:20
 byte-requires : tie.Need-byte-requires Inv-loop μ-loop
 byte-requires c κs = omega (arith, here c .inside)
 
--- src/pieces.rt:35:9
 mul-sizes : tie.Need-mul-sizes Inv-loop μ-loop
 mul-sizes c = omega arith
 
--- src/pieces.rt:35:9
 array-write-sizes : tie.Need-array-write-sizes Inv-loop μ-loop
 array-write-sizes c = omega arith
 
--- src/pieces.rt:36:9
 add-i : tie.Need-add-i Inv-loop μ-loop
 add-i c = omega arith
 
--- src/pieces.rt:34:5
 loop-less : tie.Need-loop-less Inv-loop μ-loop
 loop-less c = search needs
 
--- src/pieces.rt:34:5
 loop-again : tie.Need-loop-again Inv-loop μ-loop
 loop-again c =
     let at = c .before .before in (
@@ -94,11 +79,9 @@ loop-again c =
       written-more 0 (at .loop .sizes) (at .loop .i) _ _ (omega arith) (at .loop .inv .3) (c .byte .ensures ∙ here (c .before) .stated),
     )
 
--- src/pieces.rt:39:16
 mul-t9 : tie.Need-mul-t9 Inv-loop μ-loop
 mul-t9 c = omega arith
 
--- src/pieces.rt:25:1
 returns : tie.Need-returns Inv-loop μ-loop
 returns c =
     let at = c .before in

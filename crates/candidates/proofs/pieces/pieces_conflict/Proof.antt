@@ -1,3 +1,4 @@
+-- `candidates::pieces::pieces_conflict` meets its contract. Assumes nothing.
 use mathlib.Core.Bool.{Bool, true, false}
 use mathlib.Core.List.{List, map}
 use mathlib.Core.Path.{_≡_, sym, ap, _∙_}
@@ -17,9 +18,6 @@ use Rattle.candidates.specs.Pieces.{partsIn, partConflicts}
 use Rattle.candidates.proofs.PieceLaws.{partFrom, none-yet, none-more, some-below, pieces-conflict-below, window}
 use Rattle.candidates.proofs.pieces.pieces_conflict.Statement.{statement}
 use Rattle.candidates.proofs.pieces.pieces_conflict.Tie as tie
-use Rattle.candidates.proofs.pieces.pieces_conflict.Reads as reads
-use Rattle.candidates.proofs.pieces.pieces_conflict.Lts as lts
-use Rattle.candidates.proofs.pieces.part_conflicts.Reads as part-conflicts-reads
 
 abbrev Inv-loop : tie.InvT-loop
 Inv-loop turned k q l dx dy gap base sizes n i₀ i =
@@ -29,7 +27,6 @@ Inv-loop turned k q l dx dy gap base sizes n i₀ i =
 abbrev μ-loop : tie.MeasureT-loop
 μ-loop turned k q l dx dy gap base sizes n i₀ i = n - i
 
--- src/pieces.rt:70:16
 -- ---- what is known of one part
 
 -- the test of part i, as the loop makes it
@@ -63,77 +60,59 @@ tested c =
 mul-base : tie.Need-mul-base Inv-loop μ-loop
 mul-base c = omega arith
 
--- src/pieces.rt:70:16
 add-base : tie.Need-add-base Inv-loop μ-loop
 add-base c = omega arith
 
--- src/pieces.rt:74:5
 loop-holds : tie.Need-loop-holds Inv-loop μ-loop
 loop-holds c = (omega arith, none-yet _)
 
--- src/pieces.rt:75:27
 mul-from : tie.Need-mul-from Inv-loop μ-loop
 mul-from c = omega arith
 
--- src/pieces.rt:75:20
 add-from : tie.Need-add-from Inv-loop μ-loop
 add-from c = omega arith
 
--- src/pieces.rt:76:25
 mul-to : tie.Need-mul-to Inv-loop μ-loop
 mul-to c = omega arith
 
--- src/pieces.rt:76:25
 array-read-to : tie.Need-array-read-to Inv-loop μ-loop
 array-read-to c = omega arith
 
--- src/pieces.rt:76:25
 mul-to-2 : tie.Need-mul-to-2 Inv-loop μ-loop
 mul-to-2 c = omega (arith, c .before .before .before .before .pre .0 .0 .0 .short (c .before .loop .i) (c .loop-test .taken))
 
--- src/pieces.rt:76:18
 add-to : tie.Need-add-to Inv-loop μ-loop
 add-to c = omega (arith, c .before .before .before .before .pre .0 .0 .0 .short (c .before .loop .i) (c .loop-test .taken))
 
--- src/pieces.rt:77:27
 mul-part-conflicts : tie.Need-mul-part-conflicts Inv-loop μ-loop
 mul-part-conflicts c = omega (arith, c .before .before .before .before .pre .0 .0 .0 .short (c .before .loop .i) (c .loop-test .taken))
 
--- src/pieces.rt:77:27
 sub-part-conflicts : tie.Need-sub-part-conflicts Inv-loop μ-loop
 sub-part-conflicts c = omega (arith, c .before .before .before .before .pre .0 .0 .0 .short (c .before .loop .i) (c .loop-test .taken))
 
--- src/pieces.rt:77:27
 part-part-conflicts-start : tie.Need-part-part-conflicts-start Inv-loop μ-loop
 part-part-conflicts-start c = omega (arith, c .before .before .before .before .pre .0 .0 .0 .short (c .before .loop .i) (c .loop-test .taken))
 
--- src/pieces.rt:77:27
 part-part-conflicts-end : tie.Need-part-part-conflicts-end Inv-loop μ-loop
 part-part-conflicts-end c = omega (arith, c .before .before .before .before .pre .0 .0 .0 .short (c .before .loop .i) (c .loop-test .taken))
 
--- src/pieces.rt:77:12
 part-conflicts-requires : tie.Need-part-conflicts-requires Inv-loop μ-loop
 part-conflicts-requires c κs = (c .before .before .before .before .before .pre .0 .1, c .before .before .before .before .before .pre .1)
 
--- src/pieces.rt:78:13
 returns : tie.Need-returns Inv-loop μ-loop
 returns c =
     let e = c .before .before .before .before .before .before .before in
     answer e true (some-below _ (c .before .before .before .before .loop .i) _ (c .before .before .before .loop-test .taken) (sym (tested (c .before)) ∙ c .if1 .taken))
 
--- src/pieces.rt:80:9
 add-i : tie.Need-add-i Inv-loop μ-loop
 add-i c = omega arith
 
--- src/pieces.rt:74:5
 loop-less : tie.Need-loop-less Inv-loop μ-loop
 loop-less c = search needs
 
--- src/pieces.rt:74:5
 loop-again : tie.Need-loop-again Inv-loop μ-loop
 loop-again c = (omega arith, none-more _ (c .before .before .before .before .loop .i) (c .before .before .before .before .loop .inv .1) (sym (tested (c .before)) ∙ c .if1 .left))
 
--- src/pieces.rt:66:1
 returns-2 : tie.Need-returns-2 Inv-loop μ-loop
 returns-2 c =
     let e = c .before .before .before .before in

@@ -1,3 +1,4 @@
+-- `candidates::placements::end_of` meets its contract. Assumes nothing.
 use mathlib.Core.Path.{_≡_, sym, ap, _∙_}
 use lib.IntN.{pos, natAbs, _+ℤ_}
 use lib.Signed.{ltZ}
@@ -7,36 +8,28 @@ use Rattle.candidates.proofs.PlacementLaws.{wide-fits, moved-fits, move
 use borrow.Author.Needs.{needs}
 use Rattle.candidates.proofs.placements.end_of.Statement.{statement}
 use Rattle.candidates.proofs.placements.end_of.Tie as tie
-use Rattle.candidates.proofs.placements.end_of.Reads as reads
-use Rattle.candidates.proofs.placements.end_of.Lts as lts
 
--- src/placements.rt:57:14
 cast-x : tie.Need-cast-x
 cast-x c = wide-fits (c .args .high) (c .fits .high)
 
--- src/placements.rt:57:30
 cast-x-2 : tie.Need-cast-x-2
 cast-x-2 c = search needs
 
--- src/placements.rt:57:13
 add-x : tie.Need-add-x
 add-x c = moved-fits (c .args .high) (c .args .by) (c .fits .high) (c .pre)
 
--- src/placements.rt:59:9
 value : (c : tie.Start) → toZ w64 (ofZ w64 (toZ w64 (ofZ w64 (toZ w16 (ofZ w16 (c .args .high)))) +ℤ toZ w64 (c .args .by))) ≡ c .args .high +ℤ pos (c .args .by)
 value c = moved-value (c .args .high) (c .args .by) (c .fits .high) (c .pre)
 
 returns : tie.Need-returns
 returns c = end-before _ (ap (λ z. ltZ z (pos 0)) (sym (value (c .before))) ∙ c .if1 .taken)
 
--- src/placements.rt:61:5
 cast-result : tie.Need-cast-result
 cast-result c = (
   rw (value (c .before)) (end-nonneg (c .before .args .high +ℤ pos (c .before .args .by)) (ap (λ z. ltZ z (pos 0)) (sym (value (c .before))) ∙ c .if1 .left)),
   rw (value (c .before)) (end-fits (c .before .args .high) (c .before .args .by) (c .before .fits .high) (c .before .pre)),
 )
 
--- src/placements.rt:53:1
 returns-2 : tie.Need-returns-2
 returns-2 c = ap natAbs (value (c .before)) ∙ end-number _ (ap (λ z. ltZ z (pos 0)) (sym (value (c .before))) ∙ c .if1 .left)
 

@@ -1,42 +1,33 @@
+-- `candidates::placements::extent` meets its contract. Assumes nothing.
 use mathlib.Core.Path.{_∙_}
 use native.Mathlib.Omega.{arith}
 use Rattle.candidates.specs.Placements.{extentAt}
 use borrow.Author.Needs.{needs}
 use Rattle.candidates.proofs.placements.extent.Statement.{statement}
 use Rattle.candidates.proofs.placements.extent.Tie as tie
-use Rattle.candidates.proofs.placements.extent.Reads as reads
-use Rattle.candidates.proofs.placements.extent.Lts as lts
-use Rattle.candidates.proofs.placements.end_of.Reads as end-of-reads
 
--- src/placements.rt:70:16
 mul-e : tie.Need-mul-e
 mul-e c = search needs
 
--- src/placements.rt:70:16
 add-e : tie.Need-add-e
 add-e c = search needs
 
--- src/placements.rt:70:13
 mul-e-2 : tie.Need-mul-e-2
 mul-e-2 c = search needs
 
--- src/placements.rt:70:13
 array-copy-out-e : tie.Need-array-copy-out-e
 array-copy-out-e c = search needs
 
--- src/placements.rt:71:21
 mul-end-of : tie.Need-mul-end-of
 mul-end-of c =
     let e = c .before .before .before in
     omega (arith, e .pre .0 .0 .across _ (e .pre .1 .0))
 
--- src/placements.rt:71:5
 end-of-requires : tie.Need-end-of-requires
 end-of-requires c κs =
     let e = c .before .before .before .before in
     omega (arith, e .pre .0 .0 .across _ (e .pre .1 .0))
 
--- src/placements.rt:65:1
 returns : tie.Need-returns
 unfolding extentAt
 returns c = c .end-of .ensures ∙ search needs

@@ -1,24 +1,18 @@
+-- `candidates::placements::is_candidate` meets its contract. Assumes nothing.
 use Rattle.candidates.specs.Placements.{offered}
 use borrow.Author.Needs.{needs}
 use Rattle.candidates.proofs.placements.is_candidate.Statement.{statement}
 use Rattle.candidates.proofs.placements.is_candidate.Tie as tie
-use Rattle.candidates.proofs.placements.is_candidate.Reads as reads
-use Rattle.candidates.proofs.placements.is_candidate.Lts as lts
-use Rattle.candidates.proofs.placements.is_placement.Reads as is-placement-reads
 
--- src/placements.rt:47:37
 div-is-placement : tie.Need-div-is-placement
 div-is-placement c = search needs
 
--- src/placements.rt:47:56
 rem-is-placement : tie.Need-rem-is-placement
 rem-is-placement c = search needs
 
--- src/placements.rt:47:5
 is-placement-requires : tie.Need-is-placement-requires
 is-placement-requires c κs = search needs
 
--- src/placements.rt:42:1
 returns : tie.Need-returns
 unfolding offered
 returns c = c .is-placement .ensures

@@ -1,3 +1,4 @@
+-- `candidates::placements::is_placement` meets its contract. Assumes nothing.
 use mathlib.Core.Bool.{true}
 use mathlib.Core.Path.{_≡_}
 use Prim.Native.Nat.{_<_}
@@ -12,12 +13,7 @@ use Rattle.candidates.proofs.PlacementLaws.{past-board, on-dots, turn-r
 use borrow.Author.Needs.{needs}
 use Rattle.candidates.proofs.placements.is_placement.Statement.{statement}
 use Rattle.candidates.proofs.placements.is_placement.Tie as tie
-use Rattle.candidates.proofs.placements.is_placement.Reads as reads
-use Rattle.candidates.proofs.placements.is_placement.Lts as lts
-use Rattle.candidates.proofs.placements.stays_on_board.Reads as stays-on-board-reads
-use Rattle.words.proofs.bits.test_bit.Reads as test-bit-reads
 
--- src/placements.rt:31:9
 -- on the dots
 dots : (c : tie.Else1) → (c .before .before .before .args .column < c .before .before .before .args .view .columns) × (c .before .before .before .args .row < c .before .before .before .args .view .rows)
 dots c =
@@ -37,19 +33,15 @@ returns c =
     let e = c .before .before .before in
     past-board (e .args .column) (e .args .view .columns) (e .args .row) (e .args .view .rows) _ _ (c .if1 .taken)
 
--- src/placements.rt:34:49
 mul-test-bit : tie.Need-mul-test-bit
 mul-test-bit c = search needs
 
--- src/placements.rt:34:49
 array-read-test-bit : tie.Need-array-read-test-bit
 array-read-test-bit c = search needs
 
--- src/placements.rt:34:27
 test-bit-requires : tie.Need-test-bit-requires
 test-bit-requires c κs = search needs
 
--- src/placements.rt:35:9
 returns-2 : tie.Need-returns-2
 unfolding placeable
 returns-2 c =
@@ -57,29 +49,23 @@ returns-2 c =
     refused-turn (ltb (e .args .column) (e .args .view .columns)) (ltb (e .args .row) (e .args .view .rows)) _
     (fitsAt (e .args .view) (boxAt (e .args .boxes) (e .args .kind) (e .args .rotation)) (e .args .column) (e .args .row)) (turn-refused (getD (e .args .view .rotations) (e .args .kind) 0) (e .args .rotation) _ (e .pre .0 .rotations _ (e .pre .1)) (c .before .test-bit .ensures) (c .if2 .taken))
 
--- src/placements.rt:38:29
 mul-stays-on-board : tie.Need-mul-stays-on-board
 mul-stays-on-board c = search needs
 
--- src/placements.rt:38:29
 add-stays-on-board : tie.Need-add-stays-on-board
 add-stays-on-board c = omega (arith, turn (c .before))
 
--- src/placements.rt:38:26
 mul-stays-on-board-2 : tie.Need-mul-stays-on-board-2
 mul-stays-on-board-2 c = omega (arith, turn (c .before))
 
--- src/placements.rt:38:26
 array-copy-out-stays-on-board : tie.Need-array-copy-out-stays-on-board
 array-copy-out-stays-on-board c = omega (arith, turn (c .before))
 
--- src/placements.rt:38:5
 stays-on-board-requires : tie.Need-stays-on-board-requires
 stays-on-board-requires c κs =
     let e = c .before .before .before .before .before .before .before .before in
     (e .pre .0, dots (c .before .before .before .before .before))
 
--- src/placements.rt:26:1
 returns-3 : tie.Need-returns-3
 unfolding placeable
 returns-3 c =

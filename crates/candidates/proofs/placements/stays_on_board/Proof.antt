@@ -1,3 +1,4 @@
+-- `candidates::placements::stays_on_board` meets its contract. Assumes nothing.
 use mathlib.Core.Path.{_≡_, _∙_}
 use Prim.Native.Nat.{_*_}
 use borrow.Author.Needs.{needs}
@@ -8,33 +9,25 @@ use native.Mathlib.Omega.{arith}
 use Rattle.candidates.specs.Placements.{within, fitsAt}
 use Rattle.candidates.proofs.placements.stays_on_board.Statement.{statement}
 use Rattle.candidates.proofs.placements.stays_on_board.Tie as tie
-use Rattle.candidates.proofs.placements.stays_on_board.Reads as reads
-use Rattle.candidates.proofs.placements.stays_on_board.Lts as lts
-use Rattle.candidates.proofs.placements.stays_within.Reads as stays-within-reads
 
--- src/placements.rt:22:36
 mul-stays-within : tie.Need-mul-stays-within
 mul-stays-within c = omega (arith, c .before .pre .0 .across _ (c .before .pre .1 .0))
 
--- src/placements.rt:22:5
 stays-within-requires : tie.Need-stays-within-requires
 stays-within-requires c κs =
     let e = c .before .before .before in
     omega (arith, e .pre .0 .across _ (e .pre .1 .0))
 
--- src/placements.rt:22:102
 mul-stays-within-2 : tie.Need-mul-stays-within-2
 mul-stays-within-2 c =
     let e = c .before .before .before .before .before in
     omega (arith, e .pre .0 .up _ (e .pre .1 .1))
 
--- src/placements.rt:22:71
 stays-within-requires-2 : tie.Need-stays-within-requires-2
 stays-within-requires-2 c κs =
     let e = c .before .before .before .before .before .before .before in
     omega (arith, e .pre .0 .up _ (e .pre .1 .1))
 
--- src/placements.rt:18:1
 returns : tie.Need-returns
 unfolding fitsAt
 returns c =

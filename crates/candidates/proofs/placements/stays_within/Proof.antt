@@ -1,40 +1,31 @@
+-- `candidates::placements::stays_within` meets its contract. Assumes nothing.
 use Rattle.candidates.specs.Placements.{within}
 use Rattle.candidates.proofs.PlacementLaws.{wide-fits, moved-fits, moved-value, limit-value}
 use borrow.Author.Needs.{needs}
 use Rattle.candidates.proofs.placements.stays_within.Statement.{statement}
 use Rattle.candidates.proofs.placements.stays_within.Tie as tie
-use Rattle.candidates.proofs.placements.stays_within.Reads as reads
-use Rattle.candidates.proofs.placements.stays_within.Lts as lts
 
--- src/placements.rt:14:12
 cast-result : tie.Need-cast-result
 cast-result c = wide-fits (c .args .low) (c .fits .low)
 
--- src/placements.rt:14:27
 cast-result-2 : tie.Need-cast-result-2
 cast-result-2 c = search needs
 
--- src/placements.rt:14:11
 add-result : tie.Need-add-result
 add-result c = moved-fits (c .args .low) (c .args .by) (c .fits .low) (c .pre .0)
 
--- src/placements.rt:14:43
 cast-result-3 : tie.Need-cast-result-3
 cast-result-3 c = wide-fits (c .args .high) (c .fits .high)
 
--- src/placements.rt:14:59
 cast-result-4 : tie.Need-cast-result-4
 cast-result-4 c = search needs
 
--- src/placements.rt:14:42
 add-result-2 : tie.Need-add-result-2
 add-result-2 c = moved-fits (c .args .high) (c .args .by) (c .fits .high) (c .pre .0)
 
--- src/placements.rt:14:74
 cast-result-5 : tie.Need-cast-result-5
 cast-result-5 c = search needs
 
--- src/placements.rt:10:1
 returns : tie.Need-returns
 unfolding within
 returns c =

@@ -1,3 +1,4 @@
+-- `candidates::turned::turn_all` meets its contract. Assumes nothing.
 use mathlib.Core.Path.{_≡_}
 use Prim.Native.Nat.{_-_, _≤_, _<_}
 use native.Mathlib.Omega.{arith}
@@ -9,9 +10,6 @@ use Rattle.candidates.proofs.TurnLaws.{KindsTurned, kinds-none, kinds-m
 use Rattle.candidates.proofs.ViewLaws.{kind-in, part-short}
 use Rattle.candidates.proofs.turned.turn_all.Statement.{statement}
 use Rattle.candidates.proofs.turned.turn_all.Tie as tie
-use Rattle.candidates.proofs.turned.turn_all.Reads as reads
-use Rattle.candidates.proofs.turned.turn_all.Lts as lts
-use Rattle.candidates.proofs.turned.turn_kind.Reads as turn-kind-reads
 
 abbrev Inv-loop : tie.InvT-loop
 Inv-loop job view turned₀ kind₀ turned kind = (kind ≤ kindCount (content job)) × (length turned ≡ 4096) × KindsTurned job turned kind
@@ -19,25 +17,20 @@ Inv-loop job view turned₀ kind₀ turned kind = (kind ≤ kindCount (content j
 abbrev μ-loop : tie.MeasureT-loop
 μ-loop job view turned₀ kind₀ turned kind = view .kinds - kind
 
--- src/turned.rt:120:5
 loop-holds : tie.Need-loop-holds Inv-loop μ-loop
 loop-holds c = (omega arith, c .before .pre .1, kinds-none _ _)
 
--- src/turned.rt:121:9
 turn-kind-requires : tie.Need-turn-kind-requires Inv-loop μ-loop
 turn-kind-requires c κs =
     let start = c .before .before .before .before .before in
     ((start .pre .0, rw (start .pre .0 .view .kinds) at (c .before .if1 .taken)), c .before .before .before .loop .inv .1)
 
--- src/turned.rt:122:9
 add-kind : tie.Need-add-kind Inv-loop μ-loop
 add-kind c = search needs
 
--- src/turned.rt:120:5
 loop-less : tie.Need-loop-less Inv-loop μ-loop
 loop-less c = search needs
 
--- src/turned.rt:120:5
 loop-again : tie.Need-loop-again Inv-loop μ-loop
 loop-again c =
     let call = c .before in
@@ -53,11 +46,9 @@ loop-again c =
           (λ t l. part-short s v (start .pre .0) t (omega arith)) (at .loop .inv .2) (call .turn-kind .ensures),
     )
 
--- src/turned.rt:115:1
 same-length : tie.Need-same-length Inv-loop μ-loop
 same-length c = search needs
 
--- src/turned.rt:115:1
 returns : tie.Need-returns Inv-loop μ-loop
 returns c =
     kinds-all _ _ (c .before .before .loop .kind) (omega (arith, c .before .before .before .before .pre .0 .view .kinds, c .if1 .left)) (c .before .before .loop .inv .1)

@@ -1,3 +1,4 @@
+-- `candidates::turned::turn_part` meets its contract. Assumes nothing.
 use mathlib.Core.Path.{_≡_}
 use Prim.Native.Nat.{_-_, _≤_}
 use native.Mathlib.Omega.{arith}
@@ -8,9 +9,6 @@ use Rattle.model.proofs.Records.{length-vertices}
 use Rattle.candidates.proofs.TurnLaws.{TurnedTo, turned-none, turned-more, turned-all}
 use Rattle.candidates.proofs.turned.turn_part.Statement.{statement}
 use Rattle.candidates.proofs.turned.turn_part.Tie as tie
-use Rattle.candidates.proofs.turned.turn_part.Reads as reads
-use Rattle.candidates.proofs.turned.turn_part.Lts as lts
-use Rattle.candidates.proofs.turned.turn_vertices.Reads as turn-vertices-reads
 
 abbrev Inv-loop : tie.InvT-loop
 Inv-loop job from n turned₀ q k₀ turned k =
@@ -19,35 +17,27 @@ Inv-loop job from n turned₀ q k₀ turned k =
 abbrev μ-loop : tie.MeasureT-loop
 μ-loop job from n turned₀ q k₀ turned k = 4 - k
 
--- src/turned.rt:92:5
 loop-holds : tie.Need-loop-holds Inv-loop μ-loop
 loop-holds c = (omega arith, omega arith, turned-none _ _ _)
 
--- src/turned.rt:93:48
 mul-turn-vertices : tie.Need-mul-turn-vertices Inv-loop μ-loop
 mul-turn-vertices c = search needs
 
--- src/turned.rt:93:59
 mul-turn-vertices-2 : tie.Need-mul-turn-vertices-2 Inv-loop μ-loop
 mul-turn-vertices-2 c = search needs
 
--- src/turned.rt:93:48
 add-turn-vertices : tie.Need-add-turn-vertices Inv-loop μ-loop
 add-turn-vertices c = search needs
 
--- src/turned.rt:93:9
 turn-vertices-requires : tie.Need-turn-vertices-requires Inv-loop μ-loop
 turn-vertices-requires c κs = search needs
 
--- src/turned.rt:94:9
 add-k : tie.Need-add-k Inv-loop μ-loop
 add-k c = search needs
 
--- src/turned.rt:92:5
 loop-less : tie.Need-loop-less Inv-loop μ-loop
 loop-less c = search needs
 
--- src/turned.rt:92:5
 loop-again : tie.Need-loop-again Inv-loop μ-loop
 loop-again c =
     let call = c .before in
@@ -60,11 +50,9 @@ loop-again c =
           (at .loop .k) (at .loop .inv .1) (omega arith) (at .loop .inv .2) (call .turn-vertices .ensures),
     )
 
--- src/turned.rt:87:1
 same-length : tie.Need-same-length Inv-loop μ-loop
 same-length c = search needs
 
--- src/turned.rt:87:1
 returns : tie.Need-returns Inv-loop μ-loop
 returns c = turned-all _ _ _ _ (c .before .loop .k) (omega arith) (c .before .loop .inv .2)
 

@@ -1,3 +1,4 @@
+-- `candidates::turned::turn_vertex` meets its contract. Assumes nothing.
 use native.Mathlib.Omega.{arith}
 use borrow.Author.Needs.{needs, sfits-of}
 use lib.ListN.{length-set}
@@ -5,25 +6,16 @@ use Rattle.model.specs.Format.{byteAt}
 use Rattle.candidates.proofs.TurnLaws.{byte-fits, vertex-written}
 use Rattle.candidates.proofs.turned.turn_vertex.Statement.{statement}
 use Rattle.candidates.proofs.turned.turn_vertex.Tie as tie
-use Rattle.candidates.proofs.turned.turn_vertex.Reads as reads
-use Rattle.candidates.proofs.turned.turn_vertex.Lts as lts
-use Rattle.candidates.proofs.turned.turned_x.Reads as turned-x-reads
-use Rattle.candidates.proofs.turned.turned_y.Reads as turned-y-reads
-use Rattle.integers.proofs.signed_byte.Reads as signed-byte-reads
 
--- src/turned.rt:53:9
 signed-byte-requires : tie.Need-signed-byte-requires
 signed-byte-requires c κs = search needs
 
--- src/turned.rt:54:40
 add-signed-byte : tie.Need-add-signed-byte
 add-signed-byte c = search needs
 
--- src/turned.rt:54:9
 signed-byte-requires-2 : tie.Need-signed-byte-requires-2
 signed-byte-requires-2 c κs = search needs
 
--- src/turned.rt:55:18
 turned-x-requires : tie.Need-turned-x-requires
 turned-x-requires c κs =
     let start = c .before .before in (
@@ -34,35 +26,27 @@ turned-x-requires c κs =
       ),
     )
 
--- src/turned.rt:55:5
 mul-turned : tie.Need-mul-turned
 mul-turned c = search needs
 
--- src/turned.rt:55:5
 slice-set-from-turned : tie.Need-slice-set-from-turned
 slice-set-from-turned c = search needs
 
--- src/turned.rt:56:22
 turned-y-requires : tie.Need-turned-y-requires
 turned-y-requires c κs = turned-x-requires (c .before) κs
 
--- src/turned.rt:56:12
 add-t8 : tie.Need-add-t8
 add-t8 c = search needs
 
--- src/turned.rt:56:5
 mul-t11 : tie.Need-mul-t11
 mul-t11 c = search needs
 
--- src/turned.rt:56:5
 slice-set-from-turned-2 : tie.Need-slice-set-from-turned-2
 slice-set-from-turned-2 c = simp length-set (omega arith)
 
--- src/turned.rt:49:1
 same-length : tie.Need-same-length
 same-length c = search needs
 
--- src/turned.rt:49:1
 returns : tie.Need-returns
 unfolding byteAt
 returns c =
