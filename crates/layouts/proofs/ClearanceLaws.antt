@@ -1,10 +1,9 @@
 -- Entries that are candidates of an accepted job, and conflicts among them. Assumes nothing.
 use mathlib.Core.Bool.{Bool, true, false, not, _&&_}
-use mathlib.Core.List.{List, [], _∷_, _++_, map}
+use mathlib.Core.List.{List, [], _∷_, _++_}
 use mathlib.Core.Path.{_≡_, refl, sym, ap, ap₂, _∙_}
-use Prim.Native.Nat.{ℕ, zero, suc, _+_, _*_, _≤_, _<_}
+use Prim.Native.Nat.{ℕ, _+_, _<_}
 use native.Mathlib.Omega.{arith}
-use lib.ListN.{length}
 use Rattle.model.specs.Content.{Job, kindCount}
 use Rattle.model.specs.Format.{content}
 use Rattle.model.specs.Layout.{Entry, Layout, entryKind, isEntry, conflict, apart}

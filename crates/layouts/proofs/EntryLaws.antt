@@ -1,19 +1,18 @@
 -- A layout's entries, one after the other: what a loop over them has tested or counted. Assumes nothing.
-use mathlib.Core.Bool.{Bool, true, false, not, cond, _&&_, and-true}
-use mathlib.Core.List.{List, [], _∷_, _++_, map}
+use mathlib.Core.Bool.{Bool, true, cond, _&&_}
+use mathlib.Core.List.{List, [], _∷_, _++_}
 use mathlib.Core.Path.{_≡_, refl, sym, ap, ap₂, _∙_}
-use Prim.Native.Nat.{ℕ, zero, suc, _+_, _*_, _-_, _≤_, _<_}
+use Prim.Native.Nat.{ℕ, _+_, _*_, _≤_, _<_}
 use native.Mathlib.Nat.{mul-le-mul, add-assoc, add-zero, zero-add}
 use native.Mathlib.Omega.{arith}
 use borrow.Author.Tests.{eq-eqb, ne-eqb}
 use lib.Dec.{ltb, eqb}
-use lib.ListN.{length}
-use Rattle.model.specs.Layout.{Entry, Layout, copies}
+use Rattle.model.specs.Layout.{Entry, copies}
 use Rattle.model.specs.Lists.{all, countOf, rising, below}
 use Rattle.model.specs.Services.{entryIn}
 use Rattle.model.proofs.Folds.{map-below-more, all-numbers-more, all-below-more}
 use Rattle.layouts.specs.Entries.{entriesIn}
-use Rattle.layouts.specs.Passing.{numberBy, inOrderBy, orderedAt}
+use Rattle.layouts.specs.Passing.{numberBy, inOrderBy}
 
 -- ---- one entry more
 

@@ -1,17 +1,17 @@
 -- What the code tests of a layout is what the model says: order, copies, candidates, length, and the service's answers. Assumes nothing.
-use mathlib.Core.Bool.{Bool, true, false, not, cond, _&&_, _||_}
-use mathlib.Core.List.{List, [], _∷_, _++_, map}
-use mathlib.Core.Logic.{_⊎_, ⊎-elim}
+use mathlib.Core.Bool.{Bool, true, false, not, _&&_}
+use mathlib.Core.List.{List, [], _∷_, map}
+use mathlib.Core.Logic.{⊎-elim}
 use mathlib.Core.Path.{_≡_, refl, sym, ap, ap₂, _∙_}
 use Prim.Native.Nat.{ℕ, zero, suc, _+_, _*_, _-_, _/_, _≤_, _<_, max}
 use native.Mathlib.Numerals.{add-one}
 use native.Mathlib.Omega.{arith}
 use borrow.Author.Tests.{lt-ltb, le-ltb, ltb-false, eq-eqb, ne-eqb}
 use lib.Dec.{ltb, eqb}
-use lib.ListN.{length, getD}
+use lib.ListN.{length}
 use Rattle.words.specs.Number.{count}
 use Rattle.words.proofs.Cases.{le-or-lt}
-use Rattle.model.specs.Content.{Kind, Job, kindAt, kindCount, pieceCount}
+use Rattle.model.specs.Content.{Kind, Job, kindCount, pieceCount}
 use Rattle.model.specs.Format.{Got, bad, got, refusal, content, cause6, kindsUnfit, classesOf, kindsLength, kindsGot, kindsIn, kindsStated}
 use Rattle.model.specs.Grid.{numberOf, rows}
 use Rattle.model.specs.Layout.{Entry, Layout, entryNumber, entryKind, isEntry, entryExtent, inOrder, ordered, copies, demandMet, apart, passes, layoutLength}
@@ -26,10 +26,10 @@ use Rattle.candidates.specs.Boxes.{BoxesOf}
 use Rattle.candidates.specs.Placements.{placeable}
 use Rattle.candidates.specs.Turned.{Viewed}
 use Rattle.candidates.specs.declared.boxes.Boxes.{Boxes}
-use Rattle.candidates.proofs.PreparedLaws.{bounded, placeable-is, extent-is}
+use Rattle.candidates.proofs.PreparedLaws.{placeable-is, extent-is}
 use Rattle.candidates.proofs.ViewLaws.{kind-in}
 use Rattle.layouts.specs.Entries.{entriesIn}
-use Rattle.layouts.specs.Passing.{numberBy, inOrderBy, orderedAt, orderedBy, demandedBy, demandMetBy, admittedBy, extentBy, checkedAs}
+use Rattle.layouts.specs.Passing.{inOrderBy, orderedBy, demandedBy, demandMetBy, admittedBy, extentBy, checkedAs}
 use Rattle.layouts.proofs.ClearanceLaws.{of-kind, turned-once}
 
 -- ---- tests that agree

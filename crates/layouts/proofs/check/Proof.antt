@@ -1,4 +1,5 @@
-use mathlib.Core.Path.{_≡_, refl, sym, ap, _∙_}
+-- `layouts::check` meets its contract. Assumes nothing.
+use mathlib.Core.Path.{refl, sym, ap, _∙_}
 use denote.Ref.{now}
 use Rattle.model.specs.declared.Checked.the-variants as C
 use Rattle.candidates.specs.Turned.{Viewed}
@@ -6,14 +7,7 @@ use Rattle.layouts.proofs.PassingLaws.{check-refused, check-accepted}
 use borrow.Author.Needs.{needs}
 use Rattle.layouts.proofs.check.Statement.{statement}
 use Rattle.layouts.proofs.check.Tie as tie
-use Rattle.layouts.proofs.check.Reads as reads
-use Rattle.layouts.proofs.check.Lts as lts
-use Rattle.candidates.proofs.boxes.boxes_of.Reads as boxes-of-reads
-use Rattle.candidates.proofs.turned.turn_all.Reads as turn-all-reads
-use Rattle.job.proofs.open.Reads as open-reads
-use Rattle.layouts.proofs.passing.judged.Reads as judged-reads
 
--- src/lib.rt:20:9
 open-requires : tie.Need-open-requires
 open-requires c κs = search needs
 
@@ -21,40 +15,32 @@ open-requires c κs = search needs
 viewed : (c : tie.Else1) → Viewed (now (c .before .before .before .before .args .job)) (c .before .«open» .result .view)
 viewed c = record { accepted = sym (c .before .«open» .ensures .0) ∙ c .if1 .left; view = c .before .«open» .ensures .1 (c .if1 .left) }
 
--- src/lib.rt:23:9
 returns : tie.Need-returns
 returns c =
     let o = c .before .«open» in
     let e = c .before .before .before .before in
     ap C.Refused (o .ensures .0) ∙ sym (check-refused (now (e .args .job)) (now (e .args .layout)) (λ z. c .if1 .taken (o .ensures .0 ∙ z)))
 
--- src/lib.rt:27:25
 slice-aggregate-turn-all : tie.Need-slice-aggregate-turn-all
 slice-aggregate-turn-all c = search needs
 
--- src/lib.rt:27:5
 turn-all-requires : tie.Need-turn-all-requires
 turn-all-requires c κs = (viewed (c .before .before), refl)
 
--- src/lib.rt:28:37
 slice-aggregate-boxes-of : tie.Need-slice-aggregate-boxes-of
 slice-aggregate-boxes-of c = search needs
 
--- src/lib.rt:28:9
 boxes-of-requires : tie.Need-boxes-of-requires
 boxes-of-requires c κs = (viewed (c .before .before .before .before .before), c .before .before .turn-all .ensures)
 
--- src/lib.rt:29:32
 slice-aggregate-judged : tie.Need-slice-aggregate-judged
 slice-aggregate-judged c = search needs
 
--- src/lib.rt:29:5
 judged-requires : tie.Need-judged-requires
 judged-requires c κs =
     let turn = c .before .before .before .before in
     record { viewed = viewed (turn .before .before .before); turned = turn .turn-all .ensures; boxes = c .before .boxes-of .ensures }
 
--- src/lib.rt:17:1
 returns-2 : tie.Need-returns-2
 returns-2 c =
     let test = c .before .before .before .before .before .before .before .before in

@@ -1,3 +1,4 @@
+-- `layouts::admission::all_admitted` meets its contract. Assumes nothing.
 use mathlib.Core.Path.{_≡_, ap, _∙_}
 use Prim.Native.Nat.{ℕ, _-_, _≤_}
 use native.Mathlib.Omega.{arith}
@@ -9,10 +10,6 @@ use Rattle.layouts.specs.Passing.{admittedBy}
 use Rattle.layouts.proofs.EntryLaws.{all-entries-none, all-entries-next}
 use Rattle.layouts.proofs.admission.all_admitted.Statement.{statement}
 use Rattle.layouts.proofs.admission.all_admitted.Tie as tie
-use Rattle.layouts.proofs.admission.all_admitted.Reads as reads
-use Rattle.layouts.proofs.admission.all_admitted.Lts as lts
-use Rattle.layouts.proofs.admission.is_admitted.Reads as is-admitted-reads
-use Rattle.layouts.proofs.entries.entry_at.Reads as entry-at-reads
 
 abbrev Inv-loop : tie.InvT-loop
 Inv-loop view boxes layout n ok₀ i₀ ok i = (i ≤ n) × (ok ≡ all (admittedBy view boxes) (entriesIn layout i))
@@ -20,27 +17,21 @@ Inv-loop view boxes layout n ok₀ i₀ ok i = (i ≤ n) × (ok ≡ all (admitte
 abbrev μ-loop : tie.MeasureT-loop
 μ-loop view boxes layout n ok₀ i₀ ok i = n - i
 
--- src/admission.rt:33:5
 loop-holds : tie.Need-loop-holds Inv-loop μ-loop
 loop-holds c = (omega arith, all-entries-none _ _)
 
--- src/admission.rt:34:44
 entry-at-requires : tie.Need-entry-at-requires Inv-loop μ-loop
 entry-at-requires c κs = omega arith
 
--- src/admission.rt:34:19
 is-admitted-requires : tie.Need-is-admitted-requires Inv-loop μ-loop
 is-admitted-requires c κs = c .before .before .before .before .pre .0 .0
 
--- src/admission.rt:35:9
 add-i : tie.Need-add-i Inv-loop μ-loop
 add-i c = omega arith
 
--- src/admission.rt:33:5
 loop-less : tie.Need-loop-less Inv-loop μ-loop
 loop-less c = search needs
 
--- src/admission.rt:33:5
 loop-again : tie.Need-loop-again Inv-loop μ-loop
 loop-again c =
     let at = c .before .before .before in
@@ -50,7 +41,6 @@ loop-again c =
           (c .is-admitted .ensures ∙ ap (admittedBy (e .args .view) (e .args .boxes)) (c .before .entry-at .ensures .same)),
     )
 
--- src/admission.rt:27:1
 returns : tie.Need-returns Inv-loop μ-loop
 returns c =
     let at = c .before in

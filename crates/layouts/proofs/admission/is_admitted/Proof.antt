@@ -1,21 +1,16 @@
+-- `layouts::admission::is_admitted` meets its contract. Assumes nothing.
 use Rattle.layouts.specs.Entries.{asEntry}
 use Rattle.layouts.proofs.AdmissionLaws.{refused-kind, known-kind}
 use borrow.Author.Needs.{needs}
 use Rattle.layouts.proofs.admission.is_admitted.Statement.{statement}
 use Rattle.layouts.proofs.admission.is_admitted.Tie as tie
-use Rattle.layouts.proofs.admission.is_admitted.Reads as reads
-use Rattle.layouts.proofs.admission.is_admitted.Lts as lts
-use Rattle.candidates.proofs.placements.is_placement.Reads as is-placement-reads
 
--- src/admission.rt:21:9
 returns : tie.Need-returns
 returns c = let e = c .before .before .before in refused-kind (e .args .view) (e .args .boxes) (asEntry (e .args .e)) (c .if1 .taken)
 
--- src/admission.rt:23:5
 is-placement-requires : tie.Need-is-placement-requires
 is-placement-requires c κs = search needs
 
--- src/admission.rt:16:1
 returns-2 : tie.Need-returns-2
 returns-2 c =
     let e = c .before .before .before .before in

@@ -1,3 +1,4 @@
+-- `layouts::clearance::all_apart` meets its contract. Assumes nothing.
 use mathlib.Core.Path.{_≡_, ap, _∙_}
 use Prim.Native.Nat.{ℕ, _-_, _≤_}
 use native.Mathlib.Omega.{arith}
@@ -9,9 +10,6 @@ use Rattle.layouts.specs.Entries.{entriesIn}
 use Rattle.layouts.proofs.ClearanceLaws.{apart-none, apart-next}
 use Rattle.layouts.proofs.clearance.all_apart.Statement.{statement}
 use Rattle.layouts.proofs.clearance.all_apart.Tie as tie
-use Rattle.layouts.proofs.clearance.all_apart.Reads as reads
-use Rattle.layouts.proofs.clearance.all_apart.Lts as lts
-use Rattle.layouts.proofs.clearance.clear_of_earlier.Reads as clear-of-earlier-reads
 
 abbrev Inv-loop : tie.InvT-loop
 Inv-loop job view turned layout n ok₀ k₀ ok k = (k ≤ n) × (ok ≡ apart (content job) (entriesIn layout k))
@@ -19,32 +17,26 @@ Inv-loop job view turned layout n ok₀ k₀ ok k = (k ≤ n) × (ok ≡ apart (
 abbrev μ-loop : tie.MeasureT-loop
 μ-loop job view turned layout n ok₀ k₀ ok k = n - k
 
--- src/clearance.rt:66:5
 loop-holds : tie.Need-loop-holds Inv-loop μ-loop
 loop-holds c = (omega arith, apart-none _ _)
 
--- src/clearance.rt:67:19
 clear-of-earlier-requires : tie.Need-clear-of-earlier-requires Inv-loop μ-loop
 clear-of-earlier-requires c κs =
     let e = c .before .before .before .before in
     (e .pre .0, record { few = omega arith; whole = omega arith; each = λ i l. e .pre .1 .each i (omega arith) })
 
--- src/clearance.rt:68:9
 add-k : tie.Need-add-k Inv-loop μ-loop
 add-k c = omega arith
 
--- src/clearance.rt:66:5
 loop-less : tie.Need-loop-less Inv-loop μ-loop
 loop-less c = search needs
 
--- src/clearance.rt:66:5
 loop-again : tie.Need-loop-again Inv-loop μ-loop
 loop-again c =
     let at = c .before .before in
     let e = at .before .before .before in
     (omega arith, apart-next (content (now (e .args .job))) (now (e .args .layout)) (at .loop .k) _ _ (at .loop .inv .1) (c .clear-of-earlier .ensures))
 
--- src/clearance.rt:60:1
 returns : tie.Need-returns Inv-loop μ-loop
 returns c =
     let at = c .before in

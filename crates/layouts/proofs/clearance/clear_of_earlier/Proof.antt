@@ -1,5 +1,6 @@
-use mathlib.Core.Bool.{Bool, not}
-use mathlib.Core.Path.{_≡_, sym, ap, ap₂, subst, _∙_}
+-- `layouts::clearance::clear_of_earlier` meets its contract. Assumes nothing.
+use mathlib.Core.Bool.{not}
+use mathlib.Core.Path.{_≡_, ap, ap₂, _∙_}
 use Prim.Native.Nat.{ℕ, _-_, _≤_}
 use native.Mathlib.Omega.{arith}
 use borrow.Author.Needs.{needs}
@@ -8,14 +9,10 @@ use Rattle.model.specs.Format.{content}
 use Rattle.model.specs.Layout.{Entry, conflict, isEntry}
 use Rattle.model.specs.Lists.{all}
 use Rattle.model.specs.Services.{entryIn}
-use Rattle.layouts.specs.Entries.{asEntry, entriesIn}
+use Rattle.layouts.specs.Entries.{entriesIn}
 use Rattle.layouts.proofs.EntryLaws.{all-entries-none, all-entries-next}
 use Rattle.layouts.proofs.clearance.clear_of_earlier.Statement.{statement}
 use Rattle.layouts.proofs.clearance.clear_of_earlier.Tie as tie
-use Rattle.layouts.proofs.clearance.clear_of_earlier.Reads as reads
-use Rattle.layouts.proofs.clearance.clear_of_earlier.Lts as lts
-use Rattle.layouts.proofs.clearance.in_conflict.Reads as in-conflict-reads
-use Rattle.layouts.proofs.entries.entry_at.Reads as entry-at-reads
 
 abbrev Inv-loop : tie.InvT-loop
 Inv-loop job view turned layout k f ok₀ i₀ ok i = (i ≤ k) × (ok ≡ all (λ e. not (conflict (content job) e (entryIn layout k))) (entriesIn layout i))
@@ -23,19 +20,15 @@ Inv-loop job view turned layout k f ok₀ i₀ ok i = (i ≤ k) × (ok ≡ all (
 abbrev μ-loop : tie.MeasureT-loop
 μ-loop job view turned layout k f ok₀ i₀ ok i = k - i
 
--- src/clearance.rt:48:9
 entry-at-requires : tie.Need-entry-at-requires Inv-loop μ-loop
 entry-at-requires c κs = omega arith
 
--- src/clearance.rt:51:5
 loop-holds : tie.Need-loop-holds Inv-loop μ-loop
 loop-holds c = (omega arith, all-entries-none _ _)
 
--- src/clearance.rt:52:51
 entry-at-requires-2 : tie.Need-entry-at-requires-2 Inv-loop μ-loop
 entry-at-requires-2 c κs = omega arith
 
--- src/clearance.rt:52:20
 in-conflict-requires : tie.Need-in-conflict-requires Inv-loop μ-loop
 in-conflict-requires c κs =
     let at = c .before .before in
@@ -48,15 +41,12 @@ in-conflict-requires c κs =
       ),
     )
 
--- src/clearance.rt:53:9
 add-i : tie.Need-add-i Inv-loop μ-loop
 add-i c = search needs
 
--- src/clearance.rt:51:5
 loop-less : tie.Need-loop-less Inv-loop μ-loop
 loop-less c = search needs
 
--- src/clearance.rt:51:5
 loop-again : tie.Need-loop-again Inv-loop μ-loop
 loop-again c =
     let at = c .before .before .before in
@@ -68,7 +58,6 @@ loop-again c =
           (ap not (c .in-conflict .ensures ∙ ap₂ (conflict j) (c .before .entry-at2 .ensures .same) (at .before .entry-at .ensures .same))),
     )
 
--- src/clearance.rt:44:1
 returns : tie.Need-returns Inv-loop μ-loop
 returns c =
     let at = c .before in

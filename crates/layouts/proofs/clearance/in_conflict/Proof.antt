@@ -1,4 +1,5 @@
-use mathlib.Core.Path.{_≡_, sym, ap, ap₂, subst, _∙_}
+-- `layouts::clearance::in_conflict` meets its contract. Assumes nothing.
+use mathlib.Core.Path.{sym, ap, ap₂, subst, _∙_}
 use denote.Ref.{now}
 use Rattle.candidates.specs.Rows.{Near, placed, conflictBetween}
 use Rattle.candidates.proofs.AnswerLaws.{gap-is}
@@ -8,14 +9,7 @@ use Rattle.layouts.proofs.ClearanceLaws.{of-kind, of-view, turned-once,
 use borrow.Author.Needs.{needs}
 use Rattle.layouts.proofs.clearance.in_conflict.Statement.{statement}
 use Rattle.layouts.proofs.clearance.in_conflict.Tie as tie
-use Rattle.layouts.proofs.clearance.in_conflict.Reads as reads
-use Rattle.layouts.proofs.clearance.in_conflict.Lts as lts
-use Rattle.candidates.proofs.conflicts.conflict_between.Reads as conflict-between-reads
-use Rattle.candidates.proofs.conflicts.pair_gap.Reads as pair-gap-reads
-use Rattle.candidates.proofs.pieces.piece_of.Reads as piece-of-reads
-use Rattle.layouts.proofs.clearance.place_of.Reads as place-of-reads
 
--- src/clearance.rt:37:9
 piece-of-requires : tie.Need-piece-of-requires
 piece-of-requires c κs =
     let e = c .before in
@@ -24,7 +18,6 @@ piece-of-requires c κs =
     let v = e .args .view in
     (x, of-kind s v x (asEntry (e .args .e)) (e .pre .1 .0))
 
--- src/clearance.rt:38:9
 piece-of-requires-2 : tie.Need-piece-of-requires-2
 piece-of-requires-2 c κs =
     let e = c .before .before in
@@ -33,7 +26,6 @@ piece-of-requires-2 c κs =
     let v = e .args .view in
     (x, of-kind s v x (asEntry (e .args .f)) (e .pre .1 .1))
 
--- src/clearance.rt:39:9
 pair-gap-requires : tie.Need-pair-gap-requires
 pair-gap-requires c κs =
     let e = c .before .before .before in
@@ -42,15 +34,12 @@ pair-gap-requires c κs =
     let v = e .args .view in
     (bounded s v x, (of-view s v x (asEntry (e .args .e)) (e .pre .1 .0), of-view s v x (asEntry (e .args .f)) (e .pre .1 .1)))
 
--- src/clearance.rt:40:44
 place-of-requires : tie.Need-place-of-requires
 place-of-requires c κs = search needs
 
--- src/clearance.rt:40:60
 place-of-requires-2 : tie.Need-place-of-requires-2
 place-of-requires-2 c κs = search needs
 
--- src/clearance.rt:40:5
 conflict-between-requires : tie.Need-conflict-between-requires
 conflict-between-requires c κs =
     let e = c .before .before .before .before .before .before in
@@ -64,7 +53,6 @@ conflict-between-requires c κs =
       e .pre .0 .1 .size,
     )
 
--- src/clearance.rt:33:1
 returns : tie.Need-returns
 returns c =
     let place2 = c .before in

@@ -1,3 +1,4 @@
+-- `layouts::demands::copies_of` meets its contract. Assumes nothing.
 use mathlib.Core.Path.{_≡_, ap, _∙_}
 use Prim.Native.Nat.{ℕ, _-_, _≤_}
 use native.Mathlib.Omega.{arith}
@@ -8,10 +9,6 @@ use Rattle.layouts.specs.Entries.{entriesIn}
 use Rattle.layouts.proofs.EntryLaws.{copies-none, copies-next}
 use Rattle.layouts.proofs.demands.copies_of.Statement.{statement}
 use Rattle.layouts.proofs.demands.copies_of.Tie as tie
-use Rattle.layouts.proofs.demands.copies_of.Reads as reads
-use Rattle.layouts.proofs.demands.copies_of.Lts as lts
-use Rattle.layouts.proofs.demands.once.Reads as once-reads
-use Rattle.layouts.proofs.entries.entry_at.Reads as entry-at-reads
 
 abbrev Inv-loop : tie.InvT-loop
 Inv-loop kind layout n count₀ i₀ count i = ((i ≤ n) × (count ≤ i)) × (count ≡ copies kind (entriesIn layout i))
@@ -19,31 +16,24 @@ Inv-loop kind layout n count₀ i₀ count i = ((i ≤ n) × (count ≤ i)) × (
 abbrev μ-loop : tie.MeasureT-loop
 μ-loop kind layout n count₀ i₀ count i = n - i
 
--- src/demands.rt:26:5
 loop-holds : tie.Need-loop-holds Inv-loop μ-loop
 loop-holds c = ((omega arith, omega arith), copies-none _ _)
 
--- src/demands.rt:27:13
 entry-at-requires : tie.Need-entry-at-requires Inv-loop μ-loop
 entry-at-requires c κs = omega arith
 
--- src/demands.rt:28:18
 once-requires : tie.Need-once-requires Inv-loop μ-loop
 once-requires c κs = tt
 
--- src/demands.rt:28:9
 add-count : tie.Need-add-count Inv-loop μ-loop
 add-count c = omega arith
 
--- src/demands.rt:29:9
 add-i : tie.Need-add-i Inv-loop μ-loop
 add-i c = omega arith
 
--- src/demands.rt:26:5
 loop-less : tie.Need-loop-less Inv-loop μ-loop
 loop-less c = search needs
 
--- src/demands.rt:26:5
 loop-again : tie.Need-loop-again Inv-loop μ-loop
 loop-again c =
     let at = c .before .before .before .before in (
@@ -51,7 +41,6 @@ loop-again c =
       copies-next _ _ (at .loop .i) _ _ _ (at .loop .inv .1) (ap (λ (e : Entry). e .kind) (c .before .before .entry-at .ensures .same)) (c .once .ensures .0),
     )
 
--- src/demands.rt:20:1
 returns : tie.Need-returns Inv-loop μ-loop
 returns c =
     let at = c .before in

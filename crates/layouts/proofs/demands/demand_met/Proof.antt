@@ -1,3 +1,4 @@
+-- `layouts::demands::demand_met` meets its contract. Assumes nothing.
 use mathlib.Core.Path.{_≡_, ap, _∙_}
 use Prim.Native.Nat.{ℕ, _-_, _≤_}
 use native.Mathlib.Omega.{arith}
@@ -10,9 +11,6 @@ use Rattle.layouts.specs.Passing.{demandedBy, demandMetBy}
 use Rattle.layouts.proofs.EntryLaws.{all-none, all-next}
 use Rattle.layouts.proofs.demands.demand_met.Statement.{statement}
 use Rattle.layouts.proofs.demands.demand_met.Tie as tie
-use Rattle.layouts.proofs.demands.demand_met.Reads as reads
-use Rattle.layouts.proofs.demands.demand_met.Lts as lts
-use Rattle.layouts.proofs.demands.copies_of.Reads as copies-of-reads
 
 abbrev Inv-loop : tie.InvT-loop
 Inv-loop layout n kinds demands ok₀ t₀ ok t = ((t ≤ kinds) × (kinds ≤ 8)) × (ok ≡ all (demandedBy demands layout n) (below t))
@@ -20,31 +18,24 @@ Inv-loop layout n kinds demands ok₀ t₀ ok t = ((t ≤ kinds) × (kinds ≤ 8
 abbrev μ-loop : tie.MeasureT-loop
 μ-loop layout n kinds demands ok₀ t₀ ok t = kinds - t
 
--- src/demands.rt:43:5
 loop-holds : tie.Need-loop-holds Inv-loop μ-loop
 loop-holds c = ((omega arith, omega arith), all-none _)
 
--- src/demands.rt:44:20
 copies-of-requires : tie.Need-copies-of-requires Inv-loop μ-loop
 copies-of-requires c κs = omega arith
 
--- src/demands.rt:44:47
 mul-ok : tie.Need-mul-ok Inv-loop μ-loop
 mul-ok c = omega arith
 
--- src/demands.rt:44:47
 array-read-ok : tie.Need-array-read-ok Inv-loop μ-loop
 array-read-ok c = omega arith
 
--- src/demands.rt:45:9
 add-t : tie.Need-add-t Inv-loop μ-loop
 add-t c = omega arith
 
--- src/demands.rt:43:5
 loop-less : tie.Need-loop-less Inv-loop μ-loop
 loop-less c = search needs
 
--- src/demands.rt:43:5
 loop-again : tie.Need-loop-again Inv-loop μ-loop
 loop-again c =
     let at = c .before .before in
@@ -55,7 +46,6 @@ loop-again c =
           (ap (λ (m : ℕ). eqb m (getD demands (at .loop .t) 0)) (c .copies-of .ensures)),
     )
 
--- src/demands.rt:35:1
 returns : tie.Need-returns Inv-loop μ-loop
 unfolding demandMetBy
 returns c =

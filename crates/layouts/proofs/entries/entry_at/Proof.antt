@@ -1,56 +1,42 @@
+-- `layouts::entries::entry_at` meets its contract. Assumes nothing.
 use Rattle.model.specs.Services.{entryIn}
 use borrow.Author.Needs.{needs}
 use Rattle.layouts.proofs.entries.entry_at.Statement.{statement}
 use Rattle.layouts.proofs.entries.entry_at.Tie as tie
-use Rattle.layouts.proofs.entries.entry_at.Reads as reads
-use Rattle.layouts.proofs.entries.entry_at.Lts as lts
-use Rattle.layouts.proofs.entries.number.Reads as number-reads
 
--- src/entries.rt:37:30
 mul-number : tie.Need-mul-number
 mul-number c = search needs
 
--- src/entries.rt:37:15
 number-requires : tie.Need-number-requires
 number-requires c κs = search needs
 
--- src/entries.rt:38:32
 mul-number-2 : tie.Need-mul-number-2
 mul-number-2 c = search needs
 
--- src/entries.rt:38:32
 add-number : tie.Need-add-number
 add-number c = search needs
 
--- src/entries.rt:38:17
 number-requires-2 : tie.Need-number-requires-2
 number-requires-2 c κs = search needs
 
--- src/entries.rt:39:29
 mul-number-3 : tie.Need-mul-number-3
 mul-number-3 c = search needs
 
--- src/entries.rt:39:29
 add-number-2 : tie.Need-add-number-2
 add-number-2 c = search needs
 
--- src/entries.rt:39:14
 number-requires-3 : tie.Need-number-requires-3
 number-requires-3 c κs = search needs
 
--- src/entries.rt:40:34
 mul-number-4 : tie.Need-mul-number-4
 mul-number-4 c = search needs
 
--- src/entries.rt:40:34
 add-number-3 : tie.Need-add-number-3
 add-number-3 c = search needs
 
--- src/entries.rt:40:19
 number-requires-4 : tie.Need-number-requires-4
 number-requires-4 c κs = search needs
 
--- src/entries.rt:32:1
 returns : tie.Need-returns
 unfolding entryIn
 returns c =

@@ -1,19 +1,15 @@
+-- `layouts::extents::extent_of` meets its contract. Assumes nothing.
 use native.Mathlib.Omega.{arith}
 use Rattle.layouts.specs.Entries.{asEntry}
 use Rattle.layouts.proofs.AdmissionLaws.{standing}
 use Rattle.layouts.proofs.extents.extent_of.Statement.{statement}
 use Rattle.layouts.proofs.extents.extent_of.Tie as tie
-use Rattle.layouts.proofs.extents.extent_of.Reads as reads
-use Rattle.layouts.proofs.extents.extent_of.Lts as lts
-use Rattle.candidates.proofs.placements.extent.Reads as extent-reads
 
--- src/extents.rt:28:5
 extent-requires : tie.Need-extent-requires
 extent-requires c κs =
     let at = standing (c .args .view) (c .args .boxes) (asEntry (c .args .e)) (c .pre .0) (c .pre .1) in
     ((c .pre .0, at .kind), (at .column, at .rotation))
 
--- src/extents.rt:24:1
 returns : tie.Need-returns
 returns c =
     let e = c .before in

@@ -1,3 +1,4 @@
+-- `layouts::extents::length_of` meets its contract. Assumes nothing.
 use mathlib.Core.List.{map}
 use mathlib.Core.Path.{_≡_, ap, _∙_}
 use Prim.Native.Nat.{ℕ, _-_, _≤_}
@@ -10,11 +11,6 @@ use Rattle.layouts.specs.Passing.{admittedBy, extentBy}
 use Rattle.layouts.proofs.AdmissionLaws.{entries-at, largest-none, largest-next}
 use Rattle.layouts.proofs.extents.length_of.Statement.{statement}
 use Rattle.layouts.proofs.extents.length_of.Tie as tie
-use Rattle.layouts.proofs.extents.length_of.Reads as reads
-use Rattle.layouts.proofs.extents.length_of.Lts as lts
-use Rattle.layouts.proofs.entries.entry_at.Reads as entry-at-reads
-use Rattle.layouts.proofs.extents.extent_of.Reads as extent-of-reads
-use Rattle.layouts.proofs.extents.larger.Reads as larger-reads
 
 abbrev Inv-loop : tie.InvT-loop
 Inv-loop view boxes layout n longest₀ i₀ longest i = ((i ≤ n) × (longest ≤ 1000)) × (longest ≡ largest (map (extentBy view boxes) (entriesIn layout i)))
@@ -22,15 +18,12 @@ Inv-loop view boxes layout n longest₀ i₀ longest i = ((i ≤ n) × (longest 
 abbrev μ-loop : tie.MeasureT-loop
 μ-loop view boxes layout n longest₀ i₀ longest i = n - i
 
--- src/extents.rt:38:5
 loop-holds : tie.Need-loop-holds Inv-loop μ-loop
 loop-holds c = ((omega arith, omega arith), largest-none _ _)
 
--- src/extents.rt:39:58
 entry-at-requires : tie.Need-entry-at-requires Inv-loop μ-loop
 entry-at-requires c κs = omega arith
 
--- src/extents.rt:39:35
 extent-of-requires : tie.Need-extent-of-requires Inv-loop μ-loop
 extent-of-requires c κs =
     let at = c .before .before in
@@ -40,19 +33,15 @@ extent-of-requires c κs =
           ∙ entries-at (admittedBy (e .args .view) (e .args .boxes)) (now (e .args .layout)) (e .args .n) (at .loop .i) (e .pre .1) (c .before .loop-test .taken),
     )
 
--- src/extents.rt:39:9
 larger-requires : tie.Need-larger-requires Inv-loop μ-loop
 larger-requires c κs = tt
 
--- src/extents.rt:40:9
 add-i : tie.Need-add-i Inv-loop μ-loop
 add-i c = omega arith
 
--- src/extents.rt:38:5
 loop-less : tie.Need-loop-less Inv-loop μ-loop
 loop-less c = search needs
 
--- src/extents.rt:38:5
 loop-again : tie.Need-loop-again Inv-loop μ-loop
 loop-again c =
     let at = c .before .before .before .before in
@@ -62,7 +51,6 @@ loop-again c =
           (c .before .extent-of .ensures .0 ∙ ap (extentBy (e .args .view) (e .args .boxes)) (c .before .before .entry-at .ensures .same)) (c .larger .ensures),
     )
 
--- src/extents.rt:32:1
 returns : tie.Need-returns Inv-loop μ-loop
 returns c =
     let at = c .before in

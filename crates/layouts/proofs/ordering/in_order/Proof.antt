@@ -1,3 +1,4 @@
+-- `layouts::ordering::in_order` meets its contract. Assumes nothing.
 use mathlib.Core.Path.{ap₂, _∙_}
 use lib.Dec.{ltb}
 use Rattle.layouts.specs.Entries.{asEntry}
@@ -5,26 +6,19 @@ use Rattle.layouts.proofs.EntryLaws.{order-within, order-between}
 use borrow.Author.Needs.{needs}
 use Rattle.layouts.proofs.ordering.in_order.Statement.{statement}
 use Rattle.layouts.proofs.ordering.in_order.Tie as tie
-use Rattle.layouts.proofs.ordering.in_order.Reads as reads
-use Rattle.layouts.proofs.ordering.in_order.Lts as lts
-use Rattle.layouts.proofs.ordering.number_of.Reads as number-of-reads
 
--- src/ordering.rt:24:16
 number-of-requires : tie.Need-number-of-requires
 number-of-requires c κs = search needs
 
--- src/ordering.rt:24:37
 number-of-requires-2 : tie.Need-number-of-requires-2
 number-of-requires-2 c κs = search needs
 
--- src/ordering.rt:24:9
 returns : tie.Need-returns
 returns c =
     let e = c .before .before .before .before .before in
     ap₂ ltb (c .before .number-of .ensures) (c .number-of2 .ensures)
     ∙ order-within (e .args .rows) (asEntry (e .args .e)) (asEntry (e .args .f)) (c .before .before .if1 .taken)
 
--- src/ordering.rt:19:1
 returns-2 : tie.Need-returns-2
 returns-2 c =
     let e = c .before .before .before .before .before in

@@ -1,3 +1,4 @@
+-- `layouts::passing::judged` meets its contract. Assumes nothing.
 use mathlib.Core.Bool.{true}
 use mathlib.Core.Path.{_≡_, sym, ap, _∙_}
 use native.Mathlib.Omega.{arith}
@@ -11,12 +12,7 @@ use Rattle.layouts.proofs.PassingLaws.{few-pieces, all-admitted-is, len
 use borrow.Author.Needs.{needs}
 use Rattle.layouts.proofs.passing.judged.Statement.{statement}
 use Rattle.layouts.proofs.passing.judged.Tie as tie
-use Rattle.layouts.proofs.passing.judged.Reads as reads
-use Rattle.layouts.proofs.passing.judged.Lts as lts
-use Rattle.layouts.proofs.extents.length_of.Reads as length-of-reads
-use Rattle.layouts.proofs.passing.passes.Reads as passes-reads
 
--- src/passing.rt:36:18
 mul-wanted : tie.Need-mul-wanted
 mul-wanted c =
     let e = c .before .before in
@@ -25,7 +21,6 @@ mul-wanted c =
     let v = e .args .view in
     omega (arith, few-pieces s (x .accepted), x .view .pieces)
 
--- src/passing.rt:38:9
 returns : tie.Need-returns
 returns c =
     let e = c .before .before .before in
@@ -34,11 +29,9 @@ returns c =
     let v = e .args .view in
     wrong-count (content s) (now (e .args .layout)) (v .pieces) (x .view .pieces) (c .if1 .taken)
 
--- src/passing.rt:40:9
 passes-requires : tie.Need-passes-requires
 passes-requires c κs = search needs
 
--- src/passing.rt:41:9
 returns-2 : tie.Need-returns-2
 returns-2 c =
     let e = c .before .before .before .before .before in
@@ -56,7 +49,6 @@ passing c =
     let j = content (now (e .args .job)) in
     ap (passes j) (layout-is j (now (e .args .layout)) (e .args .view .pieces) (e .pre .viewed .view .pieces)) ∙ sym (c .before .passes .ensures) ∙ not-false _ (c .if2 .left)
 
--- src/passing.rt:43:21
 length-of-requires : tie.Need-length-of-requires
 length-of-requires c κs =
     let e = c .before .before .before .before .before in
@@ -68,11 +60,9 @@ length-of-requires c κs =
       all-admitted-is s v x (e .args .boxes) (e .pre .boxes) (entriesIn layout (v .pieces)) ∙ passed-entries (content s) (entriesIn layout (v .pieces)) (passing c),
     )
 
--- src/passing.rt:43:21
 cast-t12 : tie.Need-cast-t12
 cast-t12 c = search needs
 
--- src/passing.rt:30:1
 returns-3 : tie.Need-returns-3
 returns-3 c =
     let test = c .before in

@@ -1,25 +1,18 @@
-use mathlib.Core.Bool.{Bool, _&&_}
+-- `layouts::passing::passes` meets its contract. Assumes nothing.
+use mathlib.Core.Bool.{_&&_}
 use mathlib.Core.Path.{_≡_, sym, ap, ap₂, _∙_}
 use native.Mathlib.Omega.{arith}
 use borrow.Author.Tests.{not-true, not-false}
 use denote.Ref.{now}
 use Rattle.model.specs.Format.{content}
-use Rattle.model.specs.Layout.{isEntry, ordered, demandMet, passes}
-use Rattle.model.specs.Lists.{all}
+use Rattle.model.specs.Layout.{isEntry, passes}
 use Rattle.candidates.proofs.PreparedLaws.{bounded}
 use Rattle.layouts.specs.Entries.{entriesIn}
 use Rattle.layouts.proofs.AdmissionLaws.{entries-at}
 use Rattle.layouts.proofs.PassingLaws.{few-pieces, order-is, demand-is, all-admitted-is, layout-is, stated, stated-entries, misstated, passes-if-apart}
 use Rattle.layouts.proofs.passing.passes.Statement.{statement}
 use Rattle.layouts.proofs.passing.passes.Tie as tie
-use Rattle.layouts.proofs.passing.passes.Reads as reads
-use Rattle.layouts.proofs.passing.passes.Lts as lts
-use Rattle.layouts.proofs.admission.all_admitted.Reads as all-admitted-reads
-use Rattle.layouts.proofs.clearance.all_apart.Reads as all-apart-reads
-use Rattle.layouts.proofs.demands.demand_met.Reads as demand-met-reads
-use Rattle.layouts.proofs.ordering.entries_in_order.Reads as entries-in-order-reads
 
--- src/passing.rt:22:18
 entries-in-order-requires : tie.Need-entries-in-order-requires
 entries-in-order-requires c κs =
     let e = c .before .before in
@@ -28,7 +21,6 @@ entries-in-order-requires c κs =
     let v = e .args .view in
     ((bounded s v x .rows .1, omega (arith, few-pieces s (x .accepted), e .pre .1 .count)), e .pre .1 .whole)
 
--- src/passing.rt:22:59
 demand-met-requires : tie.Need-demand-met-requires
 demand-met-requires c κs =
     let e = c .before .before .before in
@@ -37,7 +29,6 @@ demand-met-requires c κs =
     let v = e .args .view in
     ((bounded s v x .kinds, omega (arith, few-pieces s (x .accepted), e .pre .1 .count)), e .pre .1 .whole)
 
--- src/passing.rt:22:89
 all-admitted-requires : tie.Need-all-admitted-requires
 all-admitted-requires c κs =
     let e = c .before .before .before .before in
@@ -62,7 +53,6 @@ tests c =
     (ap₂ _&&_ (c .before .before .entries-in-order .ensures ∙ order-is (content s) (v .rows) layout n (x .view .rows)) (c .before .demand-met .ensures ∙ demand-is s v x layout n))
     (c .all-admitted .ensures ∙ all-admitted-is s v x (e .args .boxes) (e .pre .0 .boxes) (entriesIn layout n))
 
--- src/passing.rt:24:9
 returns : tie.Need-returns
 returns c =
     let e = c .before .before .before .before .before .before in
@@ -70,7 +60,6 @@ returns c =
     misstated j (entriesIn (now (e .args .layout)) (e .args .n)) (sym (tests (c .before)) ∙ not-true _ (c .if1 .taken))
     ∙ ap (passes j) (layout-is j (now (e .args .layout)) (e .args .n) (e .pre .1 .count))
 
--- src/passing.rt:26:5
 all-apart-requires : tie.Need-all-apart-requires
 all-apart-requires c κs =
     let e = c .before .before .before .before .before .before in
@@ -85,7 +74,6 @@ all-apart-requires c κs =
       },
     )
 
--- src/passing.rt:18:1
 returns-2 : tie.Need-returns-2
 returns-2 c =
     let e = c .before .before .before .before .before .before .before in
