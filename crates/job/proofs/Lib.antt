@@ -3,6 +3,7 @@ pub mod CauseLaws
 pub mod ClassLaws
 pub mod GapLaws
 pub mod KindLaws
+pub mod ListingLaws
 pub mod PartLaws
 pub mod PlaceLaws
 pub mod Ranges

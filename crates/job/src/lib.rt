@@ -12,6 +12,7 @@ mod classes;
 mod fields;
 mod gaps;
 mod kinds;
+mod listing;
 mod parts;
 mod places;
 mod records;
