@@ -8,6 +8,7 @@ pub mod PartLaws
 pub mod PlaceLaws
 pub mod Ranges
 pub mod RecordLaws
+pub mod RisingLaws
 pub mod TableLaws
 pub mod ViewLaws
 pub mod WriteLaws

@@ -16,6 +16,7 @@ mod listing;
 mod parts;
 mod places;
 mod records;
+mod rising;
 mod sections;
 mod table;
 mod trailer;
