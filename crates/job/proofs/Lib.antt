@@ -1,6 +1,7 @@
 pub mod Bools
 pub mod CauseLaws
 pub mod ClassLaws
+pub mod ContentLaws
 pub mod GapLaws
 pub mod KindLaws
 pub mod ListingLaws
