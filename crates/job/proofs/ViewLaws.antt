@@ -120,7 +120,7 @@ module _ (s : List ℕ) (e : refusalTo6 s ≡ 0) where
   ids-in o n eo en = ap₂ (distinctColumn s) eo en ∙ sym (ids-distinct s) ∙ classes-distinct s (no-six s e .no5)
 
   module _ (base size n : ℕ) (eb : base ≡ kindsAt s) (es : size ≡ kindsLength s) (en : n ≡ kindsStated s) where
-    got-list : many readKind n (take (base + size - base) (drop base s)) ≡ got (content s .kinds) (kindsLength s)
+    pub got-list : many readKind n (take (base + size - base) (drop base s)) ≡ got (content s .kinds) (kindsLength s)
     unfolding kindsGot
     got-list = ap₂ (many readKind) en (list-is s base size eb es) ∙ kinds-in .reads
 
@@ -130,7 +130,7 @@ module _ (s : List ℕ) (e : refusalTo6 s ≡ 0) where
     pub list-reads : Reads (many readKind n (take (base + size - base) (drop base s))) (length (take (base + size - base) (drop base s)))
     list-reads = subst (Reads (many readKind n (take (base + size - base) (drop base s)))) (sym length-list) (reads-from _ _ _ got-list)
 
-    kind-count : kindCount (content s) ≡ n
+    pub kind-count : kindCount (content s) ≡ n
     unfolding kindCount
     kind-count = many-length readKind n _ _ _ got-list
 

@@ -93,12 +93,12 @@ two-numbers at a b s u v p h ea eb eu ev =
 abbrev pub cornerNumbers : List ℕ → ℕ → List ℕ
 cornerNumbers s k = concat (map vertexNumbers (partFrom s k))
 
-length-vertex : (p : Vertex) → length (vertexNumbers p) ≡ 2
+pub length-vertex : (p : Vertex) → length (vertexNumbers p) ≡ 2
 unfolding vertexNumbers
 length-vertex p = refl
 
 -- As many numbers for each.
-numbers-length : {A : Type 0} (g : A → List ℕ) (c : ℕ) → ((x : A) → length (g x) ≡ c) → (xs : List A) → length (concat (map g xs)) ≡ length xs * c
+pub numbers-length : {A : Type 0} (g : A → List ℕ) (c : ℕ) → ((x : A) → length (g x) ≡ c) → (xs : List A) → length (concat (map g xs)) ≡ length xs * c
 unfolding concat
 numbers-length g c h [] = omega arith
 numbers-length g c h (x ∷ xs) = length-append (g x) (concat (map g xs)) ∙ ap₂ (λ a b. a + b) (h x) (numbers-length g c h xs) ∙ (omega arith)

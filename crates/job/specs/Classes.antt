@@ -5,7 +5,7 @@ use Prim.Native.Nat.{ℕ, zero, suc, _+_, _*_, _-_}
 use lib.Dec.{ltb, eqb}
 use Rattle.model.specs.Content.{SpacingClass, spacingClass}
 use Rattle.model.specs.Format.{byteAt, classInRange, distinct}
-use Rattle.model.specs.Lists.{all, any, rising, below}
+use Rattle.model.specs.Lists.{all, any, keep, concat, rising, below}
 
 -- The class whose record begins at byte o.
 abbrev pub classFrom : List ℕ → ℕ → SpacingClass
@@ -48,3 +48,11 @@ hasId s o id i = eqb (entryAt s o i) id
 -- The index of the first class of this id, and n where there is none.
 unfoldable pub indexOf : List ℕ → ℕ → ℕ → ℕ → ℕ
 indexOf s o n id = firstFrom (hasId s o id) 0 n
+
+-- The classes of this id.
+abbrev pub classesOfId : ℕ → List SpacingClass → List SpacingClass
+classesOfId i cs = keep (λ c. eqb (c .id) i) cs
+
+-- The classes of the ids below i, by rising id.
+abbrev pub risenBelow : ℕ → List SpacingClass → List SpacingClass
+risenBelow i cs = concat (map (λ i. keep (λ c. eqb (c .id) i) cs) (below i))

@@ -8,7 +8,7 @@ ghost use Rattle.integers.specs.Byte.{signed};
 ghost use Rattle.model.specs.Format.{byteAt};
 ghost use Rattle.model.specs.Services.{coordinate, vertexNumbers, partNumbers};
 ghost use Rattle.job.specs.Parts.{vertexFrom, partFrom};
-ghost use Rattle.job.specs.Write.{written};
+ghost use Rattle.job.specs.Write.{written, firstBytes};
 
 // One number.
 pub fn put(answer: &mut [u8], at: usize, n: usize)
@@ -45,6 +45,18 @@ pub fn put_part(part: &[u8], n: usize, answer: &mut [u8], at: usize)
     let mut k = 0;
     while k < n {
         put_vertex(part, k, answer, at + 1 + k * 2);
+        k += 1;
+    }
+}
+
+// The first n bytes of a piece, a number for each.
+pub fn put_bytes(s: &[u8], n: usize, answer: &mut [u8], at: usize)
+    requires { ⌜ (n ≤ length (now s)) × ((at + n) * 2 ≤ length (now answer)) ⌝ }
+    ensures { λ _. ⌜ now (answer .exit) ≡ written at (firstBytes n (now (s .entry))) (now (answer .entry)) ⌝ }
+{
+    let mut k = 0;
+    while k < n {
+        put(answer, at + k, fields::byte(s, k));
         k += 1;
     }
 }
