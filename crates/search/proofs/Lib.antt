@@ -8,3 +8,5 @@ pub mod Kept
 pub mod Held
 pub mod Answer
 pub mod Levels
+pub mod Sifting
+pub mod Filling

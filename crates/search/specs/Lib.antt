@@ -2,3 +2,6 @@ pub mod Spending
 pub mod LiveSets
 pub mod Steps
 pub mod Levels
+pub mod Slots
+pub mod Narrowing
+pub mod Known

@@ -1,0 +1,4 @@
+// The run service: the walk over the pieces under a step budget, with live sets kept in the lent work words.
+mod board;
+mod narrowing;
+mod plan;
