@@ -10,3 +10,6 @@ pub mod Answer
 pub mod Levels
 pub mod Sifting
 pub mod Filling
+pub mod Tables
+pub mod Limits
+pub mod PieceOrder
