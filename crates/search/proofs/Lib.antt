@@ -10,6 +10,8 @@ pub mod Answer
 pub mod Levels
 pub mod Sifting
 pub mod Filling
+pub mod Slots
 pub mod Tables
 pub mod Limits
 pub mod PieceOrder
+pub mod Making

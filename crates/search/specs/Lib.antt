@@ -5,3 +5,4 @@ pub mod Levels
 pub mod Slots
 pub mod Narrowing
 pub mod Known
+pub mod Walk

@@ -26,3 +26,9 @@ KeepsSince j placed bound u s = (earlier : ℕ) × (bound ≤ earlier) × Keeps 
 pub record Frame (j : Job) (l : ℕ) (work work′ : List ℕ) : Type 0 where
   pub lower : (m : ℕ) → m < setStart j l 0 * 64 → member work′ m ≡ member work m
   pub behind : drop (workWords j * 8) work′ ≡ drop (workWords j * 8) work
+
+-- The set of level l and kind u begins at this word and lies within the needed words, which are few.
+pub record SetPlace (j : Job) (l u at : ℕ) : Type 0 where
+  pub place : at ≡ setStart j l u
+  pub within : at + setWords (j .sheet) ≤ workWords j
+  pub few : at ≤ 6144
