@@ -2,10 +2,11 @@
 use mathlib.Core.List.{List}
 use mathlib.Core.Logic.{_⊎_, inl, inr}
 use mathlib.Core.Path.{_≡_, refl, sym, ap, _∙_, subst}
-use Prim.Native.Nat.{ℕ, suc, _+_, _*_, _≤_, _<_}
+use Prim.Native.Nat.{ℕ, suc, _+_, _*_, _-_, _≤_, _<_}
 use native.Mathlib.Nat.{mul-le-mul-right, mul-comm, mul-assoc}
 use native.Mathlib.Omega.{arith}
-use lib.ListN.{length, drop}
+use lib.ListN.{length, take, drop, length-drop}
+use lib.Seq.{take-all}
 use Rattle.words.specs.Sets.{member}
 use Rattle.words.proofs.Member.{member-drop}
 use Rattle.model.specs.Content.{Job, kindCount, pieceCount}
@@ -78,3 +79,7 @@ module _ (j : Job) where
 
   pub frame-lower : (l k : ℕ) (a b : List ℕ) → l ≤ k → Frame j k a b → Frame j l a b
   frame-lower l k a b h f = record { lower = λ m q. f .lower m (omega (arith, start-levels l k h)); behind = f .behind }
+
+-- A part of a list to its end.
+pub part-rest : (a : ℕ) (s : List ℕ) → take (length s - a) (drop a s) ≡ drop a s
+part-rest a s = take-all (length s - a) (drop a s) (omega (arith, length-drop a s))
