@@ -15,3 +15,4 @@ pub mod Tables
 pub mod Limits
 pub mod PieceOrder
 pub mod Making
+pub mod Trying

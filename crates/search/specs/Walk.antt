@@ -70,6 +70,12 @@ pub record Settled (j : Job) (ns : List ℕ) (level bound : ℕ) (work work′ :
 
 -- ---- The walk
 
+-- Number r is the first member of the set from a number on, or there is none below the limit of the numbers.
+pub record NextLive (j : Job) (placed : Layout) (bound u from r : ℕ) : Type 0 where
+  pub above : from ≤ r
+  pub passed : (i : ℕ) → from ≤ i → i < r → setOf j placed bound u i ≡ false
+  pub found : r < setWords (j .sheet) * 64 → setOf j placed bound u r ≡ true
+
 -- The layout held: what the answer numbers say, if one is found.
 abbrev pub heldOf : Job → Bool → List ℕ → Option Layout
 heldOf j true out = some (layoutIn j out)
