@@ -16,3 +16,5 @@ pub mod Limits
 pub mod PieceOrder
 pub mod Making
 pub mod Trying
+pub mod Writing
+pub mod Passing

@@ -1,6 +1,6 @@
 -- What the walk in code asks and promises at each level.
 use mathlib.Core.Bool.{Bool, true, false, cond, _||_}
-use mathlib.Core.List.{List, []}
+use mathlib.Core.List.{List, [], map}
 use mathlib.Core.Logic.{_⊎_}
 use mathlib.Core.Option.{Option, none, some}
 use mathlib.Core.Path.{_≡_}
@@ -10,8 +10,8 @@ use lib.ListN.{length, getD, drop}
 use Rattle.words.specs.Sets.{member}
 use Rattle.model.specs.Content.{Job, kindCount, pieceCount}
 use Rattle.model.specs.Grid.{setWords}
-use Rattle.model.specs.Layout.{Layout, isEntry, layoutLength}
-use Rattle.model.specs.Lists.{all}
+use Rattle.model.specs.Layout.{Layout, entryOf, isEntry, layoutLength}
+use Rattle.model.specs.Lists.{all, below}
 use Rattle.model.specs.Search.{copiesLeft}
 use Rattle.model.specs.Services.{layoutIn, withLayout, numbersIn, workWords}
 use Rattle.search.specs.LiveSets.{setOf, boundOf, membersOf, Keeps, enough}
@@ -110,3 +110,14 @@ pub record Left (j : Job) (work out work′ out′ : List ℕ) (depth : ℕ) (st
   pub lowered : st′ .bound ≤ st .bound
   pub written : out′ ≡ withLayout (w .held) out
   pub frame : Frame j depth work work′
+
+-- ---- The layout in the answer numbers
+
+-- The layout of all pieces, each at the candidate of its number.
+unfoldable pub layoutOf : Job → List ℕ → Layout
+layoutOf j ns = map (λ l. entryOf j (pieceKind j l) (numbersAt ns l)) (below (pieceCount j))
+
+-- It can be written: the numbers are small, and the buffer has room.
+pub record Recordable (j : Job) (ns out : List ℕ) : Type 0 where
+  pub small : (l : ℕ) → l < pieceCount j → numbersAt ns l < 4096
+  pub fits : 4 * pieceCount j ≤ numbersIn out

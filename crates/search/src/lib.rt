@@ -3,4 +3,5 @@ mod board;
 mod lookahead;
 mod narrowing;
 mod plan;
+mod recording;
 mod walk;

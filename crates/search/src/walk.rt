@@ -1,4 +1,23 @@
-// The walk over the pieces.
+// The walk over the pieces: a piece tries its candidates, and a candidate taken passes the walk to the next piece.
+ghost use mathlib.Core.Path.{_≡_};
+ghost use Prim.Native.Nat.{_+_, _*_, max, _≤_, _<_};
+ghost use lib.ListN.{length};
+ghost use Rattle.model.specs.Candidate.{isCandidate};
+ghost use Rattle.model.specs.Content.{kindCount, pieceCount};
+ghost use Rattle.model.specs.Format.{content};
+ghost use Rattle.model.specs.Layout.{entryOf, entryExtent};
+ghost use Rattle.search.specs.Known.{Known};
+ghost use Rattle.search.specs.Levels.{tryLevel, goOnLevel};
+ghost use Rattle.search.specs.Slots.{KeepsSince};
+ghost use Rattle.search.specs.Walk.{numbersAt, placedOf, heldOf, NextLive, Ready, Taken, Left};
+use crate::board;
+use crate::board::Boxes;
+use crate::lookahead::set_start;
+use crate::lookahead::settle;
+use crate::plan::Plan;
+use crate::recording::record_layout;
+use job::View;
+use words::sets;
 
 // How far the walk has come: what is left of the budget, what an end has to stay below, whether a layout is held, whether the walk stopped.
 pub struct Progress {
@@ -6,4 +25,29 @@ pub struct Progress {
     pub bound: usize,
     pub found: bool,
     pub stopped: bool,
+}
+
+// The first member of a set from a number on that ends below the bound of this moment, or the limit of the numbers.
+fn next_live(job: &[u8], view: View, plan: Plan, turned: &[i16], boxes: Boxes, numbers: [usize; 12], level: usize, bound: usize, u: usize, set: &[u8], from: usize) -> usize
+    requires { ⌜ Known (now job) view plan (now turned) boxes × (plan .words * 8 ≤ length (now set)) ⌝ }
+    requires { ⌜ KeepsSince (content (now job)) (placedOf (content (now job)) numbers level) bound u (now set) ⌝ }
+    ensures { λ r. ⌜ NextLive (content (now (job .entry))) (placedOf (content (now (job .entry))) numbers level) bound u from r ⌝ }
+{
+    let words = plan.words;
+    let limit = words * 64;
+    let mut n = sets::next_member(set, words as u32, from);
+    while n < limit {
+        if board::end_of(job, view, plan, turned, boxes, u, n) < bound {
+            return n;
+        }
+        n = sets::next_member(set, words as u32, n + 1);
+    }
+    n
+}
+
+// The larger of two lengths.
+fn longer(a: usize, b: usize) -> usize
+    ensures { λ r. ⌜ r ≡ max a b ⌝ }
+{
+    if a <= b { b } else { a }
 }
