@@ -18,3 +18,4 @@ pub mod Making
 pub mod Trying
 pub mod Writing
 pub mod Passing
+pub mod GoingOn
