@@ -71,3 +71,7 @@ module _ (j : Job) where
   pub copies-end : (u : ℕ) → copiesLeft u (piecesFrom j (pieceCount j)) ≡ 0
   unfolding copiesLeft countOf
   copies-end u = rw (pieces-end j (pieceCount j) (omega arith))
+
+  -- A copy of a piece's kind is left before the piece.
+  pub copies-here : (l : ℕ) → l < pieceCount j → 0 < copiesLeft (pieceKind j l) (piecesFrom j l)
+  copies-here l h = omega (arith, copies-hit (pieceKind j l) l h refl)

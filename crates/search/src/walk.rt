@@ -53,9 +53,9 @@ fn longer(a: usize, b: usize) -> usize
 }
 
 // Piece `level` tries its live candidates in rising order, each against the best of that moment.
-fn try_piece(job: &[u8], view: View, plan: Plan, turned: &[i16], boxes: Boxes, work: &mut [u8], out: &mut [u8], numbers: [usize; 12], level: usize, length: usize, state: Progress) -> Progress
+fn try_piece(job: &[u8], view: View, plan: Plan, turned: &[i16], boxes: Boxes, work: &mut [u8], out: &mut [u8], numbers: [usize; 12], level: usize, extent: usize, state: Progress) -> Progress
     requires { ⌜ Known (now job) view plan (now turned) boxes × (level < pieceCount (content (now job))) ⌝ }
-    requires { ⌜ Ready (content (now job)) (now work) (now out) numbers level (level + 1) length state ⌝ }
+    requires { ⌜ Ready (content (now job)) (now work) (now out) numbers level (level + 1) extent state ⌝ }
     ensures { λ r. ⌜ Left (content (now (job .entry))) (now (work .entry)) (now (out .entry)) (now (work .exit)) (now (out .exit)) (level + 1) state r (tryLevel (content (now (job .entry))) (numbersAt numbers) level 0 (state .left) (heldOf (content (now (job .entry))) (state .found) (now (out .entry)))) ⌝ }
 {
     let kinds = plan.kinds;
@@ -64,7 +64,7 @@ fn try_piece(job: &[u8], view: View, plan: Plan, turned: &[i16], boxes: Boxes, w
     let limit = plan.words * 64;
     let mut st = state;
     let mut from = 0;
-    while length < st.bound {
+    while extent < st.bound {
         let n = next_live(job, view, plan, turned, boxes, numbers, level, st.bound, kind, &work[at..], from);
         if limit <= n {
             return st;
@@ -76,7 +76,7 @@ fn try_piece(job: &[u8], view: View, plan: Plan, turned: &[i16], boxes: Boxes, w
         let less = Progress { left: st.left - 1, bound: st.bound, found: st.found, stopped: false };
         let mut taken = numbers;
         taken[level] = n;
-        st = go_on(job, view, plan, turned, boxes, work, out, taken, level + 1, longer(end, length), less);
+        st = go_on(job, view, plan, turned, boxes, work, out, taken, level + 1, longer(end, extent), less);
         if st.stopped {
             return st;
         }
@@ -86,18 +86,18 @@ fn try_piece(job: &[u8], view: View, plan: Plan, turned: &[i16], boxes: Boxes, w
 }
 
 // What follows once `level` pieces are placed, the latest just counted: a complete layout becomes the best; else look-ahead, and the next piece.
-fn go_on(job: &[u8], view: View, plan: Plan, turned: &[i16], boxes: Boxes, work: &mut [u8], out: &mut [u8], numbers: [usize; 12], level: usize, length: usize, state: Progress) -> Progress
+fn go_on(job: &[u8], view: View, plan: Plan, turned: &[i16], boxes: Boxes, work: &mut [u8], out: &mut [u8], numbers: [usize; 12], level: usize, extent: usize, state: Progress) -> Progress
     requires { ⌜ Known (now job) view plan (now turned) boxes ⌝ }
-    requires { ⌜ Ready (content (now job)) (now work) (now out) numbers level level length state ⌝ }
-    requires { ⌜ Taken (content (now job)) numbers level length state ⌝ }
+    requires { ⌜ Ready (content (now job)) (now work) (now out) numbers level level extent state ⌝ }
+    requires { ⌜ Taken (content (now job)) numbers level extent state ⌝ }
     ensures { λ r. ⌜ Left (content (now (job .entry))) (now (work .entry)) (now (out .entry)) (now (work .exit)) (now (out .exit)) level state r (goOnLevel (content (now (job .entry))) (numbersAt numbers) level (state .left) (heldOf (content (now (job .entry))) (state .found) (now (out .entry)))) ⌝ }
 {
     if level == view.pieces {
         record_layout(job, view, plan, turned, boxes, numbers, out);
-        return Progress { left: state.left, bound: length, found: true, stopped: false };
+        return Progress { left: state.left, bound: extent, found: true, stopped: false };
     }
     if settle(job, view, plan, turned, boxes, state.bound, numbers, level, work) {
-        return try_piece(job, view, plan, turned, boxes, work, out, numbers, level, length, state);
+        return try_piece(job, view, plan, turned, boxes, work, out, numbers, level, extent, state);
     }
     state
 }
