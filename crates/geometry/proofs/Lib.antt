@@ -3,3 +3,5 @@ pub mod Flat
 pub mod Sizes
 pub mod Lowest
 pub mod EdgeLaws
+pub mod BoxLaws
+pub mod PairLaws

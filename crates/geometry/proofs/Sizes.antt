@@ -124,3 +124,15 @@ reach-is gap Q a b qx qy px py l p q g el ep eq eg =
     ∙ ap (λ s. smallestZ (map (along (direction a b)) Q) +ℤ (a *ℤ qx +ℤ b *ℤ qy) -ℤ (a *ℤ px +ℤ b *ℤ py) -ℤ s) eg
     ∙ ring 8 (λ S C a b qx qy px py. S ⊞ (a ⊠ qx ⊞ b ⊠ qy) ⊟ (a ⊠ px ⊞ b ⊠ py) ⊟ C ≈ S ⊞ (a ⊠ (qx ⊟ px) ⊞ b ⊠ (qy ⊟ py)) ⊟ C) tt
     (smallestZ (map (along (direction a b)) Q)) (clearance gap (direction a b)) a b qx qy px py
+
+-- ---- one axis
+
+pub ends-fit : (h f : ℤ) → SFits w16 h → SFits w16 f → SFits w64 (h +ℤ f)
+ends-fit = sized w16 w64 2 (λ h f. h ⊞ f) tt
+
+pub padded-fits : (h f : ℤ) (gap : ℕ) → SFits w16 h → SFits w16 f → Fits w16 gap → SFits w64 (h +ℤ f +ℤ pos gap)
+padded-fits h f gap hh hf g =
+    fits-64 (h +ℤ f +ℤ pos gap)
+    (le-trans (bounded (2 ^ 15 ∷ 2 ^ 15 ∷ 2 ^ 16 ∷ []) 3 (λ h f g. h ⊞ f ⊞ g) h f (pos gap) (size-of w16 h hh) (size-of w16 f hf) (le-of-lt (g .fits))) (lit≤ tt))
+
+pub ruleset axis = (widened, ends-fit, needs)

@@ -6,6 +6,7 @@ ghost use lib.IntN.{natAbs, pos, _+ℤ_, _-ℤ_, _*ℤ_};
 ghost use lib.ListN.{length};
 ghost use Rattle.integers.specs.Extrema.{minZ};
 ghost use Rattle.model.specs.Content.{vertex};
+ghost use Rattle.model.specs.Geometry;
 ghost use Rattle.model.specs.Geometry.{direction, vertexAt, clearance};
 ghost use Rattle.model.specs.Lists.{smallestZ};
 ghost use Rattle.geometry.specs.Flat.{partOf};
@@ -35,7 +36,7 @@ pub fn gap_along(gap: u16, a: i32, b: i32) -> i64
 // How far vertex k lies along (a, b).
 pub fn vertex_along(p: &[i16], k: usize, a: i32, b: i32) -> i64
     requires { ⌜ 2 * k + 1 < length (now p) ⌝ }
-    ensures { λ r. ⌜ Small (Rattle.model.specs.Geometry.along (direction a b) (vertexAt (partOf (now (p .entry))) k)) 47 r ⌝ }
+    ensures { λ r. ⌜ Small (Geometry.along (direction a b) (vertexAt (partOf (now (p .entry))) k)) 47 r ⌝ }
 {
     project(a, b, p[2 * k], p[2 * k + 1])
 }
@@ -49,7 +50,7 @@ pub fn lesser(a: i64, b: i64) -> i64
 
 // The least that a vertex of the part lies along (a, b); 0 if it has none.
 pub fn lowest(p: &[i16], a: i32, b: i32) -> i64
-    ensures { λ r. ⌜ Small (smallestZ (map (Rattle.model.specs.Geometry.along (direction a b)) (partOf (now (p .entry))))) 47 r ⌝ }
+    ensures { λ r. ⌜ Small (smallestZ (map (Geometry.along (direction a b)) (partOf (now (p .entry))))) 47 r ⌝ }
 {
     let n = p.len() / 2;
     if n == 0 {

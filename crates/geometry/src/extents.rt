@@ -1,6 +1,8 @@
 // The bounding box of a part.
 ghost use mathlib.Core.Path.{_≡_};
 ghost use Rattle.integers.specs.Extrema.{maxZ, minZ};
+ghost use Rattle.geometry.specs.Flat.{partOf};
+ghost use Rattle.geometry.specs.Boxes.{box, extentsOf, joined};
 
 // The least and the largest x and y.
 pub struct Extents {
@@ -26,7 +28,41 @@ pub fn larger(a: i16, b: i16) -> i16
 
 // The box of one vertex.
 pub fn point(x: i16, y: i16) -> Extents
-    ensures { λ r. ⌜ (r .min_x ≡ x) × (r .max_x ≡ x) × (r .min_y ≡ y) × (r .max_y ≡ y) ⌝ }
+    ensures { λ r. ⌜ r ≡ box x x y y ⌝ }
 {
-    Extents { min_x: x, max_x: x, min_y: y, max_y: y }
+    Extents {
+        min_x: x,
+        max_x: x,
+        min_y: y,
+        max_y: y,
+    }
+}
+
+// The box around two boxes.
+pub fn join(e: Extents, f: Extents) -> Extents
+    ensures { λ r. ⌜ r ≡ joined e f ⌝ }
+{
+    Extents {
+        min_x: smaller(e.min_x, f.min_x),
+        max_x: larger(e.max_x, f.max_x),
+        min_y: smaller(e.min_y, f.min_y),
+        max_y: larger(e.max_y, f.max_y),
+    }
+}
+
+// The box of a part; of no vertex, all 0.
+pub fn bounds(p: &[i16]) -> Extents
+    ensures { λ r. ⌜ r ≡ extentsOf (partOf (now (p .entry))) ⌝ }
+{
+    let n = p.len() / 2;
+    if n == 0 {
+        return point(0, 0);
+    }
+    let mut e = point(p[0], p[1]);
+    let mut k: usize = 1;
+    while k < n {
+        e = join(e, point(p[2 * k], p[2 * k + 1]));
+        k += 1;
+    }
+    e
 }

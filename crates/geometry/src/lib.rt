@@ -2,3 +2,4 @@
 pub mod along;
 pub mod edges;
 pub mod extents;
+pub mod pairs;

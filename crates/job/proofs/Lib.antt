@@ -1,5 +1,11 @@
 pub mod Bools
+pub mod CauseLaws
 pub mod ClassLaws
+pub mod GapLaws
 pub mod KindLaws
+pub mod PartLaws
+pub mod PlaceLaws
 pub mod Ranges
 pub mod RecordLaws
+pub mod TableLaws
+pub mod ViewLaws

@@ -37,7 +37,10 @@ pub fn unfit(job: &[u8], at: usize) -> bool
     ensures { λ r. ⌜ r ≡ boardUnfit (now (job .entry)) at ⌝ }
 {
     let b = read_board(job, at);
-    if fields::in_range(1, 1000, b.width) & fields::in_range(1, 1000, b.length) & fields::in_range(1, 1000, b.step) {
+    if fields::in_range(1, 1000, b.width)
+        & fields::in_range(1, 1000, b.length)
+        & fields::in_range(1, 1000, b.step)
+    {
         return 1024 < multiples(b.length, b.step) * multiples(b.width, b.step);
     }
     true

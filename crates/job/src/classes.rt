@@ -11,7 +11,9 @@ fn in_range(job: &[u8], o: usize) -> bool
     requires { ⌜ o + 3 ≤ length (now job) ⌝ }
     ensures { λ r. ⌜ r ≡ classInRange (classFrom (now (job .entry)) o) ⌝ }
 {
-    (fields::byte(job, o) <= 7) & (fields::byte(job, o + 1) <= 255) & (fields::byte(job, o + 2) <= 63)
+    (fields::byte(job, o) <= 7)
+        & (fields::byte(job, o + 1) <= 255)
+        & (fields::byte(job, o + 2) <= 63)
 }
 
 // Each of the n records from byte `at` on is in range.

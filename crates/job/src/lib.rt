@@ -1,11 +1,21 @@
 // Reading a job: the sender's refusals 1 to 7, what the layers above use of an accepted job, and the read service.
 
+ghost use mathlib.Core.Path.{_≡_};
+ghost use Rattle.model.specs.Format.{refusal};
+ghost use Rattle.job.specs.View.{ViewOf};
+
+mod accepted;
 mod board;
+mod causes;
 mod classes;
 mod fields;
+mod gaps;
 mod kinds;
+mod parts;
+mod places;
 mod records;
 mod sections;
+mod table;
 mod trailer;
 
 // What the layers above use of an accepted job: numbers, and where each part's bytes begin. Of each array the first
@@ -29,4 +39,42 @@ pub struct View {
 pub struct Opened {
     pub refusal: u8,
     pub view: View,
+}
+
+// The view that stands beside a refusal: nothing.
+fn no_view() -> View {
+    View {
+        width: 0,
+        length: 0,
+        step: 0,
+        rows: 0,
+        columns: 0,
+        kinds: 0,
+        pieces: 0,
+        demands: [0usize; 8],
+        rotations: [0usize; 8],
+        gaps: [0usize; 8],
+        parts: [0usize; 8],
+        part_at: [0usize; 48],
+    }
+}
+
+// Reads a job. Type records are judged whole, cause 6, before any part's soundness, cause 7.
+pub fn open(job: &[u8]) -> Opened
+    ensures { λ r. ⌜ r .refusal ≡ refusal (now (job .entry)) ⌝ }
+    ensures { λ r. ⌜ (r .refusal ≡ 0 → ViewOf (now (job .entry)) (r .view)) ⌝ }
+{
+    let first = causes::first_of_six(job);
+    if first != 0 {
+        let view = no_view();
+        return Opened {
+            refusal: first,
+            view,
+        };
+    }
+    let view = accepted::view_of(job);
+    if accepted::unsound(job, view) {
+        return Opened { refusal: 7, view };
+    }
+    Opened { refusal: 0, view }
 }

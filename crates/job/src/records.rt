@@ -45,7 +45,9 @@ fn head_in_range(kind: &[u8]) -> bool
     if kind.len() < 4 {
         return false;
     }
-    fields::in_range(1, 12, fields::byte(kind, 0)) & fields::in_range(1, 15, fields::byte(kind, 1)) & fields::in_range(1, 6, fields::byte(kind, 3))
+    fields::in_range(1, 12, fields::byte(kind, 0))
+        & fields::in_range(1, 15, fields::byte(kind, 1))
+        & fields::in_range(1, 6, fields::byte(kind, 3))
 }
 
 // The type record at the front.

@@ -1,7 +1,7 @@
 -- The list words of specs/Lists over lists put together, and over one element more at the end: the laws of loops that count up.
 use mathlib.Core.Bool.{Bool, true, false, not, cond, _&&_, _||_, and-assoc, or-assoc, and-true, or-false}
 use mathlib.Core.List.{List, [], _∷_, _++_, map, append-assoc, append-nil}
-use mathlib.Core.Path.{_≡_, refl, sym, ap, _∙_}
+use mathlib.Core.Path.{_≡_, refl, sym, ap, ap₂, _∙_}
 use Prim.Native.Nat.{ℕ, zero, suc, _+_, _-_, _<_, _≤_}
 use native.Mathlib.Nat.{not-suc-le-zero, le-of-suc-le-suc, add-zero, add-suc, suc-add, zero-add, add-assoc}
 use native.Mathlib.Numerals.{add-one}
@@ -17,6 +17,12 @@ map-append f (x ∷ xs) ys = ap (λ r. f x ∷ r) (map-append f xs ys)
 pub map-same : {A B : Type 0} (f g : A → B) (xs : List A) → ((x : A) → f x ≡ g x) → map f xs ≡ map g xs
 map-same f g [] h = refl
 map-same f g (x ∷ xs) h = rw (h x, map-same f g xs h)
+
+-- Element i of a mapped list, whatever stands past the ends.
+pub getD-map-at : {A B : Type 0} (f : A → B) (xs : List A) (i : ℕ) (d : A) (e : B) → i < length xs → getD (map f xs) i e ≡ f (getD xs i d)
+getD-map-at f [] i d e h = absurd (not-suc-le-zero h)
+getD-map-at f (x ∷ xs) zero d e h = refl
+getD-map-at f (x ∷ xs) (suc i) d e h = getD-map-at f xs i d e (le-of-suc-le-suc h)
 
 module _ {A : Type 0} where
   pub all-append : (p : A → Bool) (xs ys : List A) → all p (xs ++ ys) ≡ (all p xs && all p ys)
@@ -124,3 +130,12 @@ all-numbers-more p n = ap (all p) (below-more n) ∙ all-more p (below n) n
 
 pub any-take-more : {A : Type 0} (p : A → Bool) (xs : List A) (d : A) (i : ℕ) → i < length xs → any p (take (i + 1) xs) ≡ (any p (take i xs) || p (getD xs i d))
 any-take-more p xs d i h = ap (λ m. any p (take m xs)) (add-one i) ∙ ap (any p) (take-suc xs i d h) ∙ any-more p (take i xs) (getD xs i d)
+
+-- Tests that agree below n.
+pub all-same : (p q : ℕ → Bool) (n : ℕ) → ((i : ℕ) → i < n → p i ≡ q i) → all p (below n) ≡ all q (below n)
+unfolding all below rising
+all-same p q n h = go 0 n (λ i a b. h i (omega arith))
+  where
+    go : (i k : ℕ) → ((j : ℕ) → i ≤ j → j < i + k → p j ≡ q j) → all p (rising i k) ≡ all q (rising i k)
+    go i zero h = refl
+    go i (suc k) h = ap₂ (λ a b. a && b) (h i (omega arith) (omega arith)) (go (suc i) k (λ j a b. h j (omega arith) (omega arith)))

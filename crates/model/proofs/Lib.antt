@@ -14,3 +14,5 @@ pub mod ReadBack
 pub mod Search
 pub mod Readers
 pub mod Records
+pub mod Ranges
+pub mod AcceptedJob

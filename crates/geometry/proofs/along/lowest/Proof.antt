@@ -40,10 +40,12 @@ vertex-along-requires c κs = search needs
 
 -- src/along.rt:60:5
 loop-holds : tie.Need-loop-holds Inv-loop μ-loop
-loop-holds c =
-    (omega arith, refl,
-    lowest-kept _ (partOf (now (c .before .before .args .p))) (sfits-of (c .vertex-along .ok)) refl
-    (lowest-first _ (partOf (now (c .before .before .args .p))) (omega (arith, part-length (now (c .before .before .args .p)))) (c .vertex-along .ensures)))
+loop-holds c = (
+  omega arith,
+  refl,
+  lowest-kept _ (partOf (now (c .before .before .args .p))) (sfits-of (c .vertex-along .ok)) refl
+      (lowest-first _ (partOf (now (c .before .before .args .p))) (omega (arith, part-length (now (c .before .before .args .p)))) (c .vertex-along .ensures)),
+)
 
 -- src/along.rt:61:31
 vertex-along-requires-2 : tie.Need-vertex-along-requires-2 Inv-loop μ-loop
@@ -63,10 +65,12 @@ loop-less c = search needs
 
 -- src/along.rt:60:5
 loop-again : tie.Need-loop-again Inv-loop μ-loop
-loop-again c =
-    (omega arith, refl,
-    lowest-kept _ (partOf (part c)) (sfits-of (c .lesser .ok)) (c .lesser .ensures ∙ ap (minZ _) (toZ-ofZ w64 _ (sfits-of (c .before .vertex-along2 .ok))))
-    (lowest-next _ (partOf (part c)) _ _ (c .before .before .before .loop .k) (omega (arith, part-length (part c))) (c .before .before .before .loop .inv .2) (c .before .vertex-along2 .ensures)))
+loop-again c = (
+  omega arith,
+  refl,
+  lowest-kept _ (partOf (part c)) (sfits-of (c .lesser .ok)) (c .lesser .ensures ∙ ap (minZ _) (toZ-ofZ w64 _ (sfits-of (c .before .vertex-along2 .ok))))
+      (lowest-next _ (partOf (part c)) _ _ (c .before .before .before .loop .k) (omega (arith, part-length (part c))) (c .before .before .before .loop .inv .2) (c .before .vertex-along2 .ensures)),
+)
   where
     part : (c : tie.After-lesser Inv-loop μ-loop) → List ℤ
     part c = now (c .before .before .before .before .before .before .args .p)

@@ -142,14 +142,17 @@ directions-less : tie.Need-directions-less Inv-loop μ-loop Inv-directions μ-di
 directions-less c = search needs
 
 directions-again : tie.Need-directions-again Inv-loop μ-loop Inv-directions μ-directions
-directions-again c =
-    (refl, omega arith, c .before .before .loop .inv .1,
-    remaining-next (test (entry (c .before .before .before))) (part (c .before .before .before)) (edge (c .before .before .before)) (omega (arith, part-length (now (entry (c .before .before .before) .args .p))))
-    (verdict (c .before .before .before) false
-    (one-beyond (along (bearing (c .before .before .before))) (part (c .before .before .before)) (bound (c .before .before .before)) (c .before .before .loop .i)
-    (omega (arith, part-length (now (entry (c .before .before .before) .args .p))))
-    (leZ-false _ _ (ap (λ s. leZ s (bound (c .before .before .before))) (sym (reached (c .before))) ∙ c .if1 .left))))
-    (c .before .before .before .before .before .before .before .directions .inv .3))
+directions-again c = (
+  refl,
+  omega arith,
+  c .before .before .loop .inv .1,
+  remaining-next (test (entry (c .before .before .before))) (part (c .before .before .before)) (edge (c .before .before .before)) (omega (arith, part-length (now (entry (c .before .before .before) .args .p))))
+      (verdict (c .before .before .before) false
+      (one-beyond (along (bearing (c .before .before .before))) (part (c .before .before .before)) (bound (c .before .before .before)) (c .before .before .loop .i)
+      (omega (arith, part-length (now (entry (c .before .before .before) .args .p))))
+      (leZ-false _ _ (ap (λ s. leZ s (bound (c .before .before .before))) (sym (reached (c .before))) ∙ c .if1 .left))))
+      (c .before .before .before .before .before .before .before .directions .inv .3),
+)
 
 returns : tie.Need-returns Inv-loop μ-loop Inv-directions μ-directions
 returns c =

@@ -1,0 +1,271 @@
+-- What a prepared call's view, turned vertices and boxes say of the model: placements, extents, conflicts and rows. Assumes nothing.
+use mathlib.Core.Bool.{Bool, true, false, not, _&&_, _||_, and-assoc}
+use mathlib.Core.List.{List, [], _∷_, _++_, map}
+use mathlib.Core.Logic.{_⊎_, inl, inr, ⊎-elim}
+use mathlib.Core.Path.{_≡_, refl, sym, ap, ap₂, subst, _∙_}
+use Prim.Native.Nat.{ℕ, zero, suc, _+_, _*_, _/_, _%_, _≤_, _<_, max}
+use native.Mathlib.Nat.{div-mul-le-self, div-le-self, mul-le-mul-right, mod-lt, not-suc-le-zero, div-lt-iff-lt-mul}
+use native.Mathlib.Omega.{arith}
+use borrow.Author.Tests.{ltb-true}
+use lib.Dec.{ltb}
+use lib.IntN.{ℤ, pos, negsuc, _+ℤ_, _-ℤ_}
+use lib.ListN.{length, getD, length-append, length-map}
+use lib.Signed.{leZ, _≤ℤ_}
+use Rattle.integers.proofs.Order.{leZ-true, ≤ℤ-pos}
+use Rattle.words.specs.Bits.{testBit, bitsWhere}
+use Rattle.words.proofs.Bit.{testBit-above, bitsWhere-cong}
+use Rattle.words.proofs.Cases.{le-or-lt}
+use Rattle.model.specs.Candidate.{placedPart, placedParts, placedVertices, onBoard, admitted, isCandidate, natural, extent}
+use Rattle.model.specs.Content.{Vertex, Part, Kind, Board, Job, kindAt, kindCount}
+use Rattle.model.specs.Format.{content, refusal}
+use Rattle.model.specs.Gap.{kindGap, pairGap}
+use Rattle.model.specs.Geometry.{rotated, moved, separated, piecesConflict}
+use Rattle.model.specs.Grid.{Placement, placement, rows, columns, dots, numberLimit, placementOf}
+use Rattle.model.specs.Layout.{entry, entryOf, entryKind, conflict}
+use Rattle.model.specs.Lists.{all, any, concat, below, largestZ, smallestZ}
+use Rattle.model.specs.Services.{rowBit, rowWords}
+use Rattle.model.proofs.Accepted.{accepted-kinds, accepted-sensible}
+use Rattle.model.proofs.Box.{all-onBoard, placed-vertices, extent-placed, largest-x-moved, largest-y-moved, smallest-x-moved, smallest-y-moved}
+use Rattle.model.proofs.Folds.{map-same}
+use Rattle.model.proofs.Lists.{and-left, and-right, not-both}
+use Rattle.model.proofs.Numbers.{rows-positive}
+use Rattle.model.proofs.Moves.{Vertexed, separated-placed}
+use Rattle.model.proofs.Ranges.{accepted-board, accepted-gap}
+use Rattle.geometry.specs.Boxes.{extentsOf}
+use Rattle.geometry.specs.Flat.{shifted}
+use Rattle.geometry.specs.declared.extents.Extents.{Extents}
+use Rattle.job.specs.declared.View.{View}
+use Rattle.candidates.specs.Boxes.{boxAt, turnedVertices, BoxesOf}
+use Rattle.candidates.specs.Pieces.{PieceOf, partsIn}
+use Rattle.candidates.specs.Placements.{Bounded, within, fitsAt, placeable, offered, extentAt}
+use Rattle.candidates.specs.Rows.{Prepared, placed, placedOf, Near, conflictBetween, bitOf, wordOf}
+use Rattle.candidates.specs.Turned.{Viewed, TurnedOf}
+use Rattle.candidates.specs.declared.boxes.Boxes.{Boxes}
+use Rattle.candidates.specs.declared.conflicts.Placed.{Placed}
+use Rattle.candidates.specs.declared.pieces.Piece.{Piece}
+use Rattle.candidates.proofs.PieceLaws.{parts-turned}
+use Rattle.candidates.proofs.ViewLaws.{few-kinds, kind-in, some-part, part-in}
+
+-- ---- the ranges of a view's numbers
+
+-- the first of some parts has a vertex, so all together have one
+first-vertex : (f : Part → Part) → ((P : Part) → length (f P) ≡ length P) → (Ps : List Part) → 1 ≤ length Ps → ((i : ℕ) → i < length Ps → 3 ≤ length (getD Ps i []))
+    → 0 < length (concat (map f Ps))
+unfolding concat
+first-vertex f e [] l k = absurd (not-suc-le-zero l)
+first-vertex f e (P ∷ Ps) l k = rw (length-append (f P) (concat (map f Ps))) (omega (arith, e P, k 0 (omega arith)))
+
+-- what counts up to n in steps of g stays within n
+reached : (n g c : ℕ) → c < n / g + 1 → c * g ≤ n
+reached n g c h =
+    let a : c * g ≤ n / g * g = mul-le-mul-right g (omega arith) in
+    let b : n / g * g ≤ n = div-mul-le-self n g in
+    omega arith
+
+module _ (s : List ℕ) (v : View) (x : Viewed s v) where
+  pub bounded : Bounded v
+  unfolding rows columns
+  bounded =
+      let r = accepted-board s (x .accepted) in
+      let sheet : Board = content s .sheet in
+      record {
+        kinds = rw (x .view .kinds) (few-kinds s v x);
+        rows = rw (x .view .rows) (omega arith, omega (arith, div-le-self (sheet .W) (sheet .g), r .wide));
+        columns = rw (x .view .columns) (omega (arith, div-le-self (sheet .L) (sheet .g), r .long));
+        size = (rw (x .view .len) (r .long .1), rw (x .view .width) (r .wide .1));
+        step = rw (x .view .step) (r .stepped .1);
+        across = λ c h. rw (x .view .step, x .view .len) (reached (sheet .L) (sheet .g) c (rw (x .view .columns) at h));
+        up = λ c h. rw (x .view .step, x .view .width) (reached (sheet .W) (sheet .g) c (rw (x .view .rows) at h));
+        rotations = λ t h. rw (kind-in s v x t (rw (x .view .kinds) at h) .rotations) (accepted-sensible s (x .accepted) .turned t);
+        gaps = λ t h. rw (kind-in s v x t (rw (x .view .kinds) at h) .gap) (accepted-gap s (x .accepted) (kindAt (content s) t));
+      }
+
+  -- the vertices of a kind
+  module _ (t : ℕ) (h : t < kindCount (content s)) where
+    pub some-vertex : (k : ℕ) → 0 < length (turnedVertices s t k)
+    some-vertex k = first-vertex (map (rotated k)) (λ P. length-map P (rotated k)) (kindAt (content s) t .parts) (some-part s v x t h) (λ i l. part-in s v x t h i l .least)
+
+    pub vertexed : Vertexed (kindAt (content s) t .parts)
+    vertexed = go (kindAt (content s) t .parts) (λ i l. part-in s v x t h i l .least)
+      where
+        go : (Ps : List Part) → ((i : ℕ) → i < length Ps → 3 ≤ length (getD Ps i [])) → Vertexed Ps
+        go [] k = tt
+        go (P ∷ Ps) k = (omega (arith, k 0 (omega arith)), go Ps (λ i l. k (suc i) (omega arith)))
+
+-- ---- placements
+
+module _ (s : List ℕ) (v : View) (b : Boxes) (x : Viewed s v) (y : BoxesOf s b) (t : ℕ) (h : t < kindCount (content s)) where
+  -- the box decides whether all vertices lie on the board
+  on-board : (c r k : ℕ) → k < 4 → fitsAt v (boxAt b t k) c r ≡ all (onBoard (content s .sheet)) (placedVertices (content s .sheet) (kindAt (content s) t) (placement c r k))
+  unfolding fitsAt within extentsOf
+  on-board c r k l =
+      let sheet : Board = content s .sheet in
+      let vs : List Vertex = turnedVertices s t k in
+      let some = some-vertex s v x t h k in
+      let ms : List Vertex = map (moved (c * sheet .g) (r * sheet .g)) vs in
+      rw (y .exact t k h l, x .view .step, x .view .len, x .view .width)
+      (sym
+      (ap (all (onBoard sheet)) (placed-vertices sheet (kindAt (content s) t) (placement c r k))
+      ∙ all-onBoard sheet ms (rw (length-map vs (moved (c * sheet .g) (r * sheet .g))) some)
+      ∙ rw (smallest-x-moved (c * sheet .g) (r * sheet .g) vs some, largest-x-moved (c * sheet .g) (r * sheet .g) vs some, smallest-y-moved (c * sheet .g) (r * sheet .g) vs some, largest-y-moved (c * sheet .g) (r * sheet .g) vs some)
+      (search and-assoc)))
+
+  -- Whether a kind may stand on a dot at a rotation is what the model says.
+  pub placeable-is : (c r k : ℕ) → placeable v b t c r k ≡ admitted (content s) (kindAt (content s) t) (placement c r k)
+  unfolding placeable admitted
+  placeable-is c r k =
+      ap (λ n. ltb c n && ltb r (v .rows) && testBit (getD (v .rotations) t 0) k && fitsAt v (boxAt b t k) c r) (x .view .columns)
+      ∙ ap (λ n. ltb c (columns (content s .sheet)) && ltb r n && testBit (getD (v .rotations) t 0) k && fitsAt v (boxAt b t k) c r) (x .view .rows)
+      ∙ ap (λ n. ltb c (columns (content s .sheet)) && ltb r (rows (content s .sheet)) && testBit n k && fitsAt v (boxAt b t k) c r) (kind-in s v x t h .rotations)
+      ∙ ⊎-elim (λ g. far g) (λ g. ap (λ w. ltb c (columns (content s .sheet)) && ltb r (rows (content s .sheet)) && testBit (kindAt (content s) t .rotations) k && w) (on-board c r k g)) (le-or-lt 4 k)
+    where
+      rest : Bool
+      rest = ltb c (columns (content s .sheet)) && ltb r (rows (content s .sheet))
+
+      board : Bool
+      board = all (onBoard (content s .sheet)) (placedVertices (content s .sheet) (kindAt (content s) t) (placement c r k))
+
+      far : 4 ≤ k → (rest && testBit (kindAt (content s) t .rotations) k && fitsAt v (boxAt b t k) c r) ≡ (rest && testBit (kindAt (content s) t .rotations) k && board)
+      far g = rw (testBit-above (kindAt (content s) t .rotations) 4 k (accepted-sensible s (x .accepted) .turned t) g) (none rest (fitsAt v (boxAt b t k) c r) board)
+        where
+          none : (a u w : Bool) → (a && false && u) ≡ (a && false && w)
+          none true u w = refl
+          none false u w = refl
+
+  -- The same of a candidate number.
+  pub offered-is : (n : ℕ) → offered v b t n ≡ isCandidate (content s) t n
+  unfolding offered isCandidate placementOf
+  offered-is n =
+      ap (λ m. placeable v b t (n / 4 / m) (n / 4 % m) (n % 4)) (x .view .rows)
+      ∙ placeable-is (n / 4 / rows (content s .sheet)) (n / 4 % rows (content s .sheet)) (n % 4)
+
+  -- The end of a placement at a rotation is what the model says, whatever its row.
+  pub extent-is : (c r k : ℕ) → k < 4 → extentAt v b t c k ≡ extent (content s .sheet) (kindAt (content s) t) (placement c r k)
+  unfolding extentAt extentsOf
+  extent-is c r k l =
+      rw (y .exact t k h l, x .view .step) (sym (extent-placed (content s .sheet) (kindAt (content s) t) (placement c r k) (some-vertex s v x t h k)))
+
+-- ---- conflicts
+
+module _ (gap : ℕ) (b : Board) (p q : Placement) where
+  -- from the one dot to the other
+  abbrev wayX : ℤ
+  wayX = pos (q .column * b .g) -ℤ pos (p .column * b .g)
+
+  abbrev wayY : ℤ
+  wayY = pos (q .row * b .g) -ℤ pos (p .row * b .g)
+
+  against : (P : Part) → 0 < length P → (Qs : List Part) → Vertexed Qs
+      → any (λ Q. not (separated gap (map (rotated (p .rotation)) P) Q)) (map (map (shifted wayX wayY)) (map (map (rotated (q .rotation))) Qs))
+      ≡ any (λ Q. not (separated gap (placedPart b p P) Q)) (map (placedPart b q) Qs)
+  unfolding any
+  against P h [] k = refl
+  against P h (Q ∷ Qs) k = ap₂ _||_ (ap not (sym (separated-placed gap b p q P Q h (k .0)))) (against P h Qs (k .1))
+
+  -- Turned pieces, the second moved by the way, are in conflict exactly if the placed pieces are.
+  pub conflict-placed : (Ps Qs : List Part) → Vertexed Ps → Vertexed Qs
+      → piecesConflict gap (map (map (rotated (p .rotation))) Ps) (map (map (shifted wayX wayY)) (map (map (rotated (q .rotation))) Qs))
+      ≡ piecesConflict gap (map (placedPart b p) Ps) (map (placedPart b q) Qs)
+  unfolding piecesConflict any
+  conflict-placed [] Qs h k = refl
+  conflict-placed (P ∷ Ps) Qs h k = ap₂ _||_ (against P (h .0) Qs k) (conflict-placed Ps Qs (h .1) k)
+
+-- The model's placement of a place.
+abbrev pub placementAt : Placed → Placement
+placementAt a = placement (a .column) (a .row) (a .rotation)
+
+module _ (s : List ℕ) (v : View) (table : List ℤ) (x : Viewed s v) (z : TurnedOf s table) (t u : ℕ) (ht : t < kindCount (content s)) (hu : u < kindCount (content s))
+    (p q : Piece) (ep : PieceOf s t p) (eq : PieceOf s u q) where
+  -- Conflict of two placed pieces at the pair's gap is what the model says.
+  pub conflict-is : (a c : Placed) → a .rotation < 4 → c .rotation < 4
+      → conflictBetween table (v .step) p a q c (pairGap (content s) (kindAt (content s) t) (kindAt (content s) u))
+      ≡ conflict (content s) (entry t (placementAt a)) (entry u (placementAt c))
+  unfolding conflictBetween conflict entryKind placedParts
+  conflict-is a c ha hc =
+      rw (parts-turned s table t p (a .rotation) z ep ht ha, parts-turned s table u q (c .rotation) z eq hu hc, x .view .step)
+      (conflict-placed (pairGap (content s) (kindAt (content s) t) (kindAt (content s) u)) (content s .sheet) (placementAt a) (placementAt c) (kindAt (content s) t .parts) (kindAt (content s) u .parts)
+      (vertexed s v x t ht) (vertexed s v x u hu))
+
+  -- the place of a number is the model's placement of it
+  place-is : (n : ℕ) → entry t (placementAt (placedOf (v .rows) n)) ≡ entryOf (content s) t n
+  unfolding entryOf placementOf
+  place-is n = ap (λ m. entry t (placement (n / 4 / m) (n / 4 % m) (n % 4))) (x .view .rows)
+
+  place-is-2 : (n : ℕ) → entry u (placementAt (placedOf (v .rows) n)) ≡ entryOf (content s) u n
+  unfolding entryOf placementOf
+  place-is-2 n = ap (λ m. entry u (placement (n / 4 / m) (n / 4 % m) (n % 4))) (x .view .rows)
+
+  -- The same of two numbers.
+  pub numbers-conflict : (n m : ℕ)
+      → conflictBetween table (v .step) p (placedOf (v .rows) n) q (placedOf (v .rows) m) (pairGap (content s) (kindAt (content s) t) (kindAt (content s) u))
+      ≡ conflict (content s) (entryOf (content s) t n) (entryOf (content s) u m)
+  numbers-conflict n m =
+      conflict-is (placedOf (v .rows) n) (placedOf (v .rows) m) (omega arith) (omega arith) ∙ ap₂ (conflict (content s)) (place-is n) (place-is-2 m)
+
+  module _ (b : Boxes) (y : BoxesOf s b) (gap n : ℕ) (eg : gap ≡ pairGap (content s) (kindAt (content s) t) (kindAt (content s) u)) where
+    -- A bit of the row is what the model says.
+    pub bit-is : (m : ℕ) → bitOf v b table p (placedOf (v .rows) n) q u gap m ≡ rowBit (content s) t n u m
+    unfolding bitOf rowBit
+    bit-is m = go (isCandidate (content s) u m) refl
+      where
+        test : Bool
+        test = conflictBetween table (v .step) p (placedOf (v .rows) n) q (placedOf (v .rows) m) gap
+
+        same : test ≡ conflict (content s) (entryOf (content s) t n) (entryOf (content s) u m)
+        same =
+            ap (λ g. conflictBetween table (v .step) p (placedOf (v .rows) n) q (placedOf (v .rows) m) g) eg
+            ∙ numbers-conflict n m
+
+        go : (w : Bool) → isCandidate (content s) u m ≡ w → (offered v b u m && test) ≡ rowBit (content s) t n u m
+        go true e = ap (λ w. w && test) (offered-is s v b x y u hu m ∙ e) ∙ same ∙ rw (e, rowBit)
+        go false e = ap (λ w. w && test) (offered-is s v b x y u hu m ∙ e) ∙ rw (e, rowBit)
+
+    -- The words of the row are what the model says.
+    pub words-are : (k : ℕ) → map (wordOf v b table p (placedOf (v .rows) n) q u gap) (below k) ≡ map (λ w. bitsWhere 64 (λ i. rowBit (content s) t n u (w * 64 + i))) (below k)
+    unfolding wordOf
+    words-are k = map-same _ _ (below k) (λ w. bitsWhere-cong 64 _ _ (λ i l. bit-is (w * 64 + i)))
+
+-- ---- what every candidate keeps
+
+-- A number that is one of a board's has a column of the board.
+column-within : (b : Board) (n : ℕ) → n < numberLimit b → n / 4 / rows b < columns b
+unfolding numberLimit dots
+column-within b n h = div-lt-iff-lt-mul (rows-positive b) .1 (omega arith)
+
+pub number-near : (s : List ℕ) (v : View) → Viewed s v → (n : ℕ) → n < numberLimit (content s .sheet) → Near (v .step) (placedOf (v .rows) n)
+number-near s v x n h =
+    let b = bounded s v x in
+    record {
+      across = omega (arith, b .across (n / 4 / v .rows) (rw (x .view .rows, x .view .columns) (column-within (content s .sheet) n h)));
+      up = omega (arith, b .up (n / 4 % v .rows) (mod-lt (n / 4) (b .rows .0)));
+      turn = omega arith;
+    }
+
+-- A candidate's number is one of the board's.
+pub candidate-number : (j : Job) (t n : ℕ) → isCandidate j t n ≡ true → n < numberLimit (j .sheet)
+unfolding isCandidate admitted placementOf numberLimit dots
+candidate-number j t n e =
+    let c : n / 4 / rows (j .sheet) < columns (j .sheet) = ltb-true _ _ (and-left _ _ (and-left _ _ (and-left _ _ e))) in
+    let d : n / 4 < columns (j .sheet) * rows (j .sheet) = div-lt-iff-lt-mul (rows-positive (j .sheet)) .0 c in
+    omega arith
+
+natural-most : (z : ℤ) (n : ℕ) → z ≤ℤ pos n → natural z ≤ n
+unfolding natural
+natural-most (pos m) n h = ≤ℤ-pos h
+natural-most (negsuc m) n h = omega arith
+
+-- A candidate ends on the board: at most at L, which is at most 1000.
+pub candidate-extent : (s : List ℕ) (v : View) (b : Boxes) → Viewed s v → BoxesOf s b → (t : ℕ) → t < kindCount (content s) → (c r k : ℕ)
+    → admitted (content s) (kindAt (content s) t) (placement c r k) ≡ true → extent (content s .sheet) (kindAt (content s) t) (placement c r k) ≤ content s .sheet .L
+unfolding placeable fitsAt within extentAt
+candidate-extent s v b x y t h c r k e =
+    let p : placeable v b t c r k ≡ true = placeable-is s v b x y t h c r k ∙ e in
+    let fits = and-right (ltb c (v .columns) && ltb r (v .rows) && testBit (getD (v .rotations) t 0) k) _ p in
+    let across = and-left _ _ fits in
+    let high = leZ-true _ _ (and-right (leZ (pos 0) (boxAt b t k .«min_x» +ℤ pos (c * v .step))) _ across) in
+    let turn : k < 4 = turn-small (and-right (ltb c (v .columns) && ltb r (v .rows)) _ (and-left _ _ p)) in
+    rw (← (extent-is s v b x y t h c r k turn), ← (x .view .len)) (natural-most _ (v .length) high)
+  where
+    turn-small : testBit (getD (v .rotations) t 0) k ≡ true → k < 4
+    turn-small g =
+        ⊎-elim (λ l. absurd (not-both g (testBit-above (getD (v .rotations) t 0) 4 k (rw (kind-in s v x t h .rotations) (accepted-sensible s (x .accepted) .turned t)) l))) (λ l. l) (le-or-lt 4 k)

@@ -1,0 +1,27 @@
+use mathlib.Core.Path.{_∙_}
+use native.Mathlib.Omega.{arith}
+use denote.Ref.{now}
+use Rattle.geometry.specs.Flat.{partOf}
+use Rattle.geometry.proofs.Flat.{part-length}
+use Rattle.geometry.proofs.PairLaws.{apart-empty, apart-moved}
+use borrow.Author.Needs.{needs}
+use Rattle.geometry.proofs.pairs.separated.Statement.{statement}
+use Rattle.geometry.proofs.pairs.separated.Tie as tie
+use Rattle.geometry.proofs.pairs.separated.Reads as reads
+use Rattle.geometry.proofs.pairs.separated.Lts as lts
+use Rattle.geometry.proofs.pairs.apart_at.Reads as apart-at-reads
+
+apart-at-requires : tie.Need-apart-at-requires
+apart-at-requires c κs = search needs
+
+returns : tie.Need-returns
+returns c = c .apart-at .ensures ∙ apart-empty (c .before .before .args .gap) (partOf (now (c .before .before .args .p))) (partOf (now (c .before .before .args .q))) (c .before .before .args .dx) (c .before .before .args .dy) (omega (arith, part-length (now (c .before .before .args .q))))
+
+apart-at-requires-2 : tie.Need-apart-at-requires-2
+apart-at-requires-2 c κs = search needs
+
+returns-2 : tie.Need-returns-2
+returns-2 c = c .apart-at2 .ensures ∙ (search needs) ∙ apart-moved (c .before .before .args .gap) (partOf (now (c .before .before .args .p))) (partOf (now (c .before .before .args .q))) (c .before .before .args .dx) (c .before .before .args .dy) (omega (arith, part-length (now (c .before .before .args .q))))
+
+pub separated-spec : {M : Type 1} → statement M
+separated-spec = tie.close (tie.spec apart-at-requires returns apart-at-requires-2 returns-2)

@@ -1,0 +1,43 @@
+-- Bounding boxes, and the four axis directions tested by them.
+use mathlib.Core.Bool.{Bool, _||_}
+use mathlib.Core.List.{List, map}
+use Prim.Native.Nat.{ℕ}
+use lib.IntN.{ℤ, pos, _+ℤ_, _-ℤ_}
+use lib.Signed.{leZ}
+use Rattle.integers.specs.Extrema.{maxZ, minZ}
+use Rattle.model.specs.Content.{Vertex, vertex, Part}
+use Rattle.model.specs.Geometry.{normals}
+use Rattle.model.specs.Lists.{any, largestZ, smallestZ}
+use Rattle.geometry.specs.Reach.{clears}
+use Rattle.geometry.specs.declared.extents.Extents.{Extents}
+
+-- The box from lowX to highX and from lowY to highY.
+abbrev pub box : ℤ → ℤ → ℤ → ℤ → Extents
+box lowX highX lowY highY = record { «min_x» = lowX; «max_x» = highX; «min_y» = lowY; «max_y» = highY }
+
+-- The least and the largest x and y of some vertices. (Of none, 0.)
+unfoldable pub extentsOf : List Vertex → Extents
+extentsOf vs = box (smallestZ (map (λ v. v .x) vs)) (largestZ (map (λ v. v .x) vs)) (smallestZ (map (λ v. v .y) vs)) (largestZ (map (λ v. v .y) vs))
+
+-- The box around two boxes.
+unfoldable pub joined : Extents → Extents → Extents
+joined e f = box (minZ (e .«min_x») (f .«min_x»)) (maxZ (e .«max_x») (f .«max_x»)) (minZ (e .«min_y») (f .«min_y»)) (maxZ (e .«max_y») (f .«max_y»))
+
+-- What ends at high and is moved by from clears, by the gap, what begins at low and is moved by to.
+abbrev pub clearOf : ℕ → ℤ → ℤ → ℤ → ℤ → Bool
+clearOf gap high from low to = leZ (high +ℤ from +ℤ pos gap) (low +ℤ to)
+
+-- One of the axis directions separates the boxes at this gap, the second moved by (dx, dy).
+unfoldable pub boxesApart : ℕ → Extents → Extents → ℤ → ℤ → Bool
+boxesApart gap e f dx dy =
+    clearOf gap (e .«max_x») (pos 0) (f .«min_x») dx
+    || clearOf gap (e .«max_y») (pos 0) (f .«min_y») dy
+    || clearOf gap (f .«max_x») dx (e .«min_x») (pos 0)
+    || clearOf gap (f .«max_y») dy (e .«min_y») (pos 0)
+
+-- The test of a pair as it is computed: the axis directions by the boxes, then the normals of P, then those of Q with the parts changed over.
+unfoldable pub apartAt : ℕ → Part → Part → ℤ → ℤ → Bool
+apartAt gap P Q dx dy =
+    boxesApart gap (extentsOf P) (extentsOf Q) dx dy
+    || any (clears gap P Q (vertex (dx -ℤ pos 0) (dy -ℤ pos 0))) (normals P)
+    || any (clears gap Q P (vertex (pos 0 -ℤ dx) (pos 0 -ℤ dy))) (normals Q)

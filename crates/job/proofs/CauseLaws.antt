@@ -1,0 +1,82 @@
+-- The causes as the code finds them are those of the model.
+use mathlib.Core.Bool.{Bool, true, false, not, cond, _||_}
+use mathlib.Core.List.{List, map, map-map}
+use mathlib.Core.Path.{_≡_, refl, sym, ap, ap₂, _∙_}
+use Prim.Native.Nat.{ℕ, _+_, _*_, _-_, _≤_}
+use native.Mathlib.Omega.{arith}
+use lib.Dec.{ltb}
+use lib.ListN.{length, take, drop, length-drop}
+use lib.Seq.{length-take-le}
+use Rattle.model.specs.Format.{byteAt, boardAt, classesAt, classesStated, kindsAt, kindsLength, kindsStated, boardOf, classAt, classesOf, distinct, kindBytes, kindsGot, kindsUnfit, cause1, cause2, cause3, cause4, cause5, cause6}
+use Rattle.model.specs.Lists.{between, below}
+use Rattle.model.proofs.Folds.{map-same}
+use Rattle.job.specs.Board.{boardFrom, unfitBoard}
+use Rattle.job.specs.Classes.{classFrom, classesFrom, entryAt, allInRange, distinctColumn, classesUnfit}
+use Rattle.job.specs.Kinds.{listUnfit}
+use Rattle.job.specs.Refusal.{refusalTo6}
+
+pub board-cause : (s : List ℕ) (o : ℕ) → o ≡ boardAt s → unfitBoard (boardFrom s o) ≡ cause4 s
+unfolding unfitBoard cause4 boardOf
+board-cause s o e = rw e
+
+pub classes-are : (s : List ℕ) → classesOf s ≡ classesFrom s (classesAt s) (classesStated s)
+unfolding classesOf classAt
+classes-are s = refl
+
+pub ids-are : (s : List ℕ) (o n : ℕ) → map (λ c. c .id) (classesFrom s o n) ≡ map (entryAt s o) (below n)
+ids-are s o n = map-map (λ c. c .id) (λ i. classFrom s (o + i * 3)) (below n)
+
+ranks-are : (s : List ℕ) (o n : ℕ) → map (λ c. c .rank) (classesFrom s o n) ≡ map (entryAt s (o + 1)) (below n)
+ranks-are s o n =
+    map-map (λ c. c .rank) (λ i. classFrom s (o + i * 3)) (below n)
+    ∙ map-same (λ i. byteAt s (o + i * 3 + 1)) (entryAt s (o + 1)) (below n) (λ i. ap (byteAt s) (omega arith))
+
+pub ids-distinct : (s : List ℕ) → distinct (map (λ c. c .id) (classesOf s)) ≡ distinctColumn s (classesAt s) (classesStated s)
+unfolding distinctColumn
+ids-distinct s = ap (λ l. distinct (map (λ c. c .id) l)) (classes-are s) ∙ ap distinct (ids-are s (classesAt s) (classesStated s))
+
+pub classes-cause : (s : List ℕ) (o n : ℕ) → o ≡ classesAt s → n ≡ classesStated s → classesUnfit s o n ≡ cause5 s
+unfolding classesUnfit cause5 allInRange distinctColumn
+classes-cause s o n eo en = rw (classes-are s, ids-are s (classesAt s) (classesStated s), ranks-are s (classesAt s) (classesStated s), eo, en)
+
+-- The bytes of the type list.
+module _ (s : List ℕ) (base size : ℕ) (eb : base ≡ kindsAt s) (es : size ≡ kindsLength s) where
+  pub list-is : take (base + size - base) (drop base s) ≡ kindBytes s
+  unfolding kindBytes
+  list-is = let q : base + size - base ≡ kindsLength s = omega arith in ap₂ (λ a b. take a (drop b s)) q eb
+
+  pub list-length : kindsAt s + kindsLength s ≤ length s → length (kindBytes s) ≡ kindsLength s
+  unfolding kindBytes
+  list-length h = length-take-le (kindsLength s) (drop (kindsAt s) s) (rw length-drop (omega arith))
+
+  pub kinds-cause : (b : Bool) (o n m : ℕ) (u : Bool) → kindsAt s + kindsLength s ≤ length s → o ≡ classesAt s → n ≡ classesStated s → m ≡ kindsStated s
+      → b ≡ between 1 8 m → u ≡ listUnfit (classesFrom s o n) (take (base + size - base) (drop base s)) m → (not b || u) ≡ cause6 s
+  unfolding cause6 kindsGot listUnfit
+  kinds-cause b o n m u h eo en em e1 e2 =
+      rw (e1, e2, list-is, list-length h, eo, en, em, classes-are s)
+
+-- The first of six, by its tests.
+module _ (s : List ℕ) where
+  pub at-1 : cause1 s ≡ true → 1 ≡ refusalTo6 s
+  unfolding refusalTo6
+  at-1 a = rw a
+
+  pub at-2 : cause1 s ≡ false → cause2 s ≡ true → 2 ≡ refusalTo6 s
+  unfolding refusalTo6
+  at-2 a b = rw (a, b)
+
+  pub at-3 : cause1 s ≡ false → cause2 s ≡ false → cause3 s ≡ true → 3 ≡ refusalTo6 s
+  unfolding refusalTo6
+  at-3 a b c = rw (a, b, c)
+
+  pub at-4 : cause1 s ≡ false → cause2 s ≡ false → cause3 s ≡ false → cause4 s ≡ true → 4 ≡ refusalTo6 s
+  unfolding refusalTo6
+  at-4 a b c d = rw (a, b, c, d)
+
+  pub at-5 : cause1 s ≡ false → cause2 s ≡ false → cause3 s ≡ false → cause4 s ≡ false → cause5 s ≡ true → 5 ≡ refusalTo6 s
+  unfolding refusalTo6
+  at-5 a b c d e = rw (a, b, c, d, e)
+
+  pub at-6 : (t : Bool) → cause1 s ≡ false → cause2 s ≡ false → cause3 s ≡ false → cause4 s ≡ false → cause5 s ≡ false → cause6 s ≡ t → cond t 6 0 ≡ refusalTo6 s
+  unfolding refusalTo6
+  at-6 t a b c d e f = rw (a, b, c, d, e, f)

@@ -1,0 +1,39 @@
+use mathlib.Core.Path.{_≡_}
+use Prim.Native.Nat.{_≤_, _-_}
+use native.Mathlib.Omega.{arith}
+use Rattle.model.specs.Lists.{all, below}
+use Rattle.job.specs.Parts.{cornerSound, edgeSoundFrom}
+use Rattle.job.proofs.PartLaws.{all-none, corner-more}
+use borrow.Author.Needs.{needs}
+use Rattle.job.proofs.parts.edge_sound.Statement.{statement}
+use Rattle.job.proofs.parts.edge_sound.Tie as tie
+
+abbrev Inv-loop : tie.InvT-loop
+Inv-loop part n p q ok₀ k₀ ok k = (k ≤ n) × (ok ≡ all (cornerSound part p q) (below k))
+
+abbrev μ-loop : tie.MeasureT-loop
+μ-loop part n p q ok₀ k₀ ok k = n - k
+
+loop-holds : tie.Need-loop-holds Inv-loop μ-loop
+loop-holds c = (omega arith, all-none _)
+
+strictly-left-requires : tie.Need-strictly-left-requires Inv-loop μ-loop
+strictly-left-requires c κs = search needs
+
+add-k : tie.Need-add-k Inv-loop μ-loop
+add-k c = search needs
+
+loop-less : tie.Need-loop-less Inv-loop μ-loop
+loop-less c = search needs
+
+loop-again : tie.Need-loop-again Inv-loop μ-loop
+loop-again c = (omega arith, cc (corner-more (c .before .before .before .before .args .part .now) (c .before .before .before .before .args .p) (c .before .before .before .before .args .q) (c .before .before .loop .k)))
+
+returns : tie.Need-returns Inv-loop μ-loop
+unfolding edgeSoundFrom
+returns c = let e : c .before .loop .k ≡ c .before .before .before .args .n = omega arith in cc
+
+pub edge-sound-spec : {M : Type 1} → statement M
+edge-sound-spec =
+    tie.close
+    (tie.spec Inv-loop μ-loop loop-holds strictly-left-requires add-k loop-less loop-again returns)
