@@ -8,6 +8,7 @@ pub mod Kept
 pub mod Held
 pub mod Answer
 pub mod Levels
+pub mod Meeting
 pub mod Sifting
 pub mod Filling
 pub mod Slots

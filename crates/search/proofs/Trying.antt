@@ -46,13 +46,12 @@ pub next-found : (s : List ℕ) (limit from : ℕ)
 unfolding nextMember
 next-found s limit from =
     let m : ℕ = found (member s) (limit - from) from .0 in
-    let f : Found (member s) (limit - from) from m = found (member s) (limit - from) from .1 in
-    (
+    let f : Found (member s) (limit - from) from m = found (member s) (limit - from) from .1 in (
       omega (arith, f .place),
       λ i l h.
-      let e : from + (i - from) ≡ i = omega arith in
-      let k : i - from < m = omega (arith, f .place) in
-      (omega (arith, f .within), subst (λ (n : ℕ). member s n ≡ false) e (f .before (i - from) k)),
+          let e : from + (i - from) ≡ i = omega arith in
+          let k : i - from < m = omega (arith, f .place) in
+          (omega (arith, f .within), subst (λ (n : ℕ). member s n ≡ false) e (f .before (i - from) k)),
       λ h. subst (λ (n : ℕ). member s n ≡ true) (sym (f .place)) (f .met (omega (arith, f .place))),
     )
 

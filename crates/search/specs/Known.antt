@@ -4,20 +4,21 @@ use mathlib.Core.Path.{_≡_}
 use Prim.Native.Nat.{ℕ, _+_, _*_, _<_}
 use lib.IntN.{ℤ}
 use lib.ListN.{getD}
-use Rattle.model.specs.Content.{Job, pieceCount}
+use Rattle.model.specs.Content.{Job, kindAt, kindCount, pieceCount}
 use Rattle.model.specs.Format.{content, refusal}
+use Rattle.model.specs.Gap.{pairGap}
 use Rattle.model.specs.Grid.{setWords}
 use Rattle.model.specs.Search.{copiesLeft}
 use Rattle.job.specs.View.{ViewOf}
 use Rattle.job.specs.declared.View.{View}
+use Rattle.candidates.specs.Boxes.{BoxesOf}
+use Rattle.candidates.specs.Pieces.{PieceOf}
+use Rattle.candidates.specs.Rows.{placedOf}
+use Rattle.candidates.specs.Turned.{TurnedOf}
+use Rattle.candidates.specs.declared.boxes.Boxes.{Boxes}
 use Rattle.search.specs.Levels.{pieceKind, piecesFrom}
 use Rattle.search.specs.declared.plan.Plan.{Plan}
-use Rattle.search.specs.declared.board.Boxes.{Boxes}
-
--- The job is accepted, and this is its view.
-pub record Viewed (s : List ℕ) (v : View) : Type 0 where
-  pub accepted : refusal s ≡ 0
-  pub view : ViewOf s v
+use Rattle.search.specs.declared.board.Pair.{Pair}
 
 -- These are the kinds of the pieces.
 abbrev pub KindsOf : Job → List ℕ → Type 0
@@ -38,3 +39,13 @@ pub record Known (s : List ℕ) (v : View) (p : Plan) (turned : List ℤ) (boxes
   pub accepted : refusal s ≡ 0
   pub view : ViewOf s v
   pub plan : PlanOf s p
+  pub table : TurnedOf s turned
+  pub boxed : BoxesOf s boxes
+
+-- The pair is that of candidate n of kind t and kind u.
+pub record PairOf (s : List ℕ) (v : View) (t n u : ℕ) (pair : Pair) : Type 0 where
+  pub kinds : (t < kindCount (content s)) × (u < kindCount (content s))
+  pub first : PieceOf s t (pair .first)
+  pub place : pair .place ≡ placedOf (v .rows) n
+  pub second : PieceOf s u (pair .second)
+  pub gap : pair .gap ≡ pairGap (content s) (kindAt (content s) t) (kindAt (content s) u)

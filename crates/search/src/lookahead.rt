@@ -10,15 +10,23 @@ ghost use Rattle.search.specs.Known.{Known};
 ghost use Rattle.search.specs.Levels.{piecesFrom};
 ghost use Rattle.search.specs.Slots.{SetPlace};
 ghost use Rattle.search.specs.Walk.{Placeable, Made, KindSettled, Settled};
-use crate::board::Boxes;
 use crate::narrowing::fill;
 use crate::narrowing::narrow;
 use crate::plan::Plan;
+use candidates::boxes::Boxes;
 use job::View;
 use words::sets;
 
 // The word at which the set of level l and kind u begins.
-pub fn set_start(job: &[u8], view: View, plan: Plan, turned: &[i16], boxes: Boxes, l: usize, u: usize) -> usize
+pub fn set_start(
+    job: &[u8],
+    view: View,
+    plan: Plan,
+    turned: &[i16],
+    boxes: Boxes,
+    l: usize,
+    u: usize,
+) -> usize
     requires { ⌜ Known (now job) view plan (now turned) boxes × (l < pieceCount (content (now job))) × (u < kindCount (content (now job))) ⌝ }
     ensures { λ r. ⌜ SetPlace (content (now (job .entry))) l u r ⌝ }
 {
@@ -26,7 +34,18 @@ pub fn set_start(job: &[u8], view: View, plan: Plan, turned: &[i16], boxes: Boxe
 }
 
 // The set of this level and kind: at the first level all candidates, at a later one what is left of the set of the level before.
-fn make_set(job: &[u8], view: View, plan: Plan, turned: &[i16], boxes: Boxes, bound: usize, numbers: [usize; 12], level: usize, u: usize, work: &mut [u8])
+fn make_set(
+    job: &[u8],
+    view: View,
+    plan: Plan,
+    turned: &[i16],
+    boxes: Boxes,
+    bound: usize,
+    numbers: [usize; 12],
+    level: usize,
+    u: usize,
+    work: &mut [u8],
+)
     requires { ⌜ Known (now job) view plan (now turned) boxes ⌝ }
     requires { ⌜ Placeable (content (now job)) numbers level bound (now work) ⌝ }
     requires { ⌜ (u < kindCount (content (now job))) × (0 < copiesLeft u (piecesFrom (content (now job)) level)) ⌝ }
@@ -40,12 +59,37 @@ fn make_set(job: &[u8], view: View, plan: Plan, turned: &[i16], boxes: Boxes, bo
         let before = level - 1;
         let kinds = plan.kinds;
         let from = set_start(job, view, plan, turned, boxes, before, u);
-        narrow(job, view, plan, turned, boxes, bound, kinds[before], numbers[before], u, work, from, to, words);
+        narrow(
+            job,
+            view,
+            plan,
+            turned,
+            boxes,
+            bound,
+            kinds[before],
+            numbers[before],
+            u,
+            work,
+            from,
+            to,
+            words,
+        );
     }
 }
 
 // The set of this level and kind, if copies of the kind are left, and whether it has members for them.
-fn settle_kind(job: &[u8], view: View, plan: Plan, turned: &[i16], boxes: Boxes, bound: usize, numbers: [usize; 12], level: usize, u: usize, work: &mut [u8]) -> bool
+fn settle_kind(
+    job: &[u8],
+    view: View,
+    plan: Plan,
+    turned: &[i16],
+    boxes: Boxes,
+    bound: usize,
+    numbers: [usize; 12],
+    level: usize,
+    u: usize,
+    work: &mut [u8],
+) -> bool
     requires { ⌜ Known (now job) view plan (now turned) boxes ⌝ }
     requires { ⌜ Placeable (content (now job)) numbers level bound (now work) ⌝ }
     requires { ⌜ u < kindCount (content (now job)) ⌝ }
@@ -56,14 +100,35 @@ fn settle_kind(job: &[u8], view: View, plan: Plan, turned: &[i16], boxes: Boxes,
     if copies == 0 {
         return true;
     }
-    make_set(job, view, plan, turned, boxes, bound, numbers, level, u, work);
+    make_set(
+        job,
+        view,
+        plan,
+        turned,
+        boxes,
+        bound,
+        numbers,
+        level,
+        u,
+        work,
+    );
     let at = set_start(job, view, plan, turned, boxes, level, u) * 8;
     let members = sets::count(&work[at..], plan.words as u32);
     copies as u64 <= members
 }
 
 // The sets of this level, and look-ahead. It ends at the first kind with too few members.
-pub fn settle(job: &[u8], view: View, plan: Plan, turned: &[i16], boxes: Boxes, bound: usize, numbers: [usize; 12], level: usize, work: &mut [u8]) -> bool
+pub fn settle(
+    job: &[u8],
+    view: View,
+    plan: Plan,
+    turned: &[i16],
+    boxes: Boxes,
+    bound: usize,
+    numbers: [usize; 12],
+    level: usize,
+    work: &mut [u8],
+) -> bool
     requires { ⌜ Known (now job) view plan (now turned) boxes ⌝ }
     requires { ⌜ Placeable (content (now job)) numbers level bound (now work) ⌝ }
     ensures { λ r. ⌜ Settled (content (now (job .entry))) numbers level bound (now (work .entry)) (now (work .exit)) r ⌝ }
@@ -71,7 +136,18 @@ pub fn settle(job: &[u8], view: View, plan: Plan, turned: &[i16], boxes: Boxes, 
     let kinds = view.kinds;
     let mut u = 0;
     while u < kinds {
-        if !settle_kind(job, view, plan, turned, boxes, bound, numbers, level, u, work) {
+        if !settle_kind(
+            job,
+            view,
+            plan,
+            turned,
+            boxes,
+            bound,
+            numbers,
+            level,
+            u,
+            work,
+        ) {
             return false;
         }
         u += 1;

@@ -5,8 +5,9 @@ ghost use lib.ListN.{getD};
 ghost use Rattle.model.specs.Content.{kindCount, pieceCount};
 ghost use Rattle.model.specs.Format.{content};
 ghost use Rattle.model.specs.Search.{copiesLeft};
+ghost use Rattle.candidates.specs.Turned.{Viewed};
 ghost use Rattle.search.specs.Levels.{piecesFrom};
-ghost use Rattle.search.specs.Known.{Viewed, KindsOf, CopiesOf, PlanOf};
+ghost use Rattle.search.specs.Known.{KindsOf, CopiesOf, PlanOf};
 use job::View;
 
 // The kind of each piece; the copies of each kind left at each level, those of kind u at level l under l * 8 + u; how many words a set has.

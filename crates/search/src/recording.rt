@@ -8,8 +8,8 @@ ghost use Rattle.model.specs.Format.{content};
 ghost use Rattle.model.specs.Services.{withLayout};
 ghost use Rattle.search.specs.Known.{Known};
 ghost use Rattle.search.specs.Walk.{layoutOf, Recordable};
-use crate::board::Boxes;
 use crate::plan::Plan;
+use candidates::boxes::Boxes;
 use job::View;
 use words::numbers;
 
@@ -25,7 +25,15 @@ fn put_entry(out: &mut [u8], at: usize, kind: u16, column: u16, row: u16, rotati
 }
 
 // The layout of all pieces, each at the candidate of its number, becomes the first answer numbers.
-pub fn record_layout(job: &[u8], view: View, plan: Plan, turned: &[i16], boxes: Boxes, candidates: [usize; 12], out: &mut [u8])
+pub fn record_layout(
+    job: &[u8],
+    view: View,
+    plan: Plan,
+    turned: &[i16],
+    boxes: Boxes,
+    candidates: [usize; 12],
+    out: &mut [u8],
+)
     requires { ⌜ Known (now job) view plan (now turned) boxes × Recordable (content (now job)) candidates (now out) ⌝ }
     ensures { λ _. ⌜ now (out .exit) ≡ withLayout (some (layoutOf (content (now (job .entry))) candidates)) (now (out .entry)) ⌝ }
 {
@@ -36,7 +44,14 @@ pub fn record_layout(job: &[u8], view: View, plan: Plan, turned: &[i16], boxes: 
     while i < pieces {
         let n = candidates[i];
         let dot = n / 4;
-        put_entry(out, i * 8, kinds[i] as u16, (dot / rows) as u16, (dot % rows) as u16, (n % 4) as u16);
+        put_entry(
+            out,
+            i * 8,
+            kinds[i] as u16,
+            (dot / rows) as u16,
+            (dot % rows) as u16,
+            (n % 4) as u16,
+        );
         i += 1;
     }
 }

@@ -11,11 +11,11 @@ ghost use Rattle.search.specs.Levels.{tryLevel, goOnLevel};
 ghost use Rattle.search.specs.Slots.{KeepsSince};
 ghost use Rattle.search.specs.Walk.{numbersAt, placedOf, heldOf, NextLive, Ready, Taken, Left};
 use crate::board;
-use crate::board::Boxes;
 use crate::lookahead::set_start;
 use crate::lookahead::settle;
 use crate::plan::Plan;
 use crate::recording::record_layout;
+use candidates::boxes::Boxes;
 use job::View;
 use words::sets;
 
@@ -28,7 +28,19 @@ pub struct Progress {
 }
 
 // The first member of a set from a number on that ends below the bound of this moment, or the limit of the numbers.
-fn next_live(job: &[u8], view: View, plan: Plan, turned: &[i16], boxes: Boxes, numbers: [usize; 12], level: usize, bound: usize, u: usize, set: &[u8], from: usize) -> usize
+fn next_live(
+    job: &[u8],
+    view: View,
+    plan: Plan,
+    turned: &[i16],
+    boxes: Boxes,
+    numbers: [usize; 12],
+    level: usize,
+    bound: usize,
+    u: usize,
+    set: &[u8],
+    from: usize,
+) -> usize
     requires { ⌜ Known (now job) view plan (now turned) boxes × (plan .words * 8 ≤ length (now set)) ⌝ }
     requires { ⌜ KeepsSince (content (now job)) (placedOf (content (now job)) numbers level) bound u (now set) ⌝ }
     ensures { λ r. ⌜ NextLive (content (now (job .entry))) (placedOf (content (now (job .entry))) numbers level) bound u from r ⌝ }
@@ -53,7 +65,19 @@ fn longer(a: usize, b: usize) -> usize
 }
 
 // Piece `level` tries its live candidates in rising order, each against the best of that moment.
-fn try_piece(job: &[u8], view: View, plan: Plan, turned: &[i16], boxes: Boxes, work: &mut [u8], out: &mut [u8], numbers: [usize; 12], level: usize, extent: usize, state: Progress) -> Progress
+fn try_piece(
+    job: &[u8],
+    view: View,
+    plan: Plan,
+    turned: &[i16],
+    boxes: Boxes,
+    work: &mut [u8],
+    out: &mut [u8],
+    numbers: [usize; 12],
+    level: usize,
+    extent: usize,
+    state: Progress,
+) -> Progress
     requires { ⌜ Known (now job) view plan (now turned) boxes × (level < pieceCount (content (now job))) ⌝ }
     requires { ⌜ Ready (content (now job)) (now work) (now out) numbers level (level + 1) extent state ⌝ }
     ensures { λ r. ⌜ Left (content (now (job .entry))) (now (work .entry)) (now (out .entry)) (now (work .exit)) (now (out .exit)) (level + 1) state r (tryLevel (content (now (job .entry))) (numbersAt numbers) level 0 (state .left) (heldOf (content (now (job .entry))) (state .found) (now (out .entry)))) ⌝ }
@@ -65,18 +89,52 @@ fn try_piece(job: &[u8], view: View, plan: Plan, turned: &[i16], boxes: Boxes, w
     let mut st = state;
     let mut from = 0;
     while extent < st.bound {
-        let n = next_live(job, view, plan, turned, boxes, numbers, level, st.bound, kind, &work[at..], from);
+        let n = next_live(
+            job,
+            view,
+            plan,
+            turned,
+            boxes,
+            numbers,
+            level,
+            st.bound,
+            kind,
+            &work[at..],
+            from,
+        );
         if limit <= n {
             return st;
         }
         if st.left == 0 {
-            return Progress { left: 0, bound: st.bound, found: st.found, stopped: true };
+            return Progress {
+                left: 0,
+                bound: st.bound,
+                found: st.found,
+                stopped: true,
+            };
         }
         let end = board::end_of(job, view, plan, turned, boxes, kind, n);
-        let less = Progress { left: st.left - 1, bound: st.bound, found: st.found, stopped: false };
+        let less = Progress {
+            left: st.left - 1,
+            bound: st.bound,
+            found: st.found,
+            stopped: false,
+        };
         let mut taken = numbers;
         taken[level] = n;
-        st = go_on(job, view, plan, turned, boxes, work, out, taken, level + 1, longer(end, extent), less);
+        st = go_on(
+            job,
+            view,
+            plan,
+            turned,
+            boxes,
+            work,
+            out,
+            taken,
+            level + 1,
+            longer(end, extent),
+            less,
+        );
         if st.stopped {
             return st;
         }
@@ -86,7 +144,19 @@ fn try_piece(job: &[u8], view: View, plan: Plan, turned: &[i16], boxes: Boxes, w
 }
 
 // What follows once `level` pieces are placed, the latest just counted: a complete layout becomes the best; else look-ahead, and the next piece.
-fn go_on(job: &[u8], view: View, plan: Plan, turned: &[i16], boxes: Boxes, work: &mut [u8], out: &mut [u8], numbers: [usize; 12], level: usize, extent: usize, state: Progress) -> Progress
+fn go_on(
+    job: &[u8],
+    view: View,
+    plan: Plan,
+    turned: &[i16],
+    boxes: Boxes,
+    work: &mut [u8],
+    out: &mut [u8],
+    numbers: [usize; 12],
+    level: usize,
+    extent: usize,
+    state: Progress,
+) -> Progress
     requires { ⌜ Known (now job) view plan (now turned) boxes ⌝ }
     requires { ⌜ Ready (content (now job)) (now work) (now out) numbers level level extent state ⌝ }
     requires { ⌜ Taken (content (now job)) numbers level extent state ⌝ }
@@ -94,10 +164,37 @@ fn go_on(job: &[u8], view: View, plan: Plan, turned: &[i16], boxes: Boxes, work:
 {
     if level == view.pieces {
         record_layout(job, view, plan, turned, boxes, numbers, out);
-        return Progress { left: state.left, bound: extent, found: true, stopped: false };
+        return Progress {
+            left: state.left,
+            bound: extent,
+            found: true,
+            stopped: false,
+        };
     }
-    if settle(job, view, plan, turned, boxes, state.bound, numbers, level, work) {
-        return try_piece(job, view, plan, turned, boxes, work, out, numbers, level, extent, state);
+    if settle(
+        job,
+        view,
+        plan,
+        turned,
+        boxes,
+        state.bound,
+        numbers,
+        level,
+        work,
+    ) {
+        return try_piece(
+            job,
+            view,
+            plan,
+            turned,
+            boxes,
+            work,
+            out,
+            numbers,
+            level,
+            extent,
+            state,
+        );
     }
     state
 }

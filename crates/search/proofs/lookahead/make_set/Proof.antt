@@ -14,6 +14,7 @@ use Rattle.search.specs.Levels.{pieceKind, piecesFrom}
 use Rattle.search.specs.Narrowing.{stays, Filled}
 use Rattle.search.specs.Slots.{setStart, slotOf, KeepsSince}
 use Rattle.search.specs.Walk.{numbersAt, placedOf}
+use Rattle.search.proofs.Levels.{piece-kind}
 use Rattle.search.proofs.Limits.{few-pieces, few-words}
 use Rattle.search.proofs.LiveSets.{member-parts}
 use Rattle.search.proofs.Making.{kept-candidate, copies-before, made-of, test-first, test-next}
@@ -73,14 +74,17 @@ narrow-requires c κs =
     let j : Job = content s in
     let w = c .before .before .before .before .before .before .before .pre .0 .plan .words in
     let b = before-few (c .before .before .before) in
-    let k = kept (c .before .before .before) in
-    (c .before .before .before .before .before .before .before .pre .0, record {
-      placed = subst (λ (t : ℕ). isCandidate j t (numbersAt (c .before .before .before .before .before .before .before .args .t7) (c .before .before .before .before .before .before .before .args .level - 1)) ≡ true) (sym (c .before .before .before .before .before .before .before .pre .0 .plan .kinds (c .before .before .before .before .before .before .before .args .level - 1) (b .2))) (member-parts j _ _ _ _ (c .before .before .before .before .before .before .before .pre .1 .0 .latest (b .0)) .0);
-      few = omega (arith, w, few-words s (c .before .before .before .before .before .before .before .pre .0 .accepted));
-      behind = omega (arith, w, c .before .before .before .before .set-start .ensures .place, c .before .set-start2 .ensures .place, start-lower j (c .before .before .before .before .before .before .before .args .level - 1) (c .before .before .before .before .before .before .before .args .level) (c .before .before .before .before .before .before .before .args .u) (omega (arith, b .0)) (c .before .before .before .before .before .before .before .pre .1 .1 .0), start-kinds j (c .before .before .before .before .before .before .before .args .level) 0 (c .before .before .before .before .before .before .before .args .u) (omega arith));
-      fits = omega (arith, w, c .before .before .before .before .set-start .ensures .within, c .before .before .before .before .before .before .before .pre .1 .0 .fits);
-      admitted = λ m h e. kept-candidate j _ _ _ _ k m (rw (← w) h) (slot-member j _ _ _ m ∙ ap (λ (a : ℕ). member (c .before .before .before .before .before .before .before .args .work .now) (a * 64 + m)) (sym (c .before .set-start2 .ensures .place)) ∙ e);
-    })
+    let k = kept (c .before .before .before) in (
+      c .before .before .before .before .before .before .before .pre .0,
+      record {
+        placed = subst (λ (t : ℕ). isCandidate j t (numbersAt (c .before .before .before .before .before .before .before .args .t7) (c .before .before .before .before .before .before .before .args .level - 1)) ≡ true) (sym (c .before .before .before .before .before .before .before .pre .0 .plan .kinds (c .before .before .before .before .before .before .before .args .level - 1) (b .2))) (member-parts j _ _ _ _ (c .before .before .before .before .before .before .before .pre .1 .0 .latest (b .0)) .0);
+        kinds = (rw (c .before .before .before .before .before .before .before .pre .0 .plan .kinds (c .before .before .before .before .before .before .before .args .level - 1) (b .2)) (piece-kind j (c .before .before .before .before .before .before .before .args .level - 1) (b .2)), c .before .before .before .before .before .before .before .pre .1 .1 .0);
+        few = omega (arith, w, few-words s (c .before .before .before .before .before .before .before .pre .0 .accepted));
+        behind = omega (arith, w, c .before .before .before .before .set-start .ensures .place, c .before .set-start2 .ensures .place, start-lower j (c .before .before .before .before .before .before .before .args .level - 1) (c .before .before .before .before .before .before .before .args .level) (c .before .before .before .before .before .before .before .args .u) (omega (arith, b .0)) (c .before .before .before .before .before .before .before .pre .1 .1 .0), start-kinds j (c .before .before .before .before .before .before .before .args .level) 0 (c .before .before .before .before .before .before .before .args .u) (omega arith));
+        fits = omega (arith, w, c .before .before .before .before .set-start .ensures .within, c .before .before .before .before .before .before .before .pre .1 .0 .fits);
+        admitted = λ m h e. kept-candidate j _ _ _ _ k m (rw (← w) h) (slot-member j _ _ _ m ∙ ap (λ (a : ℕ). member (c .before .before .before .before .before .before .before .args .work .now) (a * 64 + m)) (sym (c .before .set-start2 .ensures .place)) ∙ e);
+      },
+    )
 
 same-length : tie.Need-same-length
 same-length c = search needs

@@ -43,10 +43,12 @@ loop-less : tie.Need-loop-less Inv-loop μ-loop
 loop-less c = search needs
 
 loop-again : tie.Need-loop-again Inv-loop μ-loop
-loop-again c =
-    (omega arith, search needs,
-    rw (c .before .before .put-u64 .ensures) (filled-next (c .before .before .before .before .before .before .before .before .before .args .to) (c .before .before .before .before .before .before .loop .k) (isCandidate (content (c .before .before .before .before .before .before .before .before .before .args .job .now)) (c .before .before .before .before .before .before .before .before .before .args .u)) (c .before .before .before .before .before .before .before .before .before .args .work .now) (c .before .before .before .before .before .before .loop .work) (c .before .before .before .before .fill-word .result) (c .before .before .before .before .before .before .loop .inv .2) (omega arith) (search needs)
-    (bits-where (isCandidate (content (c .before .before .before .before .before .before .before .before .before .args .job .now)) (c .before .before .before .before .before .before .before .before .before .args .u)) (c .before .before .before .before .before .before .loop .k * 64) (c .before .before .before .before .fill-word .result) (c .before .before .before .before .fill-word .ensures))))
+loop-again c = (
+  omega arith,
+  search needs,
+  rw (c .before .before .put-u64 .ensures) (filled-next (c .before .before .before .before .before .before .before .before .before .args .to) (c .before .before .before .before .before .before .loop .k) (isCandidate (content (c .before .before .before .before .before .before .before .before .before .args .job .now)) (c .before .before .before .before .before .before .before .before .before .args .u)) (c .before .before .before .before .before .before .before .before .before .args .work .now) (c .before .before .before .before .before .before .loop .work) (c .before .before .before .before .fill-word .result) (c .before .before .before .before .before .before .loop .inv .2) (omega arith) (search needs)
+      (bits-where (isCandidate (content (c .before .before .before .before .before .before .before .before .before .args .job .now)) (c .before .before .before .before .before .before .before .before .before .args .u)) (c .before .before .before .before .before .before .loop .k * 64) (c .before .before .before .before .fill-word .result) (c .before .before .before .before .fill-word .ensures))),
+)
 
 same-length : tie.Need-same-length Inv-loop μ-loop
 same-length c = search needs

@@ -15,11 +15,11 @@ use Rattle.search.proofs.narrowing.narrow_word.Statement.{statement}
 use Rattle.search.proofs.narrowing.narrow_word.Tie as tie
 
 abbrev Inv-loop : tie.InvT-loop
-Inv-loop job view plan turned boxes bound t n u first w left₀ kept₀ left kept =
+Inv-loop job view plan turned boxes pair bound t n u first w left₀ kept₀ left kept =
     ((left < 2 ^ 64) × (kept < 2 ^ 64)) × Sifted (λ i. stays (content job) bound t n u (first + i)) w left kept
 
 abbrev μ-loop : tie.MeasureT-loop
-μ-loop job view plan turned boxes bound t n u first w left₀ kept₀ left kept = left
+μ-loop job view plan turned boxes pair bound t n u first w left₀ kept₀ left kept = left
 
 loop-holds : tie.Need-loop-holds Inv-loop μ-loop
 loop-holds c = (search needs, sift-begin _ _)

@@ -45,9 +45,10 @@ loop-less : tie.Need-loop-less Inv-loop μ-loop
 loop-less c = search needs
 
 loop-again : tie.Need-loop-again Inv-loop μ-loop
-loop-again c =
-    ((omega (arith, c .before .before .loop .inv), c .before .before .loop .inv .0 .1, c .before .before .loop .inv .0 .2, simp length-set (c .before .before .loop .inv .0 .3)),
-    table-next (λ i. copiesLeft (i % 8) (piecesFrom (content (c .before .before .before .before .args .job .now)) (i / 8))) (c .before .before .loop .copies) (c .before .before .loop .x) (c .count-copies .result) (omega (arith, c .before .before .loop .inv)) (c .before .before .loop .inv .1) (c .count-copies .ensures))
+loop-again c = (
+  (omega (arith, c .before .before .loop .inv), c .before .before .loop .inv .0 .1, c .before .before .loop .inv .0 .2, simp length-set (c .before .before .loop .inv .0 .3)),
+  table-next (λ i. copiesLeft (i % 8) (piecesFrom (content (c .before .before .before .before .args .job .now)) (i / 8))) (c .before .before .loop .copies) (c .before .before .loop .x) (c .count-copies .result) (omega (arith, c .before .before .loop .inv)) (c .before .before .loop .inv .1) (c .count-copies .ensures),
+)
 
 returns : tie.Need-returns Inv-loop μ-loop
 returns c = λ l u h k.

@@ -98,9 +98,11 @@ unfolding entryOf placementOf
 loop-again c =
     let j : Job = content (c .before .before .before .before .before .before .before .before .before .args .job .now) in
     let e : ℕ → Entry = λ l. entryOf j (pieceKind j l) (numbersAt (c .before .before .before .before .before .before .before .before .before .args .t6) l) in
-    let k : length (c .before .before .put-entry .last .0) ≡ length (c .before .before .before .before .before .loop .out) = c .before .before .put-entry .kept .0 in
-    ((omega (arith, c .before .before .before .before .before .loop .inv), c .before .before .before .before .before .loop .inv .0 .1, c .before .before .before .before .before .loop .inv .0 .2), (k ∙ c .before .before .before .before .before .loop .inv .1 .0, omega (arith, k, c .before .before .before .before .before .loop .inv .1)),
-    c .before .before .put-entry .ensures ∙ rw (kind-is (c .before .before .before .before), c .before .before .before .before .before .before .before .before .before .pre .0 .view .rows, c .before .before .before .before .before .loop .inv .2) (sym (written-next e (c .before .before .before .before .before .loop .i) (c .before .before .before .before .before .before .before .before .before .args .out .now))))
+    let k : length (c .before .before .put-entry .last .0) ≡ length (c .before .before .before .before .before .loop .out) = c .before .before .put-entry .kept .0 in (
+      (omega (arith, c .before .before .before .before .before .loop .inv), c .before .before .before .before .before .loop .inv .0 .1, c .before .before .before .before .before .loop .inv .0 .2),
+      (k ∙ c .before .before .before .before .before .loop .inv .1 .0, omega (arith, k, c .before .before .before .before .before .loop .inv .1)),
+      c .before .before .put-entry .ensures ∙ rw (kind-is (c .before .before .before .before), c .before .before .before .before .before .before .before .before .before .pre .0 .view .rows, c .before .before .before .before .before .loop .inv .2) (sym (written-next e (c .before .before .before .before .before .loop .i) (c .before .before .before .before .before .before .before .before .before .args .out .now))),
+    )
 
 same-length : tie.Need-same-length Inv-loop μ-loop
 same-length c = c .before .loop .inv .1 .0

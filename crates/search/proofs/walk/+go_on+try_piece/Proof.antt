@@ -156,10 +156,13 @@ try-piece-mul-limit : (t : ℕ) → try-piece-lts.Need-mul-limit (set-start-read
 try-piece-mul-limit t c = omega (arith, words-few t (c .before .before .before .before .before .before))
 
 try-piece-loop-holds : (t : ℕ) → try-piece-lts.Need-loop-holds (set-start-reads.Asked, set-start-reads.Learnt, next-live-reads.Asked, next-live-reads.Learnt, end-of-reads.Asked, end-of-reads.Learnt, longer-reads.Asked, longer-reads.Learnt, go-on-below t, go-on.Post) (try-piece-at t) try-piece.Post try-piece-Inv-loop try-piece-μ-loop
-try-piece-loop-holds t c = 
-    let e = c .before .set-start .ensures .place in
-    ((refl, refl), (c .before .before .before .before .before .before .pre .1 .0 .0 .plan .kinds (c .before .before .before .before .before .before .args .level) (c .before .before .before .before .before .before .pre .1 .0 .1), ap (λ (a : ℕ). a * 8) e, subst (λ (a : ℕ). a + setWords (content (c .before .before .before .before .before .before .args .job .now) .sheet) ≤ workWords (content (c .before .before .before .before .before .before .args .job .now))) e (c .before .set-start .ensures .within)),
-    (ap (λ (n : ℕ). n * 64) (c .before .before .before .before .before .before .pre .1 .0 .0 .plan .words), few-words (c .before .before .before .before .before .before .args .job .now) (c .before .before .before .before .before .before .pre .1 .0 .0 .accepted)), trying-begin (content (c .before .before .before .before .before .before .args .job .now)) _ _ _ _ _ _ (c .before .before .before .before .before .before .pre .1 .1))
+try-piece-loop-holds t c =
+    let e = c .before .set-start .ensures .place in (
+      (refl, refl),
+      (c .before .before .before .before .before .before .pre .1 .0 .0 .plan .kinds (c .before .before .before .before .before .before .args .level) (c .before .before .before .before .before .before .pre .1 .0 .1), ap (λ (a : ℕ). a * 8) e, subst (λ (a : ℕ). a + setWords (content (c .before .before .before .before .before .before .args .job .now) .sheet) ≤ workWords (content (c .before .before .before .before .before .before .args .job .now))) e (c .before .set-start .ensures .within)),
+      (ap (λ (n : ℕ). n * 64) (c .before .before .before .before .before .before .pre .1 .0 .0 .plan .words), few-words (c .before .before .before .before .before .before .args .job .now) (c .before .before .before .before .before .before .pre .1 .0 .0 .accepted)),
+      trying-begin (content (c .before .before .before .before .before .before .args .job .now)) _ _ _ _ _ _ (c .before .before .before .before .before .before .pre .1 .1),
+    )
 
 try-piece-sub-next-live : (t : ℕ) → try-piece-lts.Need-sub-next-live (set-start-reads.Asked, set-start-reads.Learnt, next-live-reads.Asked, next-live-reads.Learnt, end-of-reads.Asked, end-of-reads.Learnt, longer-reads.Asked, longer-reads.Learnt, go-on-below t, go-on.Post) (try-piece-at t) try-piece.Post try-piece-Inv-loop try-piece-μ-loop
 try-piece-sub-next-live t c = omega (arith, (room t (c)))
@@ -171,11 +174,12 @@ try-piece-part-next-live-end : (t : ℕ) → try-piece-lts.Need-part-next-live-e
 try-piece-part-next-live-end t c = search needs
 
 try-piece-next-live-requires : (t : ℕ) → try-piece-lts.Need-next-live-requires (set-start-reads.Asked, set-start-reads.Learnt, next-live-reads.Asked, next-live-reads.Learnt, end-of-reads.Asked, end-of-reads.Learnt, longer-reads.Asked, longer-reads.Learnt, go-on-below t, go-on.Post) (try-piece-at t) try-piece.Post try-piece-Inv-loop try-piece-μ-loop
-try-piece-next-live-requires t c κs = 
+try-piece-next-live-requires t c κs =
     let j : Job = content (c .before .before .before .before .before .before .before .before .before .before .before .args .job .now) in
-    let k = c .before .before .before .before .loop .inv .3 .ready .sets (c .before .before .before .before .before .before .before .before .before .before .before .args .level) (getD (c .before .before .before .before .before .before .before .before .before .before .before .args .plan .kinds) (c .before .before .before .before .before .before .before .before .before .before .before .args .level) 0) (omega arith) (kind-below t (c .before .before .before .before .before .before .before .before .before .before .before)) (copies-some t (c .before .before .before .before .before .before .before .before .before .before .before)) in
-    ((c .before .before .before .before .before .before .before .before .before .before .before .pre .1 .0 .0, rw (part-rest (c .before .before .before .before .before .before .set-start .result * 8) (c .before .before .before .before .loop .work)) (simp length-drop (omega (arith, (room t (c .before .before)))))),
-    subst (KeepsSince j (placedOf j (c .before .before .before .before .before .before .before .before .before .before .before .args .numbers) (c .before .before .before .before .before .before .before .before .before .before .before .args .level)) (c .before .before .before .before .loop .st .bound) (getD (c .before .before .before .before .before .before .before .before .before .before .before .args .plan .kinds) (c .before .before .before .before .before .before .before .before .before .before .before .args .level) 0)) (slot-part t (c .before .before)) k)
+    let k = c .before .before .before .before .loop .inv .3 .ready .sets (c .before .before .before .before .before .before .before .before .before .before .before .args .level) (getD (c .before .before .before .before .before .before .before .before .before .before .before .args .plan .kinds) (c .before .before .before .before .before .before .before .before .before .before .before .args .level) 0) (omega arith) (kind-below t (c .before .before .before .before .before .before .before .before .before .before .before)) (copies-some t (c .before .before .before .before .before .before .before .before .before .before .before)) in (
+      (c .before .before .before .before .before .before .before .before .before .before .before .pre .1 .0 .0, rw (part-rest (c .before .before .before .before .before .before .set-start .result * 8) (c .before .before .before .before .loop .work)) (simp length-drop (omega (arith, (room t (c .before .before)))))),
+      subst (KeepsSince j (placedOf j (c .before .before .before .before .before .before .before .before .before .before .before .args .numbers) (c .before .before .before .before .before .before .before .before .before .before .before .args .level)) (c .before .before .before .before .loop .st .bound) (getD (c .before .before .before .before .before .before .before .before .before .before .before .args .plan .kinds) (c .before .before .before .before .before .before .before .before .before .before .before .args .level) 0)) (slot-part t (c .before .before)) k,
+    )
 
 try-piece-same-length : (t : ℕ) → try-piece-lts.Need-same-length (set-start-reads.Asked, set-start-reads.Learnt, next-live-reads.Asked, next-live-reads.Learnt, end-of-reads.Asked, end-of-reads.Learnt, longer-reads.Asked, longer-reads.Learnt, go-on-below t, go-on.Post) (try-piece-at t) try-piece.Post try-piece-Inv-loop try-piece-μ-loop
 try-piece-same-length t c = c .before .before .before .before .before .before .loop .inv .0 .0
