@@ -20,3 +20,5 @@ pub mod Trying
 pub mod Writing
 pub mod Passing
 pub mod GoingOn
+pub mod Running
+pub mod Demand3

@@ -6,3 +6,4 @@ pub mod Slots
 pub mod Narrowing
 pub mod Known
 pub mod Walk
+pub mod Run

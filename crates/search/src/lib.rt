@@ -4,4 +4,5 @@ mod lookahead;
 mod narrowing;
 mod plan;
 mod recording;
+pub mod run;
 mod walk;

@@ -144,7 +144,7 @@ fn try_piece(
 }
 
 // What follows once `level` pieces are placed, the latest just counted: a complete layout becomes the best; else look-ahead, and the next piece.
-fn go_on(
+pub fn go_on(
     job: &[u8],
     view: View,
     plan: Plan,
