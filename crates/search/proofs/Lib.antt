@@ -8,3 +8,17 @@ pub mod Kept
 pub mod Held
 pub mod Answer
 pub mod Levels
+pub mod Meeting
+pub mod Sifting
+pub mod Filling
+pub mod Slots
+pub mod Tables
+pub mod Limits
+pub mod PieceOrder
+pub mod Making
+pub mod Trying
+pub mod Writing
+pub mod Passing
+pub mod GoingOn
+pub mod Running
+pub mod Demand3

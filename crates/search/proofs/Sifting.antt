@@ -1,0 +1,65 @@
+-- A word from which the bits that fail a test are dropped, one by one.
+use mathlib.Core.Bool.{Bool, true, false, not, cond, _&&_, _||_, and-true, and-false, or-true}
+use mathlib.Core.Logic.{_⊎_, inl, inr}
+use mathlib.Core.Path.{_≡_, refl, sym, ap, _∙_, subst}
+use Prim.Native.Nat.{ℕ, _-_, _^_, _<_}
+use lib.Pow.{pow-pos}
+use native.Mathlib.Omega.{arith}
+use Rattle.words.specs.Bits.{testBit, withoutBit, assignedBit}
+use Rattle.words.proofs.Bit.{testBit-none, testBit-with-same, testBit-with-other, testBit-without-same, testBit-without-other}
+use Rattle.words.proofs.Cases.{eq-or-ne}
+use Rattle.model.proofs.Lists.{not-both}
+
+-- Of the bits of w, those still in `left` are kept untested, and of the others those that pass.
+abbrev pub Sifted : (ℕ → Bool) → ℕ → ℕ → ℕ → Type 0
+Sifted keep w left kept =
+    (i : ℕ) → (testBit kept i ≡ (testBit w i && (testBit left i || keep i))) × (testBit left i ≡ true → testBit w i ≡ true)
+
+-- At the beginning no bit is tested.
+pub sift-begin : (keep : ℕ → Bool) (w : ℕ) → Sifted keep w w w
+sift-begin keep w i = (go (testBit w i), λ e. e)
+  where
+    go : (b : Bool) → b ≡ (b && (b || keep i))
+    go true = refl
+    go false = refl
+
+-- At the end all are.
+pub sift-end : (keep : ℕ → Bool) (w left kept : ℕ) → Sifted keep w left kept → left ≡ 0 → (i : ℕ) → testBit kept i ≡ (testBit w i && keep i)
+sift-end keep w left kept f e i = f i .0 ∙ ap (λ (b : Bool). testBit w i && (b || keep i)) (ap (λ (x : ℕ). testBit x i) e ∙ testBit-none i)
+
+-- A bit assigned: that bit, and every other.
+assigned-same : (on : Bool) (w i : ℕ) → testBit (assignedBit on w i) i ≡ on
+assigned-same true w i = testBit-with-same w i
+assigned-same false w i = testBit-without-same w i
+
+assigned-other : (on : Bool) (w i k : ℕ) → (i ≡ k → ⊥) → testBit (assignedBit on w i) k ≡ testBit w k
+assigned-other true w i k h = testBit-with-other w i k h
+assigned-other false w i k h = testBit-without-other w i k h
+
+-- One bit more is tested.
+pub sift-step : (keep : ℕ → Bool) (w left kept b : ℕ) (on : Bool) → Sifted keep w left kept → testBit left b ≡ true → on ≡ keep b
+    → Sifted keep w (withoutBit left b) (assignedBit on kept b)
+sift-step keep w left kept b on f e q i = go (eq-or-ne b i)
+  where
+    go : (b ≡ i) ⊎ (b ≡ i → ⊥)
+        → (testBit (assignedBit on kept b) i ≡ (testBit w i && (testBit (withoutBit left b) i || keep i)))
+        × (testBit (withoutBit left b) i ≡ true → testBit w i ≡ true)
+    go (inl p) =
+        subst
+        (λ (i : ℕ). (testBit (assignedBit on kept b) i ≡ (testBit w i && (testBit (withoutBit left b) i || keep i)))
+        × (testBit (withoutBit left b) i ≡ true → testBit w i ≡ true)) p
+        (assigned-same on kept b ∙ q ∙ sym (rw (f b .1 e, testBit-without-same left b)), λ x. f b .1 e)
+    go (inr p) =
+        (rw (assigned-other on kept b i p, testBit-without-other left b i p) (f i .0), λ x. f i .1 (sym (testBit-without-other left b i p) ∙ x))
+
+-- A word without one of its bits is smaller.
+pub without-smaller : (w b : ℕ) → testBit w b ≡ true → withoutBit w b < w
+unfolding withoutBit
+without-smaller w b e = rw e (omega (arith, pow-pos b, positive))
+  where
+    positive : 0 < w
+    positive = go (eq-or-ne w 0)
+      where
+        go : (w ≡ 0) ⊎ (w ≡ 0 → ⊥) → 0 < w
+        go (inl p) = absurd (not-both (subst (λ (x : ℕ). testBit x b ≡ true) p e) (testBit-none b))
+        go (inr p) = omega arith

@@ -1,0 +1,156 @@
+// The live sets of one level, one for each kind with copies left, and look-ahead: whether each has members for its copies.
+ghost use mathlib.Core.Path.{_≡_};
+ghost use Prim.Native.Nat.{_+_, _*_, _≤_, _<_};
+ghost use lib.ListN.{length};
+ghost use Rattle.model.specs.Content.{kindCount, pieceCount};
+ghost use Rattle.model.specs.Format.{content};
+ghost use Rattle.model.specs.Search.{copiesLeft};
+ghost use Rattle.model.specs.Services.{workWords};
+ghost use Rattle.search.specs.Known.{Known};
+ghost use Rattle.search.specs.Levels.{piecesFrom};
+ghost use Rattle.search.specs.Slots.{SetPlace};
+ghost use Rattle.search.specs.Walk.{Placeable, Made, KindSettled, Settled};
+use crate::narrowing::fill;
+use crate::narrowing::narrow;
+use crate::plan::Plan;
+use candidates::boxes::Boxes;
+use job::View;
+use words::sets;
+
+// The word at which the set of level l and kind u begins.
+pub fn set_start(
+    job: &[u8],
+    view: View,
+    plan: Plan,
+    turned: &[i16],
+    boxes: Boxes,
+    l: usize,
+    u: usize,
+) -> usize
+    requires { ⌜ Known (now job) view plan (now turned) boxes × (l < pieceCount (content (now job))) × (u < kindCount (content (now job))) ⌝ }
+    ensures { λ r. ⌜ SetPlace (content (now (job .entry))) l u r ⌝ }
+{
+    (l * view.kinds + u) * plan.words
+}
+
+// The set of this level and kind: at the first level all candidates, at a later one what is left of the set of the level before.
+fn make_set(
+    job: &[u8],
+    view: View,
+    plan: Plan,
+    turned: &[i16],
+    boxes: Boxes,
+    bound: usize,
+    numbers: [usize; 12],
+    level: usize,
+    u: usize,
+    work: &mut [u8],
+)
+    requires { ⌜ Known (now job) view plan (now turned) boxes ⌝ }
+    requires { ⌜ Placeable (content (now job)) numbers level bound (now work) ⌝ }
+    requires { ⌜ (u < kindCount (content (now job))) × (0 < copiesLeft u (piecesFrom (content (now job)) level)) ⌝ }
+    ensures { λ _. ⌜ Made (content (now (job .entry))) numbers level bound u (now (work .entry)) (now (work .exit)) ⌝ }
+{
+    let words = plan.words;
+    let to = set_start(job, view, plan, turned, boxes, level, u);
+    if level == 0 {
+        fill(job, view, plan, turned, boxes, u, work, to, words);
+    } else {
+        let before = level - 1;
+        let kinds = plan.kinds;
+        let from = set_start(job, view, plan, turned, boxes, before, u);
+        narrow(
+            job,
+            view,
+            plan,
+            turned,
+            boxes,
+            bound,
+            kinds[before],
+            numbers[before],
+            u,
+            work,
+            from,
+            to,
+            words,
+        );
+    }
+}
+
+// The set of this level and kind, if copies of the kind are left, and whether it has members for them.
+fn settle_kind(
+    job: &[u8],
+    view: View,
+    plan: Plan,
+    turned: &[i16],
+    boxes: Boxes,
+    bound: usize,
+    numbers: [usize; 12],
+    level: usize,
+    u: usize,
+    work: &mut [u8],
+) -> bool
+    requires { ⌜ Known (now job) view plan (now turned) boxes ⌝ }
+    requires { ⌜ Placeable (content (now job)) numbers level bound (now work) ⌝ }
+    requires { ⌜ u < kindCount (content (now job)) ⌝ }
+    ensures { λ r. ⌜ KindSettled (content (now (job .entry))) numbers level bound u (now (work .entry)) (now (work .exit)) r ⌝ }
+{
+    let table = plan.copies;
+    let copies = table[level * 8 + u];
+    if copies == 0 {
+        return true;
+    }
+    make_set(
+        job,
+        view,
+        plan,
+        turned,
+        boxes,
+        bound,
+        numbers,
+        level,
+        u,
+        work,
+    );
+    let at = set_start(job, view, plan, turned, boxes, level, u) * 8;
+    let members = sets::count(&work[at..], plan.words as u32);
+    copies as u64 <= members
+}
+
+// The sets of this level, and look-ahead. It ends at the first kind with too few members.
+pub fn settle(
+    job: &[u8],
+    view: View,
+    plan: Plan,
+    turned: &[i16],
+    boxes: Boxes,
+    bound: usize,
+    numbers: [usize; 12],
+    level: usize,
+    work: &mut [u8],
+) -> bool
+    requires { ⌜ Known (now job) view plan (now turned) boxes ⌝ }
+    requires { ⌜ Placeable (content (now job)) numbers level bound (now work) ⌝ }
+    ensures { λ r. ⌜ Settled (content (now (job .entry))) numbers level bound (now (work .entry)) (now (work .exit)) r ⌝ }
+{
+    let kinds = view.kinds;
+    let mut u = 0;
+    while u < kinds {
+        if !settle_kind(
+            job,
+            view,
+            plan,
+            turned,
+            boxes,
+            bound,
+            numbers,
+            level,
+            u,
+            work,
+        ) {
+            return false;
+        }
+        u += 1;
+    }
+    true
+}
