@@ -1,0 +1,39 @@
+// The engine for programs in C: the four services on numbers and byte slices, each with its answer in one 64-bit number.
+// include/nest.h declares them. A slice passes as a pointer and a length.
+ghost use mathlib.Core.Path.{_≡_};
+ghost use Rattle.model.specs.Answers.{writtenWord, checkWord, runWord};
+ghost use Rattle.model.specs.Services;
+
+// "Read gives W, L, g, the classes by rising id, the types and N."
+#[no_mangle]
+pub extern "C" fn nest_read(job: &[u8], answer: &mut [u8]) -> u64
+    ensures { λ r. ⌜ (r ≡ writtenWord (Services.read (now (job .entry)) (now (answer .entry)) .answer)) × (now (answer .exit) ≡ Services.read (now (job .entry)) (now (answer .entry)) .buffer) ⌝ }
+{
+    model::written_word(job::read(job, answer))
+}
+
+// "Conflict row takes a candidate, given as its type and its number, and a second type."
+#[no_mangle]
+pub extern "C" fn nest_row(job: &[u8], kind: usize, number: usize, other: usize, row: &mut [u8]) -> u64
+    ensures { λ r. ⌜ (r ≡ writtenWord (Services.conflictRow (now (job .entry)) kind number other (now (row .entry)) .answer)) × (now (row .exit) ≡ Services.conflictRow (now (job .entry)) kind number other (now (row .entry)) .buffer) ⌝ }
+{
+    model::written_word(candidates::rows::row(job, kind, number, other, row))
+}
+
+// "Check gives a layout's length."
+#[no_mangle]
+pub extern "C" fn nest_check(job: &[u8], layout: &[u8]) -> u64
+    ensures { λ r. ⌜ r ≡ checkWord (Services.check (now (job .entry)) (now (layout .entry))) ⌝ }
+{
+    model::check_word(layouts::check(job, layout))
+}
+
+// The walk under a step budget.
+#[no_mangle]
+pub extern "C" fn nest_run(job: &[u8], budget: u32, work: &mut [u8], answer: &mut [u8]) -> u64
+    ensures { λ r. ⌜ r ≡ runWord (Services.run (now (job .entry)) budget (now (work .entry)) (now (answer .entry)) .answer) ⌝ }
+    ensures { λ _. ⌜ now (work .exit) ≡ Services.run (now (job .entry)) budget (now (work .entry)) (now (answer .entry)) .work ⌝ }
+    ensures { λ _. ⌜ now (answer .exit) ≡ Services.run (now (job .entry)) budget (now (work .entry)) (now (answer .entry)) .out ⌝ }
+{
+    model::run_word(search::run::run(job, budget, work, answer))
+}

@@ -1,0 +1,237 @@
+/*
+ * nest.h - the dotted-board nesting engine.
+ *
+ * Four services: read a job, give a row of conflicts, check a layout, run the search for a shortest layout.
+ * Every one takes bytes and numbers only, keeps no state, allocates nothing and always returns. What is
+ * unfit is refused by a number; nothing is assumed of the caller but this:
+ *
+ *   - each pointer names as many bytes as the length beside it says, at any alignment; where the length is 0
+ *     no byte is touched (pass any pointer but a null one);
+ *   - a buffer that a call may change shares no byte with another buffer of that call.
+ *
+ * Words of this header: a piece TYPE ("kind" in the parameters) is one record of the job's type list, counted
+ * from 0. T is the number of types, N the number of pieces (the sum of the demands), W the board's width,
+ * L its length, g its step. Columns stand at x = c * g up to L, rows at y = r * g up to W.
+ */
+#ifndef NEST_H
+#define NEST_H
+
+#include <stddef.h>
+#include <stdint.h>
+
+#ifdef __cplusplus
+extern "C" {
+#endif
+
+/* ------------------------------------------------------------------------------------------------------
+ * Limits of a job
+ * ------------------------------------------------------------------------------------------------------ */
+
+#define NEST_MIN_JOB_BYTES    14 /* the trailer alone */
+#define NEST_MAX_JOB_BYTES  1024
+#define NEST_MAX_SIDE       1000 /* W, L and g are 1 to 1000 */
+#define NEST_MAX_DOTS       1024
+#define NEST_MAX_CLASSES       8
+#define NEST_MAX_RANK        255
+#define NEST_MAX_GAP          63
+#define NEST_MAX_TYPES         8
+#define NEST_MAX_PIECES       12
+#define NEST_MAX_PARTS         6 /* of a type, at least 1 */
+#define NEST_MIN_CORNERS       3 /* of a part */
+#define NEST_MAX_CORNERS       8
+#define NEST_MAX_COORDINATE  127 /* -127 to 127 */
+
+/* ------------------------------------------------------------------------------------------------------
+ * The job's bytes
+ *
+ * Two-byte numbers are unsigned, low byte first. Three sections stand before the trailer, in any order; bytes
+ * in no section are skipped; no two sections share a byte. The trailer is the last 14 bytes:
+ *
+ *   bytes  0 and  1   offset of the board record          bytes  8          number of classes
+ *          2 and  3   offset of the class list                   9          number of types
+ *          4 and  5   offset of the type list                    10 and 11  length of the whole job
+ *          6 and  7   length of the type list in bytes           12 and 13  the mark, 44 42 hexadecimal
+ *
+ * Board record, 6 bytes:  W (2), L (2), g (2).
+ * Class, 3 bytes:         id (0 to 7), rank (0 to 255), gap (0 to 63). No id and no rank occurs twice.
+ * Type:                   demand (1 to 12), turn mask (1 to 15; bit k allows k quarter turns), class mask
+ *                         (bit i names the class of id i), number of parts (1 to 6), then the parts.
+ * Part:                   number of corners (3 to 8), then x and y of each corner as signed bytes, -127 to
+ *                         127, anticlockwise; every other corner lies strictly left of each edge.
+ *
+ * The order of the classes in a job changes no result.
+ * ------------------------------------------------------------------------------------------------------ */
+
+#define NEST_TRAILER_BYTES        14
+#define NEST_TRAILER_BOARD         0
+#define NEST_TRAILER_CLASSES       2
+#define NEST_TRAILER_TYPES         4
+#define NEST_TRAILER_TYPES_LENGTH  6
+#define NEST_TRAILER_CLASS_COUNT   8
+#define NEST_TRAILER_TYPE_COUNT    9
+#define NEST_TRAILER_JOB_LENGTH   10
+#define NEST_TRAILER_MARK         12
+#define NEST_MARK_FIRST         0x44
+#define NEST_MARK_SECOND        0x42
+#define NEST_BOARD_BYTES           6
+#define NEST_CLASS_BYTES           3
+
+/* ------------------------------------------------------------------------------------------------------
+ * Candidates
+ *
+ * A candidate of a type is a column, a row and an allowed turn with the whole piece on the board, edges
+ * included. One quarter turn takes (x, y) to (-y, x). Its number, with R rows on the board, is below 4096.
+ * A set of candidates is NEST_SET_WORDS(dots) words of 64 bits: candidate n is bit n % 64 of word n / 64.
+ * ------------------------------------------------------------------------------------------------------ */
+
+#define NEST_ROWS(width, step)      ((width) / (step) + 1)
+#define NEST_COLUMNS(length, step)  ((length) / (step) + 1)
+#define NEST_DOTS(width, length, step) (NEST_ROWS(width, step) * NEST_COLUMNS(length, step))
+#define NEST_SET_WORDS(dots)        (((dots) + 15) / 16)
+#define NEST_CANDIDATE(column, row, turn, rows) (((column) * (rows) + (row)) * 4 + (turn))
+
+/* ------------------------------------------------------------------------------------------------------
+ * Buffers
+ *
+ * A work or row word is 8 bytes, a layout or answer number 2, low byte first. An incomplete last one does not
+ * count and keeps its bytes. What lies beyond the needed words or numbers never changes.
+ *
+ * A layout lists N entries of four numbers each: type, column, row, turn. Entries are ordered by type and
+ * within a type by strictly rising candidate number. Its length is the largest x that a piece reaches.
+ * ------------------------------------------------------------------------------------------------------ */
+
+#define NEST_WORD_BYTES         8
+#define NEST_NUMBER_BYTES       2
+#define NEST_ENTRY_NUMBERS      4 /* type, column, row, turn */
+#define NEST_MAX_SET_WORDS     64
+
+/* Bytes that a call on a given job needs, and bytes that are enough for every job. */
+#define NEST_WORK_BYTES(types, pieces, dots) ((types) * (pieces) * NEST_SET_WORDS(dots) * NEST_WORD_BYTES)
+#define NEST_LAYOUT_BYTES(pieces)            ((pieces) * NEST_ENTRY_NUMBERS * NEST_NUMBER_BYTES)
+#define NEST_ROW_BYTES(dots)                 (NEST_SET_WORDS(dots) * NEST_WORD_BYTES)
+
+#define NEST_MAX_WORK_BYTES   (NEST_MAX_TYPES * NEST_MAX_PIECES * NEST_MAX_SET_WORDS * NEST_WORD_BYTES)
+#define NEST_MAX_LAYOUT_BYTES (NEST_MAX_PIECES * NEST_ENTRY_NUMBERS * NEST_NUMBER_BYTES)
+#define NEST_MAX_ROW_BYTES    (NEST_MAX_SET_WORDS * NEST_WORD_BYTES)
+/* Read writes 6 numbers, 3 a class (at most 24) and one for each byte of the type list (at most 1004). */
+#define NEST_MAX_READ_BYTES   ((6 + 3 * NEST_MAX_CLASSES + NEST_MAX_JOB_BYTES) * NEST_NUMBER_BYTES)
+
+/* ------------------------------------------------------------------------------------------------------
+ * Results
+ *
+ * Each service returns one 64-bit number of four fields:
+ *
+ *   bits  0 to  7   the number: NEST_OK, or why the call was refused (enum nest_number)
+ *   bits  8 to 15   the verdict of a run (enum nest_verdict); 0 for the other services
+ *   bits 16 to 31   read: numbers written; row: words written; check and run: the layout's length
+ *   bits 32 to 63   the steps that a run took; 0 for the other services
+ *
+ * A refusal has verdict, count and steps 0 and changes no buffer, except NEST_NONE, which tells its steps and
+ * leaves the work words zero.
+ * ------------------------------------------------------------------------------------------------------ */
+
+#define NEST_NUMBER(result)  ((unsigned)((result) & 0xFF))
+#define NEST_VERDICT(result) ((unsigned)((result) >> 8 & 0xFF))
+#define NEST_COUNT(result)   ((unsigned)((result) >> 16 & 0xFFFF)) /* of read and row */
+#define NEST_LENGTH(result)  NEST_COUNT(result)                    /* of check and run */
+#define NEST_STEPS(result)   ((uint32_t)((result) >> 32))
+
+/* Causes are tested as 1 to 7, then 12, 11, 8, 9, then 10, each only after those before it. */
+enum nest_number {
+    NEST_OK = 0,
+
+    /* The job's sender; any service. */
+    NEST_BAD_SIZE = 1,     /* fewer than 14 or more than 1024 bytes */
+    NEST_BAD_MARK = 2,     /* wrong mark or stated length */
+    NEST_BAD_SECTIONS = 3, /* a section ends past the trailer's offset, or two sections share a byte */
+    NEST_BAD_BOARD = 4,    /* a board field out of range, or more than 1024 dots */
+    NEST_BAD_CLASSES = 5,  /* an id, gap or count out of range, an id or a rank twice */
+    NEST_BAD_TYPES = 6,    /* a type field, count or sum out of range, a class named that is absent, or
+                              records that do not fill the type list exactly */
+    NEST_BAD_PART = 7,     /* a part not sound, or a corner at -128 */
+
+    /* The host. */
+    NEST_SHORT_WORK = 8,    /* run: work words too few */
+    NEST_SHORT_ANSWER = 9,  /* read, run: answer numbers too few; row: row words too few */
+    NEST_BAD_LAYOUT = 11,   /* check: another count of numbers, out of order, or does not pass */
+    NEST_NO_CANDIDATE = 12, /* row: the candidate or one of the two types does not exist */
+
+    /* The job as a whole. */
+    NEST_NONE = 10 /* run, not stopped: no layout passes */
+};
+
+enum nest_verdict {
+    NEST_ENDED = 0,                /* shortest with NEST_OK, none with NEST_NONE */
+    NEST_STOPPED_WITH_LAYOUT = 1,  /* the budget was spent; the best layout of the steps taken is held */
+    NEST_STOPPED_WITH_NOTHING = 2  /* the budget was spent before a layout was complete */
+};
+
+/* ------------------------------------------------------------------------------------------------------
+ * Services
+ * ------------------------------------------------------------------------------------------------------ */
+
+/*
+ * Read a job. Writes its content as two-byte numbers, a negative coordinate as 65,536 plus it, in this order:
+ *
+ *   W, L, g,
+ *   the number of classes, then id, rank and gap of each class by rising id,
+ *   the number of types, then for each type: demand, turn mask, class mask, number of parts,
+ *       and for each part: the number of corners, then x and y of each corner,
+ *   N.
+ *
+ * Result: NEST_COUNT is how many numbers were written.
+ * Refusals: 1 to 7; 9 if the answer buffer holds fewer numbers than these (nothing is written then).
+ * NEST_MAX_READ_BYTES are enough for every job.
+ */
+uint64_t nest_read(const uint8_t *job, size_t job_len, uint8_t *answer, size_t answer_len);
+
+/*
+ * Row of conflicts. For the candidate `number` of type `kind`, fills the NEST_SET_WORDS(dots) first row words: a
+ * bit is set where type `other` has a candidate of that number and it is in conflict with the given one; all
+ * other bits of these words are 0, whatever they were before.
+ *
+ * Result: NEST_COUNT is how many words were written.
+ * Refusals: 1 to 7; 12 if `kind` or `other` is not below the number of types or `number` is no candidate of
+ * `kind`; 9 if the row buffer holds fewer words. NEST_MAX_ROW_BYTES are enough for every job.
+ */
+uint64_t nest_row(const uint8_t *job, size_t job_len, uint64_t kind, uint64_t number, uint64_t other,
+                  uint8_t *row, size_t row_len);
+
+/*
+ * Check a layout. It passes if it holds exactly 4 * N numbers in the order above, has the demanded copies of
+ * each type, each entry is a candidate, and no two are in conflict. No buffer is changed, so here the two
+ * may share bytes.
+ *
+ * Result: NEST_LENGTH is the layout's length.
+ * Refusals: 1 to 7; 11.
+ */
+uint64_t nest_check(const uint8_t *job, size_t job_len, const uint8_t *layout, size_t layout_len);
+
+/*
+ * Run the search, taking at most `budget` steps.
+ *
+ *   NEST_OK, NEST_ENDED                  shortest: the first 4 * N answer numbers hold the first of the
+ *                                        shortest layouts, NEST_LENGTH is its length
+ *   NEST_NONE, NEST_ENDED                no layout passes; the answer numbers are unchanged
+ *   NEST_OK, NEST_STOPPED_WITH_LAYOUT    the answer numbers hold the best layout of the steps taken,
+ *                                        NEST_LENGTH is its length
+ *   NEST_OK, NEST_STOPPED_WITH_NOTHING   no layout was complete; the answer numbers are unchanged, the length
+ *                                        told is 0
+ *
+ * NEST_STEPS is the number of steps taken: all that the search needs, or the whole budget where it stopped. It
+ * stops exactly when it needs more steps than the budget.
+ *
+ * The work words need no preparation. After every answer above, the needed T * N * NEST_SET_WORDS(dots) ones
+ * are zero.
+ *
+ * Refusals: 1 to 7; 8 if the work buffer holds fewer words than that; 9 if the answer buffer holds fewer than
+ * 4 * N numbers. NEST_MAX_WORK_BYTES and NEST_MAX_LAYOUT_BYTES are enough for every job.
+ */
+uint64_t nest_run(const uint8_t *job, size_t job_len, uint32_t budget, uint8_t *work, size_t work_len,
+                  uint8_t *answer, size_t answer_len);
+
+#ifdef __cplusplus
+}
+#endif
+
+#endif

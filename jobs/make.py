@@ -1,0 +1,190 @@
+#!/usr/bin/env python3
+"""Writes the sample jobs of this folder from the descriptions below, and their table, README.md.
+
+usage: jobs/make.py [EXPECT]
+
+EXPECT is the program `expect` of tests/ (the reference, which links nothing of the engine); with it the
+expected outputs, NAME.out, are written too.
+"""
+
+import pathlib
+import struct
+import subprocess
+import sys
+
+FOLDER = pathlib.Path(__file__).resolve().parent
+
+SQUARE = [(0, 0), (2, 0), (2, 2), (0, 2)]
+LOWER = [(0, 0), (2, 0), (2, 2)]
+UPPER = [(0, 0), (2, 2), (0, 2)]
+STRIP = [(0, 0), (10, 10), (10, 11), (0, 1)]
+STAR = [(0, 10), (-6, -8), (10, 3), (-10, 3), (6, -8)]
+
+
+def rectangle(x, y, width, height):
+    return [(x, y), (x + width, y), (x + width, y + height), (x, y + height)]
+
+
+# An angle bracket: a long bar and a short one, two parts that share a corner.
+BRACKET = [rectangle(0, 0, 4, 1), rectangle(0, 0, 1, 3)]
+
+
+def piece(demand, parts, turns=1, classes=0):
+    """A type record: the turn mask allows turns, the class mask names classes."""
+    record = bytes([demand, turns, classes, len(parts)])
+    for part in parts:
+        record += bytes([len(part)]) + b"".join(struct.pack("bb", x, y) for x, y in part)
+    return record
+
+
+def job(width, length, step, types, classes=(), order="board classes types", skip=b"", class_offset=None):
+    """The job's bytes: the sections in the order given, each after the skipped bytes, then the trailer."""
+    contents = {
+        "board": struct.pack("<HHH", width, length, step),
+        "classes": b"".join(bytes(c) for c in classes),
+        "types": b"".join(types),
+    }
+    body, offset = b"", {}
+    for name in order.split():
+        body += skip
+        offset[name] = len(body)
+        body += contents[name]
+    if class_offset is not None:
+        offset["classes"] = class_offset
+    trailer = struct.pack(
+        "<HHHHBBH",
+        offset["board"],
+        offset["classes"],
+        offset["types"],
+        len(contents["types"]),
+        len(classes),
+        len(types),
+        len(body) + 14,
+    )
+    return body + trailer + b"\x44\x42"
+
+
+# The bracket of two classes: coating (rank 2, gap 1) comes before packing (rank 7, gap 3).
+COATING, PACKING = (4, 2, 1), (1, 7, 3)
+TWO_CLASSES = 1 << 4 | 1 << 1
+
+
+def brackets(classes):
+    return job(5, 14, 1, [piece(3, BRACKET, turns=5, classes=TWO_CLASSES)], classes)
+
+
+JOBS = {
+    "printed": (
+        "Document 01's first board, byte for byte: two squares side by side.",
+        job(2, 4, 1, [piece(2, [SQUARE])], order="board types classes", class_offset=0),
+    ),
+    "two-squares-gap": (
+        "The same squares in a class of gap 1 on a longer board: they stand 1 apart.",
+        job(2, 5, 1, [piece(2, [SQUARE], classes=1)], [(0, 0, 1)]),
+    ),
+    "classes-one-order": (
+        "Three brackets of two parts, each in two classes; the best-ranked one, gap 1, counts.",
+        brackets([COATING, PACKING]),
+    ),
+    "classes-other-order": (
+        "The same job with its two class records exchanged: the same output.",
+        brackets([PACKING, COATING]),
+    ),
+    "turned-bar": (
+        "A bar of length 3 on a board of length 1: only one quarter turn is allowed, and it fits.",
+        job(3, 1, 1, [piece(1, [rectangle(0, 0, 3, 1)], turns=2)]),
+    ),
+    "four-turns": (
+        "Angle brackets and a bar in all four turns, nested into each other.",
+        job(5, 8, 1, [piece(3, BRACKET, turns=15), piece(1, [rectangle(0, 0, 2, 2)], turns=1)]),
+    ),
+    "triangles": (
+        "Two triangles that share the dot (0, 0) and an edge, without conflict.",
+        job(2, 2, 1, [piece(1, [LOWER]), piece(1, [UPPER])]),
+    ),
+    "strips": (
+        "Two slanting strips in one column, more than their height would allow.",
+        job(12, 20, 1, [piece(2, [STRIP])]),
+    ),
+    "any-order": (
+        "Types, classes, board, in that order, with skipped bytes between; step 2, negative corners, overlapping parts.",
+        job(
+            9,
+            21,
+            2,
+            [
+                piece(2, [rectangle(-2, -1, 4, 3), rectangle(-1, -2, 2, 5)], turns=3, classes=4),
+                piece(1, [[(-3, 0), (0, -2), (3, 0), (0, 2)]]),
+            ],
+            [(2, 9, 1), (7, 0, 63)],
+            order="types classes board",
+            skip=b"skipped",
+        ),
+    ),
+    "full-board": (
+        "The most that a job may have: 1024 dots, 8 types, 12 pieces, every turn; the first column takes them all.",
+        job(31, 31, 1, [piece(2 if i < 4 else 1, [rectangle(0, 0, 2, 1 + i % 3)], turns=15) for i in range(8)]),
+    ),
+    "stopped-with-layout": (
+        "Eleven pieces with more to try than 1,000,000 steps: the best layout so far is held.",
+        job(8, 20, 1, [piece(6, [rectangle(0, 0, 3, 2)], turns=3), piece(5, BRACKET, turns=5)]),
+    ),
+    "stopped-with-nothing": (
+        "Twelve bars, of which eleven fit; look-ahead does not see it, and the budget is spent first.",
+        job(6, 11, 1, [piece(12, [rectangle(0, 0, 3, 2)], turns=3)]),
+    ),
+    "none": (
+        "Two squares on a board that is 1 too short for them.",
+        job(2, 3, 1, [piece(2, [SQUARE])]),
+    ),
+    "none-at-once": (
+        "A board shorter than the piece: none, without a step.",
+        job(2, 1, 1, [piece(2, [SQUARE])]),
+    ),
+    "refused-3-shared-byte": (
+        "The class list begins on the board record's last byte.",
+        job(2, 4, 1, [piece(2, [SQUARE], classes=1)], [(0, 0, 1)], class_offset=5),
+    ),
+    "refused-4-dots": (
+        "L 512, W 1, step 1: 1026 dots.",
+        job(1, 512, 1, [piece(1, [rectangle(0, 0, 1, 1)])]),
+    ),
+    "refused-6-absent-class": (
+        "A type names the class of id 3, and the job has none of that id.",
+        job(2, 4, 1, [piece(2, [SQUARE], classes=1 << 3)], [(0, 0, 1)]),
+    ),
+    "refused-7-star": (
+        "A five-pointed star: each corner turns left, but the part is not sound.",
+        job(30, 30, 1, [piece(1, [STAR])]),
+    ),
+}
+
+TOP = """# Sample jobs
+
+Each `NAME.job` is a job as the engine reads it, `NAME.out` is what the command program prints for it (budget
+1,000,000). `make.py` holds a readable description of each and writes the jobs and this table; the expected
+outputs come from the reference in `tests/`, which was written from document 01 alone.
+
+| job | what it shows | first line of the output |
+|---|---|---|
+"""
+
+
+def first_line(name):
+    path = FOLDER / f"{name}.out"
+    return path.read_text().splitlines()[0] if path.exists() else ""
+
+
+def main():
+    for name, (_, content) in JOBS.items():
+        path = FOLDER / f"{name}.job"
+        path.write_bytes(content)
+        if len(sys.argv) > 1:
+            out = subprocess.run([sys.argv[1], str(path)], check=True, capture_output=True)
+            (FOLDER / f"{name}.out").write_bytes(out.stdout)
+    rows = "".join(f"| `{name}` | {line} | `{first_line(name)}` |\n" for name, (line, _) in JOBS.items())
+    (FOLDER / "README.md").write_text(TOP + rows)
+
+
+if __name__ == "__main__":
+    main()

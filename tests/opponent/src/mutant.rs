@@ -1,0 +1,75 @@
+//! Deliberate mistakes. Without the feature `mutants` every question is answered "no" when compiling.
+
+/// Each mistake by its name; `tests/mutants.sh` asks for them one by one.
+pub const NAMES: &[&str] = &[
+    "touching_overlaps",
+    "largest_gap",
+    "last_gap",
+    "smaller_pair_gap",
+    "no_axis_directions",
+    "negated_turn",
+    "edges_of_board_excluded",
+    "one_piece_per_dot",
+    "ahead_on_the_way_back",
+    "no_ahead_before_first",
+    "no_ahead",
+    "bound_not_longer",
+    "bound_of_entry",
+    "one_step_too_many",
+    "steps_always_counted",
+    "stopped_at_exact_budget",
+    "work_not_cleared",
+    "work_not_cleared_when_none",
+    "one_work_word_too_many",
+    "row_not_cleared",
+    "row_of_absent_candidates",
+    "odd_byte_overwritten",
+    "answer_cleared_when_none",
+    "answer_written_when_stopped_with_nothing",
+    "eight_after_nine",
+    "nine_before_twelve",
+    "seven_before_six",
+    "star_accepted",
+    "offset_wraps",
+    "empty_section_shares",
+    "kind_of_32_bits",
+    "number_of_16_bits",
+    "check_by_number_alone",
+    "check_takes_longer_layouts",
+    "check_without_order",
+    "classes_in_file_order",
+    "negative_as_byte",
+    "length_of_last_piece",
+    "guard_written",
+    "dots_not_limited",
+    "first_completed_held",
+    // The impostors that document 01 names.
+    "stopped_at_once",
+    "invented_steps",
+    "none_to_all",
+    "rest_copied",
+    "check_passes_nothing",
+    "row_always_zero",
+    "row_untouched",
+];
+
+#[cfg(feature = "mutants")]
+pub fn is(name: &str) -> bool {
+    use std::sync::OnceLock;
+    static CHOSEN: OnceLock<String> = OnceLock::new();
+    CHOSEN.get_or_init(chosen) == name
+}
+
+/// The name of the mistake to make, empty for none.
+#[cfg(feature = "mutants")]
+fn chosen() -> String {
+    let name = std::env::var("NEST_MUTANT").unwrap_or_default();
+    assert!(name.is_empty() || NAMES.contains(&name.as_str()), "no mutant is called {name}");
+    name
+}
+
+#[cfg(not(feature = "mutants"))]
+#[inline(always)]
+pub fn is(_name: &str) -> bool {
+    false
+}

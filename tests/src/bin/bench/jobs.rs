@@ -1,0 +1,58 @@
+//! Jobs to measure: from small to the largest that the format allows, and three series that grow one thing.
+
+use nest_tests::draft::{encode, Arrangement, Draft};
+
+pub struct BenchJob {
+    pub name: String,
+    pub bytes: Vec<u8>,
+}
+
+const SHAPES: [&[(i8, i8)]; 4] = [
+    &[(0, 0), (3, 0), (3, 2), (0, 2)],
+    &[(0, 0), (4, 0), (2, 3)],
+    &[(1, 0), (3, 0), (4, 1), (4, 2), (3, 3), (1, 3), (0, 2), (0, 1)],
+    &[(0, 0), (5, 1), (5, 2), (0, 1)],
+];
+
+fn named(name: String, draft: Draft) -> BenchJob {
+    BenchJob { name, bytes: encode(&draft, &Arrangement::plain()).bytes }
+}
+
+/// A board of so many rows and columns, with so many types and pieces, in all four turns.
+fn grid(name: &str, rows: u16, columns: u16, types: usize, pieces: usize) -> BenchJob {
+    let mut draft = Draft::new(rows - 1, columns - 1, 1).classes(&[[0, 1, 1], [1, 0, 0]]);
+    for kind in 0..types {
+        let demand = pieces / types + usize::from(kind < pieces % types);
+        draft = draft.with(demand as u8, 15, (kind % 3) as u8, &[SHAPES[kind % SHAPES.len()]]);
+    }
+    named(format!("{name}: {}d {types}t {pieces}p", rows * columns), draft)
+}
+
+/// Pieces of six parts of eight corners, as many as fit into 1024 bytes.
+fn many_parts() -> BenchJob {
+    let octagon = SHAPES[2];
+    let moved: Vec<Vec<(i8, i8)>> =
+        (0..6).map(|i| octagon.iter().map(|&(x, y)| (x + i % 3, y + i / 3)).collect()).collect();
+    let parts: Vec<&[(i8, i8)]> = moved.iter().map(Vec::as_slice).collect();
+    let mut draft = Draft::new(31, 31, 1);
+    for kind in 0..8 {
+        draft = draft.with(if kind < 4 { 2 } else { 1 }, 15, 0, &parts);
+    }
+    named("six parts, eight corners".into(), draft)
+}
+
+pub fn bench_jobs() -> Vec<BenchJob> {
+    let printed = Draft::new(2, 4, 1).with(2, 1, 0, &[&[(0, 0), (2, 0), (2, 2), (0, 2)]]);
+    let mut jobs = vec![
+        named("the printed board".into(), printed),
+        grid("small", 8, 8, 2, 4),
+        grid("middle", 16, 16, 4, 8),
+        grid("largest", 32, 32, 8, 12),
+        many_parts(),
+    ];
+    // Eight rows: too few for the pieces to stand in one column, so that the walks are long.
+    jobs.extend([24, 32, 64, 128].map(|columns| grid("dots grow", 8, columns, 4, 8)));
+    jobs.extend([1, 2, 4, 8].map(|types| grid("types grow", 8, 48, types, 8)));
+    jobs.extend([6, 8, 10, 12].map(|pieces| grid("pieces grow", 8, 48, 2, pieces)));
+    jobs
+}

@@ -1,0 +1,164 @@
+//! The benchmark: the proved engine against an unverified Rust one, as ratios in one run. Not part of the
+//! gate. Every figure is the best of a few short measurements, since other work may share the machine.
+
+mod jobs;
+mod measure;
+#[path = "../../nest.rs"]
+mod nest;
+
+use std::hint::black_box;
+
+use jobs::{bench_jobs, BenchJob};
+use measure::best_time;
+use opponent::job::{read, Job};
+use opponent::rows::{Board, Rows};
+use opponent::walk::Walk;
+
+const HEAD: &str = "\
+The proved engine (nest) against an unverified Rust one with precomputed conflict rows (rust), same machine,
+same jobs, both built for release. A ratio above 1 means that the proved engine is slower.
+Buffers: allocated once and NOT cleared before a call; nest_run clears its work words itself, and that is in
+its time. In run, nest's time is a whole call, reading and every conflict included. Rust's walk alone finds all
+its conflict rows there; its set-up (candidates, conflict tables by offset) and the rows that the walk takes
+come on top in the last column.";
+
+fn main() {
+    println!("{HEAD}\n");
+    let jobs = bench_jobs();
+    for bench in &jobs {
+        check_agreement(bench);
+    }
+    reads(&jobs);
+    rows(&jobs);
+    runs(&jobs);
+}
+
+/// The two have to agree before their speeds are compared.
+fn check_agreement(bench: &BenchJob) {
+    let budget = 20;
+    let mut work = vec![0; 49_152];
+    let mut answer = vec![0; 96];
+    let got = nest::run(&bench.bytes, budget, &mut work, &mut answer);
+    let job = read(&bench.bytes).expect("an accepted job");
+    let walked = whole_walk(&job, budget.into());
+    let length = walked.best.map_or(0, |(length, _)| length as u16);
+    assert_eq!((u64::from(got.steps), got.count), (walked.steps, length), "{}", bench.name);
+}
+
+fn whole_walk(job: &Job, budget: u64) -> opponent::walk::Outcome {
+    let board = Board::new(job);
+    let mut rows = Rows::new(&board);
+    Walk::new(&board, &mut rows).run(budget)
+}
+
+fn reads(jobs: &[BenchJob]) {
+    println!("read: microseconds a call");
+    println!("{:<28} {:>6} {:>9} {:>9} {:>7}", "job", "bytes", "nest", "rust", "ratio");
+    let mut answer = vec![0; 4096];
+    for bench in jobs {
+        let proved = best_time(|| nest::read(&bench.bytes, &mut answer));
+        let plain = best_time(|| read(&bench.bytes).is_ok());
+        let (length, ratio) = (bench.bytes.len(), proved / plain);
+        println!("{:<28} {:>6} {:>9.3} {:>9.3} {:>7.2}", bench.name, length, proved * 1e6, plain * 1e6, ratio);
+    }
+    println!();
+}
+
+/// A row of the last type's middle candidate against the first type; one pair test for each candidate of that.
+fn rows(jobs: &[BenchJob]) {
+    println!("row: pair tests a second, in millions (nest reads the job in each call, rust once before)");
+    println!("{:<28} {:>6} {:>9} {:>9} {:>7}", "job", "tests", "nest", "rust", "ratio");
+    let mut bytes = vec![0; 512];
+    let mut words = vec![0; 64];
+    for bench in jobs {
+        let job = read(&bench.bytes).expect("an accepted job");
+        let board = Board::new(&job);
+        let kind = job.kind_count - 1;
+        let Some(number) = middle_candidate(&board, kind) else { continue };
+        let tests = board.row(kind, number, 0, &mut words) as f64;
+        let proved = best_time(|| nest::row(&bench.bytes, kind as u64, number as u64, 0, &mut bytes));
+        let plain = best_time(|| board.row(kind, number, 0, &mut words));
+        let (fast, slow, ratio) = (tests / plain / 1e6, tests / proved / 1e6, proved / plain);
+        println!("{:<28} {tests:>6} {slow:>9.2} {fast:>9.2} {ratio:>7.2}", bench.name);
+    }
+    println!();
+}
+
+fn middle_candidate(board: &Board, kind: usize) -> Option<usize> {
+    let all = 4 * board.job.rows * board.job.columns;
+    (all / 2..all).chain(0..all / 2).find(|&n| board.is_candidate(kind, n))
+}
+
+fn runs(jobs: &[BenchJob]) {
+    println!("run: thousands of steps a second (ratio to rust's walk alone, and to rust with its set-up)");
+    println!(
+        "{:<28} {:>5} {:>3} {:>3} {:>8} {:>10} {:>10} {:>9} {:>8} {:>8}",
+        "job", "dots", "T", "N", "steps", "nest", "rust walk", "set-up ms", "ratio", "with"
+    );
+    let costs: Vec<StepCost> = jobs.iter().map(run).collect();
+    println!("\nrun: how the time of a step grows, the first job of each series being 1");
+    for series in ["dots grow", "types grow", "pieces grow"] {
+        growth(series, jobs, &costs);
+    }
+}
+
+/// Seconds a step, of both engines.
+struct StepCost {
+    proved: f64,
+    plain: f64,
+}
+
+fn growth(series: &str, jobs: &[BenchJob], costs: &[StepCost]) {
+    let members: Vec<usize> = (0..jobs.len()).filter(|&i| jobs[i].name.starts_with(series)).collect();
+    let first = &costs[members[0]];
+    for &i in &members {
+        let (proved, plain) = (costs[i].proved / first.proved, costs[i].plain / first.plain);
+        println!("{:<28} nest {proved:>8.2}   rust walk {plain:>8.2}", jobs[i].name);
+    }
+}
+
+fn run(bench: &BenchJob) -> StepCost {
+    let job = read(&bench.bytes).expect("an accepted job");
+    let mut work = vec![0xA5; 49_152];
+    let mut answer = vec![0xA5; 96];
+    let budget = affordable_budget(bench, &mut work, &mut answer);
+    let steps = nest::run(&bench.bytes, budget, &mut work, &mut answer).steps.max(1);
+    let proved = best_time(|| nest::run(&bench.bytes, budget, &mut work, &mut answer));
+    let board = Board::new(&job);
+    let mut rows = Rows::new(&board);
+    let set_up = best_time(|| {
+        let board = Board::new(&job);
+        black_box(&Rows::new(&board));
+    });
+    let whole = best_time(|| whole_walk(&job, budget.into()).steps);
+    // The first call builds the rows, those that are timed find them.
+    let walk = best_time(|| Walk::new(&board, &mut rows).run(budget.into()).steps);
+    println!(
+        "{:<28} {:>5} {:>3} {:>3} {:>8} {:>10.1} {:>10.1} {:>9.3} {:>8.2} {:>8.2}",
+        bench.name,
+        job.rows * job.columns,
+        job.kind_count,
+        job.pieces,
+        steps,
+        f64::from(steps) / proved / 1e3,
+        f64::from(steps) / walk / 1e3,
+        set_up * 1e3,
+        proved / walk,
+        proved / whole,
+    );
+    StepCost { proved: proved / f64::from(steps), plain: walk / f64::from(steps) }
+}
+
+/// Doubled until the run ends by itself or takes a quarter of a second.
+fn affordable_budget(bench: &BenchJob, work: &mut [u8], answer: &mut [u8]) -> u32 {
+    let mut budget = 16;
+    while budget < 1 << 20 {
+        let start = std::time::Instant::now();
+        let got = nest::run(&bench.bytes, budget, work, answer);
+        if got.steps < budget || start.elapsed().as_secs_f64() > 0.25 {
+            break;
+        }
+        budget *= 2;
+    }
+    budget
+}

@@ -1,0 +1,430 @@
+//! Calls each service on a job with buffers of many sizes and compares answers and every byte lent with
+//! what the reference gives.
+
+use nest_tests::answer::Answer;
+use nest_tests::noise::Noise;
+use nest_tests::reference::board::{Board, Piece};
+use nest_tests::reference::layout::to_numbers;
+use nest_tests::reference::services::{self, bytes_of, content, work_words, Reading};
+use nest_tests::reference::{exhaustive, walk};
+
+use crate::lent::{awkward_lengths, Lent};
+use crate::nest;
+use crate::report::{hexadecimal, Report};
+
+/// Boards with at most this many layouts are also searched exhaustively.
+const LAYOUTS_AT_MOST: u64 = 4000;
+/// Walks are followed to their end up to this many steps.
+const STEPS_AT_MOST: u64 = 2000;
+
+pub struct Case {
+    pub bytes: Vec<u8>,
+    pub reading: Reading,
+    /// The same job with its classes in another order.
+    pub reordered: Option<Vec<u8>>,
+    /// The walk to its end, where it is short enough.
+    walked: Option<walk::Walked>,
+}
+
+impl Case {
+    pub fn new(bytes: Vec<u8>, reordered: Option<Vec<u8>>) -> Case {
+        let reading = Board::read(&bytes);
+        let walked = reading.as_ref().ok().map(|board| walk::walk(board, step_limit(board)));
+        Case { bytes, reading, reordered, walked }
+    }
+}
+
+/// On boards with many candidates a step of the plain walk is slow.
+fn step_limit(board: &Board) -> u64 {
+    let candidates: usize = board.candidates.iter().map(Vec::len).sum();
+    match candidates {
+        0..=1500 => STEPS_AT_MOST,
+        _ => 30,
+    }
+}
+
+pub struct Harness<'a> {
+    pub noise: &'a mut Noise,
+    pub report: &'a mut Report,
+}
+
+impl Harness<'_> {
+    pub fn every_service(&mut self, case: &Case) {
+        self.reads(case);
+        self.rows(case);
+        self.checks(case);
+        self.runs(case);
+        self.exhaustive_search(case);
+    }
+
+    fn judge(&mut self, service: &'static str, case: &Case, call: &str, got: Answer, expected: Answer) {
+        self.report.call(service, expected);
+        if got != expected {
+            let what = format!("{service} {call}: got {got:?}, expected {expected:?}");
+            self.report.mismatch(&what, &case.bytes);
+        }
+    }
+
+    fn compare_bytes(&mut self, service: &str, case: &Case, call: &str, buffer: &str, got: &Lent, expected: &Lent) {
+        if let Some(difference) = got.difference(expected) {
+            let what = format!("{service} {call}: {buffer}: {difference}");
+            self.report.mismatch(&what, &case.bytes);
+        }
+    }
+
+    /// Buffers that a call only reads come back as they were, guards included.
+    fn compare_read_only(&mut self, service: &str, case: &Case, call: &str, lent: &Lent, content: &Lent) {
+        self.compare_bytes(service, case, call, "a buffer that is only read", lent, content);
+    }
+
+    /// A length of each kind that a refused job is called with.
+    fn any_length(&mut self) -> usize {
+        self.noise.pick(&[0, 1, 2, 7, 8, 9, 64, 500, 4000])
+    }
+
+    // Read.
+
+    fn reads(&mut self, case: &Case) {
+        match &case.reading {
+            Err(_) => {
+                let length = self.any_length();
+                self.read(case, length);
+            }
+            Ok(board) => {
+                let needed = 2 * content(board).len();
+                for length in awkward_lengths(needed, 2) {
+                    self.read(case, length);
+                }
+            }
+        }
+    }
+
+    fn read(&mut self, case: &Case, length: usize) {
+        let call = format!("with {length} answer bytes");
+        let lent = Lent::noisy(self.noise, length);
+        let job = Lent::holding(self.noise, &case.bytes);
+        let kept_job = job.clone();
+        let (mut got_bytes, mut expected_bytes) = (lent.clone(), lent.clone());
+        let expected = services::read(&case.reading, expected_bytes.bytes_mut());
+        let got = nest::read(job.bytes(), got_bytes.bytes_mut());
+        self.judge("read", case, &call, got, expected);
+        self.compare_bytes("read", case, &call, "answer", &got_bytes, &expected_bytes);
+        self.compare_read_only("read", case, &call, &job, &kept_job);
+        if let Some(other) = &case.reordered {
+            let mut other_bytes = lent;
+            let other_answer = nest::read(other, other_bytes.bytes_mut());
+            self.same_for_reordered("read", case, &call, (got, other_answer), &[(&got_bytes, &other_bytes)]);
+        }
+    }
+
+    fn same_for_reordered(
+        &mut self,
+        service: &str,
+        case: &Case,
+        call: &str,
+        answers: (Answer, Answer),
+        buffers: &[(&Lent, &Lent)],
+    ) {
+        self.report.note("calls with the classes reordered");
+        let same_bytes = buffers.iter().all(|(one, other)| one.difference(other).is_none());
+        if answers.0 != answers.1 || !same_bytes {
+            let what = format!("{service} {call}: another result with the classes in another order");
+            self.report.mismatch(&what, &case.bytes);
+        }
+    }
+
+    // Row.
+
+    fn rows(&mut self, case: &Case) {
+        let Ok(board) = &case.reading else {
+            let length = self.any_length();
+            let (kind, number, other) = (self.noise.next() % 9, self.noise.next() % 4097, self.noise.next() % 9);
+            return self.row(case, kind, number, other, length);
+        };
+        let needed = 8 * board.words();
+        for _ in 0..3 {
+            let Some((kind, number, other)) = self.good_row(board) else { break };
+            let short = awkward_lengths(needed, 8);
+            self.row(case, kind, number, other, needed);
+            let length = self.noise.pick(&short);
+            self.row(case, kind, number, other, length);
+        }
+        for _ in 0..4 {
+            let (kind, number, other) = self.bad_row(board);
+            let length = self.noise.pick(&awkward_lengths(needed, 8));
+            self.row(case, kind, number, other, length);
+        }
+    }
+
+    fn good_row(&mut self, board: &Board) -> Option<(u64, u64, u64)> {
+        let kinds = board.job.types.len();
+        let kind = self.noise.below(kinds);
+        let list = &board.candidates[kind];
+        if list.is_empty() {
+            return None;
+        }
+        let number = list[self.noise.below(list.len())].number;
+        Some((kind as u64, number as u64, self.noise.below(kinds) as u64))
+    }
+
+    /// Arguments that mostly name nothing: types past the last, numbers off the board or of no candidate.
+    fn bad_row(&mut self, board: &Board) -> (u64, u64, u64) {
+        let kinds = board.job.types.len() as u64;
+        let (mut kind, mut number, mut other) = self.good_row(board).unwrap_or((0, 0, 0));
+        let past = self.noise.pick(&[kinds, kinds + 1, 8, 255, 256, 1 << 16, 1 << 32, 1 << 63, u64::MAX]);
+        let all = 4 * board.dots() as u64;
+        match self.noise.below(6) {
+            0 => kind = past.max(kinds),
+            1 => other = past.max(kinds),
+            2 => kind += self.noise.pick(&[1 << 8, 1 << 16, 1 << 32, 1 << 63]),
+            3 => number = self.noise.next() % all,
+            4 => number = self.noise.pick(&[all, all + 1, all + 3, 4095, 4096, 65_535, u64::MAX]),
+            _ => number += self.noise.pick(&[1 << 12, 1 << 16, 1 << 32, 1 << 63]),
+        }
+        (kind, number, other)
+    }
+
+    fn row(&mut self, case: &Case, kind: u64, number: u64, other: u64, length: usize) {
+        let call = format!("of type {kind} number {number} against {other} with {length} row bytes");
+        let lent = Lent::noisy(self.noise, length);
+        let job = Lent::holding(self.noise, &case.bytes);
+        let kept_job = job.clone();
+        let (mut got_bytes, mut expected_bytes) = (lent.clone(), lent.clone());
+        let expected = services::row(&case.reading, kind, number, other, expected_bytes.bytes_mut());
+        let got = nest::row(job.bytes(), kind, number, other, got_bytes.bytes_mut());
+        self.judge("row", case, &call, got, expected);
+        self.compare_bytes("row", case, &call, "row", &got_bytes, &expected_bytes);
+        self.compare_read_only("row", case, &call, &job, &kept_job);
+        if let Some(job) = &case.reordered {
+            let mut other_bytes = lent;
+            let other_answer = nest::row(job, kind, number, other, other_bytes.bytes_mut());
+            self.same_for_reordered("row", case, &call, (got, other_answer), &[(&got_bytes, &other_bytes)]);
+        }
+    }
+
+    // Check.
+
+    fn checks(&mut self, case: &Case) {
+        let Ok(board) = &case.reading else {
+            let length = self.any_length();
+            let layout = self.noise.bytes(length);
+            return self.check(case, &layout);
+        };
+        let best = case.walked.as_ref().and_then(|w| w.best.clone());
+        let mut layouts: Vec<Vec<Piece>> = best.into_iter().collect();
+        layouts.extend((0..3).filter_map(|_| self.random_layout(board)));
+        for layout in layouts {
+            let numbers = to_numbers(board, &layout);
+            self.check(case, &bytes_of(&numbers));
+            self.spoilt_checks(case, board, &numbers);
+        }
+        let needed = 8 * board.pieces();
+        for length in awkward_lengths(needed, 2) {
+            let layout = self.noise.bytes(length);
+            self.check(case, &layout);
+        }
+        self.check_within_job(case, board);
+    }
+
+    /// Candidates at random, mostly clear of those before, in order.
+    fn random_layout(&mut self, board: &Board) -> Option<Vec<Piece>> {
+        let mut layout: Vec<Piece> = Vec::new();
+        for (kind, demand) in board.demands().into_iter().enumerate() {
+            for _ in 0..demand {
+                let list = &board.candidates[kind];
+                if list.is_empty() {
+                    return None;
+                }
+                let mut pick = || Piece { kind, index: self.noise.below(list.len()) };
+                let mut piece = pick();
+                for _ in 0..20 {
+                    if layout.iter().all(|&p| !board.conflict(p, piece)) {
+                        break;
+                    }
+                    piece = pick();
+                }
+                layout.push(piece);
+            }
+        }
+        layout.sort_by_key(|p| (p.kind, p.index));
+        Some(layout)
+    }
+
+    /// The layout with one thing changed, or of another size.
+    fn spoilt_checks(&mut self, case: &Case, board: &Board, numbers: &[u16]) {
+        for _ in 0..4 {
+            let mut other = numbers.to_vec();
+            let entry = 4 * self.noise.below(numbers.len() / 4);
+            let field = entry + self.noise.below(4);
+            match self.noise.below(9) {
+                0 => other[field] = other[field].wrapping_add(1),
+                1 => other[field] = other[field].wrapping_sub(1),
+                2 => other[field] = other[field].wrapping_add(self.noise.pick(&[256, 4, 32_768])),
+                3 => {
+                    // Another column and row with the same candidate number.
+                    other[entry + 1] = other[entry + 1].wrapping_sub(1);
+                    other[entry + 2] = other[entry + 2].wrapping_add(board.rows() as u16);
+                }
+                4 => {
+                    // Another row and turn with the same candidate number.
+                    other[entry + 2] = other[entry + 2].wrapping_sub(1);
+                    other[entry + 3] += 4;
+                }
+                5 => {
+                    let next = (entry + 4) % numbers.len();
+                    for i in 0..4 {
+                        other.swap(entry + i, next + i);
+                    }
+                }
+                6 => {
+                    let next = (entry + 4) % numbers.len();
+                    other.copy_within(entry..entry + 4, next);
+                }
+                7 => other.truncate(numbers.len() - self.noise.pick(&[1, 2, 4])),
+                _ => other.extend((0..self.noise.pick(&[1, 2, 4])).map(|_| 0)),
+            }
+            self.check(case, &bytes_of(&other));
+        }
+        let mut bytes = bytes_of(numbers);
+        bytes.push(self.noise.byte());
+        self.check(case, &bytes);
+        bytes.truncate(2 * numbers.len() - 1);
+        self.check(case, &bytes);
+    }
+
+    fn check(&mut self, case: &Case, layout: &[u8]) {
+        let call = format!("of layout {}", hexadecimal(layout));
+        let layout = Lent::holding(self.noise, layout);
+        let job = Lent::holding(self.noise, &case.bytes);
+        let expected = services::check(&case.reading, layout.bytes());
+        let (kept_job, kept_layout) = (job.clone(), layout.clone());
+        let got = nest::check(job.bytes(), layout.bytes());
+        self.judge("check", case, &call, got, expected);
+        self.compare_read_only("check", case, &call, &job, &kept_job);
+        self.compare_read_only("check", case, &call, &layout, &kept_layout);
+        if let Some(other) = &case.reordered {
+            let other_answer = nest::check(other, layout.bytes());
+            self.same_for_reordered("check", case, &call, (got, other_answer), &[]);
+        }
+    }
+
+    /// Check changes no buffer, so the layout may lie among the job's own bytes: here in front of it all,
+    /// in bytes of no section.
+    fn check_within_job(&mut self, case: &Case, board: &Board) {
+        let Some(best) = case.walked.as_ref().and_then(|w| w.best.as_ref()) else { return };
+        let layout = bytes_of(&to_numbers(board, best));
+        let Some(bytes) = put_in_front(&case.bytes, &layout) else { return };
+        let reading = Board::read(&bytes);
+        let expected = services::check(&reading, &layout);
+        let job = Lent::holding(self.noise, &bytes);
+        let got = nest::check(job.bytes(), &job.bytes()[..layout.len()]);
+        let held = Case { bytes, reading, reordered: None, walked: None };
+        self.judge("check", &held, "of a layout within the job", got, expected);
+    }
+
+    // Run.
+
+    fn runs(&mut self, case: &Case) {
+        let Ok(board) = &case.reading else {
+            let (work, answer, budget) = (self.any_length(), self.any_length(), self.noise.next() as u32);
+            return self.run(case, budget, work, answer);
+        };
+        let (work, answer) = (8 * work_words(board), 8 * board.pieces());
+        for budget in self.budgets(case) {
+            let work_length = work + self.noise.pick(&[0, 0, 1, 7, 8, 100]);
+            let answer_length = answer + self.noise.pick(&[0, 0, 1, 2, 100]);
+            self.run(case, budget, work_length, answer_length);
+        }
+        let small = self.budgets(case)[1];
+        for length in awkward_lengths(work, 8) {
+            self.run(case, small, length, answer);
+        }
+        for length in awkward_lengths(answer, 2) {
+            self.run(case, small, work, length);
+        }
+        let (both_work, both_answer) =
+            (self.noise.pick(&awkward_lengths(work, 8)), self.noise.pick(&awkward_lengths(answer, 2)));
+        self.run(case, small, both_work, both_answer);
+    }
+
+    /// None, one, the needed steps and their neighbours, as many as there can be, and some on the way.
+    fn budgets(&mut self, case: &Case) -> Vec<u32> {
+        let walked = case.walked.as_ref().expect("an accepted job was walked");
+        let taken = walked.steps as u32;
+        let mut budgets = vec![0, 1];
+        for _ in 0..2 {
+            budgets.push(self.noise.below(taken as usize + 1) as u32);
+        }
+        if walked.stopped {
+            budgets.push(taken);
+        } else {
+            budgets.extend([taken.saturating_sub(1), taken, taken + 1, u32::MAX]);
+        }
+        budgets
+    }
+
+    fn run(&mut self, case: &Case, budget: u32, work_length: usize, answer_length: usize) {
+        let call = format!("with budget {budget}, {work_length} work bytes, {answer_length} answer bytes");
+        let (work, answer) = (Lent::noisy(self.noise, work_length), Lent::noisy(self.noise, answer_length));
+        let job = Lent::holding(self.noise, &case.bytes);
+        let kept_job = job.clone();
+        let (mut got_work, mut got_answer) = (work.clone(), answer.clone());
+        let (mut expected_work, mut expected_answer) = (work.clone(), answer.clone());
+        let expected =
+            services::run(&case.reading, budget, expected_work.bytes_mut(), expected_answer.bytes_mut());
+        let got = nest::run(job.bytes(), budget, got_work.bytes_mut(), got_answer.bytes_mut());
+        self.judge("run", case, &call, got, expected);
+        self.compare_bytes("run", case, &call, "work", &got_work, &expected_work);
+        self.compare_bytes("run", case, &call, "answer", &got_answer, &expected_answer);
+        self.compare_read_only("run", case, &call, &job, &kept_job);
+        if let Some(other) = &case.reordered {
+            let (mut other_work, mut other_answer) = (work, answer);
+            let result = nest::run(other, budget, other_work.bytes_mut(), other_answer.bytes_mut());
+            let buffers = [(&got_work, &other_work), (&got_answer, &other_answer)];
+            self.same_for_reordered("run", case, &call, (got, result), &buffers);
+        }
+    }
+
+    /// On a board with few enough layouts, the engine's own answer against a search of all of them.
+    fn exhaustive_search(&mut self, case: &Case) {
+        let Ok(board) = &case.reading else { return };
+        let walk_ends = case.walked.as_ref().is_some_and(|w| !w.stopped);
+        if !walk_ends || exhaustive::how_many(board, LAYOUTS_AT_MOST).is_none() {
+            return;
+        }
+        let best = exhaustive::first_of_the_shortest(board);
+        let mut work = Lent::noisy(self.noise, 8 * work_words(board));
+        let mut answer = Lent::noisy(self.noise, 8 * board.pieces());
+        let untouched = answer.clone();
+        let got = nest::run(&case.bytes, u32::MAX, work.bytes_mut(), answer.bytes_mut());
+        self.report.note("boards searched exhaustively");
+        let agrees = match &best {
+            None => got.number == 10 && answer.difference(&untouched).is_none(),
+            Some(layout) => {
+                let bytes = bytes_of(&to_numbers(board, layout));
+                got.number == 0 && i64::from(got.count) == board.length(layout) && answer.bytes() == bytes
+            }
+        };
+        if !agrees {
+            let expected = best.map_or("none".to_string(), |b| format!("{:?}", to_numbers(board, &b)));
+            let held = hexadecimal(answer.bytes());
+            let what = format!("run against all layouts: got {got:?} holding {held}, expected {expected}");
+            self.report.mismatch(&what, &case.bytes);
+        }
+    }
+}
+
+/// The job with bytes put before its first one: every offset and the stated length grow by their number.
+fn put_in_front(job: &[u8], front: &[u8]) -> Option<Vec<u8>> {
+    let mut bytes = [front, job].concat();
+    if bytes.len() > 1024 {
+        return None;
+    }
+    let trailer = bytes.len() - 14;
+    for field in [0, 2, 4, 10] {
+        let at = trailer + field;
+        let number = u16::from_le_bytes([bytes[at], bytes[at + 1]]) + front.len() as u16;
+        bytes[at..at + 2].copy_from_slice(&number.to_le_bytes());
+    }
+    Some(bytes)
+}

@@ -1,0 +1,463 @@
+//! Random jobs, sound ones and spoilt ones.
+
+use crate::draft::*;
+use crate::noise::Noise;
+
+/// A job to try, and what it was made for.
+pub struct Made {
+    pub bytes: Vec<u8>,
+    /// The refusal that it was made to cause, 0 for none; nothing where the bytes were hit at random.
+    pub intended: Option<u8>,
+    /// The same job with its classes in another order.
+    pub reordered: Option<Vec<u8>>,
+}
+
+pub fn make(noise: &mut Noise) -> Made {
+    match noise.below(20) {
+        0..=7 => sound(noise, small_draft),
+        8..=9 => sound(noise, crowded_draft),
+        10 => sound(noise, large_draft),
+        11..=15 => spoilt(noise),
+        16..=18 => spoilt_twice(noise),
+        _ => hit_at_random(noise),
+    }
+}
+
+fn sound(noise: &mut Noise, draft: fn(&mut Noise) -> Draft) -> Made {
+    let (draft, arrangement) = fitting(noise, draft);
+    let bytes = encode(&draft, &arrangement).bytes;
+    let reordered = (draft.classes.len() > 1).then(|| {
+        let mut other = draft.clone();
+        other.classes.rotate_left(1);
+        if noise.one_in(2) {
+            other.classes.reverse();
+        }
+        encode(&other, &arrangement).bytes
+    });
+    Made { bytes, intended: Some(0), reordered }
+}
+
+/// A draft and an arrangement that fit into 1024 bytes; now and then they are filled up to exactly that.
+fn fitting(noise: &mut Noise, draft: fn(&mut Noise) -> Draft) -> (Draft, Arrangement) {
+    loop {
+        let draft = draft(noise);
+        let mut arrangement = Arrangement::random(noise);
+        let length = encode(&draft, &arrangement).bytes.len();
+        if length > 1024 {
+            continue;
+        }
+        if noise.one_in(30) {
+            let place = noise.below(4);
+            let filler = noise.bytes(1024 - length);
+            arrangement.skipped[place].extend(filler);
+        }
+        return (draft, arrangement);
+    }
+}
+
+// Sound drafts.
+
+/// A board of a few dozen dots and few pieces, so that all layouts can be looked at.
+pub fn small_draft(noise: &mut Noise) -> Draft {
+    let step = noise.pick(&[1, 1, 1, 2, 3]);
+    let (rows, columns) = (noise.between(1, 5), noise.between(2, 8));
+    let within = |noise: &mut Noise| noise.between(0, i64::from(step) - 1);
+    let width = (rows * i64::from(step) + within(noise)).max(1);
+    let length = columns * i64::from(step) + within(noise);
+    let mut draft = Draft::new(width as u16, length as u16, step);
+    draft.classes = random_classes(noise, 2);
+    let kinds = noise.pick(&[1, 1, 2, 2, 3]);
+    let most = noise.pick(&[1, 2, 2, 3]);
+    for _ in 0..kinds {
+        let size = noise.between(1, 3) * i64::from(step).min(2);
+        let mut kind = random_type(noise, size, several_parts);
+        kind.demand = noise.between(1, most) as u8;
+        kind.class_mask = random_mask(noise, &draft.classes);
+        draft.types.push(kind);
+    }
+    draft
+}
+
+/// Many small pieces on a small board: long walks with much to look ahead at.
+pub fn crowded_draft(noise: &mut Noise) -> Draft {
+    let (width, length) = (noise.between(1, 4) as u16, noise.between(2, 9) as u16);
+    let mut draft = Draft::new(width, length, 1);
+    draft.classes = random_classes(noise, 1);
+    let kinds = noise.between(1, 4);
+    for _ in 0..kinds {
+        let size = noise.between(1, 2);
+        let mut kind = random_type(noise, size, |noise, size| vec![random_part(noise, size, 0, 0)]);
+        kind.demand = noise.between(1, 12 / kinds) as u8;
+        kind.class_mask = if noise.one_in(3) { random_mask(noise, &draft.classes) } else { 0 };
+        draft.types.push(kind);
+    }
+    draft
+}
+
+/// Up to 1024 dots, 8 types and 12 pieces, with parts of every size.
+pub fn large_draft(noise: &mut Noise) -> Draft {
+    let (width, length, step) = noise.pick(&[
+        (31, 31, 1),
+        (1, 511, 1),
+        (511, 1, 1),
+        (15, 63, 1),
+        (93, 95, 3),
+        (1000, 1000, 33),
+        (1000, 1000, 300),
+        (340, 2, 1),
+        (1000, 1000, 32),
+        (20, 30, 2),
+        (300, 200, 10),
+        (40, 24, 2),
+        (7, 100, 1),
+        (1, 1, 1000),
+        (127, 254, 127),
+    ]);
+    let mut draft = Draft::new(width, length, step);
+    let most_gap = noise.pick(&[0, 3, 63]);
+    draft.classes = random_classes(noise, most_gap);
+    let mut left = 12;
+    let kinds = noise.between(1, 8) as usize;
+    for place in 0..kinds {
+        let size = noise.pick(&[1, 3, 10, 40, 120]);
+        let mut kind = random_type(noise, size, several_parts);
+        let reserved = (kinds - place - 1) as i64;
+        let demand = noise.between(1, (left - reserved).min(6));
+        left -= demand;
+        kind.demand = demand as u8;
+        kind.class_mask = random_mask(noise, &draft.classes);
+        draft.types.push(kind);
+    }
+    draft
+}
+
+fn random_classes(noise: &mut Noise, most_gap: i64) -> Vec<[u8; 3]> {
+    let mut ids: Vec<u8> = (0..8).collect();
+    noise.shuffle(&mut ids);
+    let count = noise.pick(&[0, 1, 2, 3, 5, 8]);
+    let mut classes: Vec<[u8; 3]> = Vec::new();
+    while classes.len() < count {
+        let rank = if noise.one_in(2) { noise.byte() } else { noise.below(12) as u8 };
+        if classes.iter().all(|c| c[1] != rank) {
+            let gap = if noise.one_in(8) { 63 } else { noise.between(0, most_gap) };
+            classes.push([ids[classes.len()], rank, gap as u8]);
+        }
+    }
+    classes
+}
+
+/// Some of the classes that there are.
+fn random_mask(noise: &mut Noise, classes: &[[u8; 3]]) -> u8 {
+    classes.iter().filter(|_| noise.one_in(2)).fold(0, |mask, c| mask | 1 << c[0])
+}
+
+fn random_type(noise: &mut Noise, size: i64, parts: fn(&mut Noise, i64) -> Vec<DraftPart>) -> DraftType {
+    let turn_mask = noise.pick(&[1, 1, 2, 3, 4, 5, 8, 10, 15, 15]);
+    DraftType { demand: 1, turn_mask, class_mask: 0, parts: parts(noise, size) }
+}
+
+fn several_parts(noise: &mut Noise, size: i64) -> Vec<DraftPart> {
+    let count = noise.pick(&[1, 1, 1, 1, 2, 2, 3, 6]);
+    let reach = if noise.one_in(3) { size.min(4) } else { 0 };
+    let (left, down) = (noise.between(-reach, reach), noise.between(-reach, reach));
+    (0..count).map(|_| random_part(noise, size, left, down)).collect()
+}
+
+/// A sound part that begins at any of its corners, moved off the origin.
+fn random_part(noise: &mut Noise, size: i64, left: i64, down: i64) -> DraftPart {
+    let mut corners = match noise.below(4) {
+        0 | 1 => rectangle(noise, size),
+        2 => hull_of(noise, size, 3),
+        _ => hull_of(noise, size, 8),
+    };
+    let first = noise.below(corners.len());
+    corners.rotate_left(first);
+    corners.iter().map(|&(x, y)| ((x + left) as i8, (y + down) as i8)).collect()
+}
+
+fn rectangle(noise: &mut Noise, size: i64) -> Vec<(i64, i64)> {
+    let (x, y) = (noise.between(0, size - 1), noise.between(0, size - 1));
+    let (right, up) = (noise.between(x + 1, size), noise.between(y + 1, size));
+    vec![(x, y), (right, y), (right, up), (x, up)]
+}
+
+/// The convex hull of some points, tried again until it has an inside.
+fn hull_of(noise: &mut Noise, size: i64, points: usize) -> Vec<(i64, i64)> {
+    loop {
+        let mut at: Vec<(i64, i64)> =
+            (0..points).map(|_| (noise.between(0, size), noise.between(0, size))).collect();
+        at.sort_unstable();
+        at.dedup();
+        let mut hull = chain(at.iter());
+        let upper = chain(at.iter().rev());
+        hull.pop();
+        hull.extend(&upper[..upper.len() - 1]);
+        if hull.len() >= 3 {
+            return hull;
+        }
+    }
+}
+
+/// One side of the hull, from the first point to the last, turning left all along.
+fn chain<'a>(points: impl Iterator<Item = &'a (i64, i64)>) -> Vec<(i64, i64)> {
+    let mut side: Vec<(i64, i64)> = Vec::new();
+    for &p in points {
+        while side.len() >= 2 && !turns_left(side[side.len() - 2], side[side.len() - 1], p) {
+            side.pop();
+        }
+        side.push(p);
+    }
+    side
+}
+
+fn turns_left(a: (i64, i64), b: (i64, i64), c: (i64, i64)) -> bool {
+    (b.0 - a.0) * (c.1 - a.1) - (b.1 - a.1) * (c.0 - a.0) > 0
+}
+
+// Spoilt jobs: one cause, aimed at one refusal; or two of them, of which the earlier one counts.
+
+fn spoilt(noise: &mut Noise) -> Made {
+    let number = noise.between(1, 7) as u8;
+    spoilt_for(noise, &[number])
+}
+
+fn spoilt_twice(noise: &mut Noise) -> Made {
+    let numbers = [noise.between(1, 7) as u8, noise.between(3, 7) as u8];
+    spoilt_for(noise, &numbers)
+}
+
+fn spoilt_for(noise: &mut Noise, numbers: &[u8]) -> Made {
+    let draft = if noise.one_in(6) { large_draft } else { small_draft };
+    let encoded = loop {
+        let mut draft = fitting(noise, draft).0;
+        // From the last to the first, so that no later cause undoes an earlier one.
+        for number in (4..=7).rev().filter(|n| numbers.contains(n)) {
+            spoil_draft(noise, &mut draft, number);
+        }
+        let encoded = encode(&draft, &Arrangement::random(noise));
+        if encoded.bytes.len() <= 1024 {
+            break encoded;
+        }
+    };
+    let mut encoded = encoded;
+    for number in (1..=3).rev().filter(|n| numbers.contains(n)) {
+        spoil_bytes(noise, &mut encoded, number);
+    }
+    Made { bytes: encoded.bytes, intended: numbers.iter().copied().min(), reordered: None }
+}
+
+fn spoil_draft(noise: &mut Noise, draft: &mut Draft, number: u8) {
+    match number {
+        4 => spoil_board(noise, draft),
+        5 => spoil_classes(noise, draft),
+        6 => spoil_types(noise, draft),
+        _ => spoil_part(noise, draft),
+    }
+}
+
+fn spoil_board(noise: &mut Noise, draft: &mut Draft) {
+    let bad = noise.pick(&[0, 1001, 1024, 32768, 65535]);
+    match noise.below(4) {
+        0 => draft.width = bad,
+        1 => draft.length = bad,
+        2 => draft.step = bad,
+        _ => {
+            // The first has 1025 dots, the second 1026.
+            let boards = [(40, 24, 1), (1, 512, 1), (512, 1, 1), (31, 32, 1), (1000, 1000, 31), (1000, 1000, 1)];
+            (draft.width, draft.length, draft.step) = noise.pick(&boards);
+        }
+    }
+}
+
+fn spoil_classes(noise: &mut Noise, draft: &mut Draft) {
+    let cause = noise.below(5);
+    if cause == 4 {
+        // Nine and more, which cannot have nine ids; or as many as a byte can count.
+        let count = noise.pick(&[9, 9, 10, 255]);
+        draft.classes = (0..count).map(|i| [i as u8, i as u8, 1]).collect();
+        draft.types.truncate(2);
+        return;
+    }
+    while draft.classes.len() < 2 || draft.classes.len() > 7 {
+        draft.classes = random_classes(noise, 2);
+    }
+    let (one, other) = (draft.classes[0], noise.between(1, draft.classes.len() as i64 - 1) as usize);
+    let place = &mut draft.classes[other];
+    match cause {
+        0 => place[0] = noise.pick(&[8, 9, 128, 255]),
+        1 => place[2] = noise.pick(&[64, 65, 128, 255]),
+        2 => place[0] = one[0],
+        _ => place[1] = one[1],
+    }
+}
+
+fn spoil_types(noise: &mut Noise, draft: &mut Draft) {
+    let hit = noise.below(draft.types.len());
+    let absent: Vec<u8> = (0..8).filter(|id| draft.classes.iter().all(|c| c[0] != *id)).collect();
+    let kind = &mut draft.types[hit];
+    match noise.below(14) {
+        0 => kind.demand = noise.pick(&[0, 13, 128, 255]),
+        1 => kind.turn_mask = noise.pick(&[0, 16, 17, 128, 255]),
+        2 if !absent.is_empty() => kind.class_mask |= 1 << noise.pick(&absent),
+        3 => kind.parts.clear(),
+        4 => kind.parts = vec![vec![(0, 0), (1, 0), (0, 1)]; 7],
+        5 => kind.parts[0] = vec![(0, 0), (1, 0)],
+        6 => kind.parts[0] = (-4..=4).map(|x| (x, x * x)).collect(),
+        7 => {
+            draft.types.clear();
+            draft.extra = vec![];
+        }
+        8 => {
+            let small = DraftType { demand: 1, turn_mask: 1, class_mask: 0, parts: vec![vec![(0, 0), (1, 0), (0, 1)]] };
+            draft.types = vec![small; 9];
+        }
+        9 => {
+            // Each demand is in range, but they sum to 13.
+            let mut first = draft.types[0].clone();
+            first.demand = 6;
+            draft.types = vec![first; 2];
+            draft.types[1].demand = 7;
+        }
+        10 => {
+            let count = noise.between(1, 5) as usize;
+            draft.extra = noise.bytes(count);
+        }
+        11 => draft.missing = 1 + noise.below(5),
+        12 => draft.stated_types = Some(draft.types.len() as u8 + noise.pick(&[1, 2, 247])),
+        _ => draft.stated_types = Some(draft.types.len() as u8 - 1),
+    }
+}
+
+fn spoil_part(noise: &mut Noise, draft: &mut Draft) {
+    let hit = noise.below(draft.types.len());
+    let parts = &mut draft.types[hit].parts;
+    let hit = noise.below(parts.len());
+    let part = &mut parts[hit];
+    match noise.below(9) {
+        0 => part.reverse(),
+        // A corner in line with its neighbours, at every place of the list.
+        1 => *part = turned_list(noise, &[(0, 0), (2, 0), (4, 0), (4, 3), (0, 3)]),
+        2 => {
+            let twice = part[part.len() - 1];
+            part[0] = twice;
+        }
+        // A five-pointed star: each corner turns left.
+        3 => *part = turned_list(noise, &[(0, 10), (-6, -8), (10, 3), (-10, 3), (6, -8)]),
+        4 => *part = turned_list(noise, &[(0, 0), (4, 0), (4, 4), (2, 1)]),
+        5 => *part = turned_list(noise, &[(-128, 0), (0, 0), (0, 1), (-128, 1)]),
+        6 => *part = turned_list(noise, &[(0, -128), (1, -128), (1, 0), (0, 0)]),
+        7 => *part = vec![(-128, -128), (127, -128), (127, 127), (-128, 127)],
+        // Once around and once more.
+        _ => *part = turned_list(noise, &[(0, 0), (3, 0), (0, 3), (0, 0), (3, 0), (0, 3)]),
+    }
+}
+
+fn turned_list(noise: &mut Noise, corners: &[(i8, i8)]) -> DraftPart {
+    let mut part = corners.to_vec();
+    part.rotate_left(noise.below(corners.len()));
+    part
+}
+
+fn spoil_bytes(noise: &mut Noise, job: &mut Encoded, number: u8) {
+    match number {
+        1 => spoil_size(noise, &mut job.bytes),
+        2 => spoil_mark(noise, job),
+        _ => spoil_sections(noise, job),
+    }
+}
+
+fn spoil_size(noise: &mut Noise, bytes: &mut Vec<u8>) {
+    match noise.below(4) {
+        0 => bytes.truncate(noise.pick(&[0, 1, 2, 13])),
+        1 => bytes.truncate(noise.below(14)),
+        // The last bytes only: a trailer that lacks its beginning.
+        2 => {
+            let keep = noise.below(14);
+            bytes.drain(..bytes.len() - keep);
+        }
+        // One byte more than may be, or many; mark and stated length are right.
+        _ => {
+            let wanted = noise.pick(&[1025, 1026, 1500, 2000]);
+            let trailer = bytes.split_off(bytes.len() - TRAILER);
+            let filler = noise.bytes(wanted - TRAILER - bytes.len());
+            bytes.extend(filler);
+            bytes.extend(trailer);
+            bytes[wanted - 4..wanted - 2].copy_from_slice(&(wanted as u16).to_le_bytes());
+        }
+    }
+}
+
+fn spoil_mark(noise: &mut Noise, job: &mut Encoded) {
+    let length = job.bytes.len() as u16;
+    match noise.below(6) {
+        0 => job.set_byte(MARK, noise.pick(&[0, 0x42, 0x45, 0x64])),
+        1 => job.set_byte(MARK + 1, noise.pick(&[0, 0x44, 0x32, 0x43])),
+        2 => job.set_number(STATED_LENGTH, length - 1),
+        3 => job.set_number(STATED_LENGTH, length + 1),
+        4 => job.set_number(STATED_LENGTH, length ^ 0x0100),
+        _ => job.set_number(STATED_LENGTH, noise.pick(&[0, 14, 65535]) ^ u16::from(length == 14)),
+    }
+}
+
+fn spoil_sections(noise: &mut Noise, job: &mut Encoded) {
+    let trailer_at = job.trailer_at();
+    let hit = noise.below(3);
+    let (_, length) = job.sections[hit];
+    match noise.below(6) {
+        // One byte past what may be, also for an empty section.
+        0 => job.set_number(SECTION_OFFSET[hit], (trailer_at - length + 1) as u16),
+        // Far past it; offset plus length may leave two bytes.
+        1 => job.set_number(SECTION_OFFSET[hit], noise.pick(&[65535, 65535 - 5, 65535 - 2, 40000, 1025])),
+        // A list that runs past it by its length alone, by one byte and by many.
+        2 => {
+            let room = trailer_at - job.sections[2].0;
+            job.set_number(TYPE_LIST_LENGTH, noise.pick(&[room + 1, room + TRAILER, 65535]) as u16);
+        }
+        3 => {
+            let room = (trailer_at - job.sections[1].0) / 3;
+            job.set_byte(CLASS_COUNT, if room < 255 { noise.pick(&[room + 1, 255]) as u8 } else { 255 });
+            if room >= 255 {
+                job.set_number(SECTION_OFFSET[1], 65535);
+            }
+        }
+        _ => overlap(noise, job),
+    }
+}
+
+/// Moves a section so that it shares its first or last byte, or more, with another one. An empty section
+/// has no byte to share; where only the board has one, the board is moved past the end instead.
+fn overlap(noise: &mut Noise, job: &mut Encoded) {
+    let mut filled: Vec<usize> = (0..3).filter(|&section| job.sections[section].1 > 0).collect();
+    noise.shuffle(&mut filled);
+    let [moved, other, ..] = filled[..] else {
+        return job.set_number(SECTION_OFFSET[0], job.trailer_at() as u16 - 5);
+    };
+    let ((at, length), (_, own)) = (job.sections[other], job.sections[moved]);
+    let wanted = match noise.below(3) {
+        0 => at + length - 1,
+        1 => (at + 1).saturating_sub(own),
+        _ => at,
+    };
+    job.set_number(SECTION_OFFSET[moved], wanted as u16);
+}
+
+/// Flipped bits, noise bytes, cuts and additions anywhere; the reference says what they cause.
+fn hit_at_random(noise: &mut Noise) -> Made {
+    let (draft, arrangement) = fitting(noise, small_draft);
+    let mut bytes = encode(&draft, &arrangement).bytes;
+    for _ in 0..noise.pick(&[1, 1, 2, 3, 10]) {
+        let at = noise.below(bytes.len());
+        match noise.below(3) {
+            0 => bytes[at] ^= 1 << noise.below(8),
+            1 => bytes[at] = noise.byte(),
+            _ => bytes[at] = bytes[at].wrapping_add(noise.pick(&[1, 255])),
+        }
+    }
+    if noise.one_in(6) {
+        bytes.truncate(noise.below(bytes.len()));
+    } else if noise.one_in(6) {
+        let count = noise.between(1, 30) as usize;
+        bytes.extend(noise.bytes(count));
+    }
+    Made { bytes, intended: None, reordered: None }
+}

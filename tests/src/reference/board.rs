@@ -1,0 +1,162 @@
+//! Dots, candidates, gaps and conflicts of an accepted job.
+
+use std::cell::RefCell;
+
+use super::geometry::{in_conflict, moved, point, turned, Part};
+use super::reader::{read_job, Job, Type};
+
+/// A candidate of some type: a dot and an allowed turn with the whole piece on the board.
+pub struct Candidate {
+    pub number: usize,
+    pub column: usize,
+    pub row: usize,
+    pub turn: usize,
+    /// The largest x.
+    pub end: i64,
+    parts: Vec<Part>,
+    /// Its place in the table of remembered conflicts.
+    place: usize,
+}
+
+pub struct Board {
+    pub job: Job,
+    /// For each type, its candidates by rising number.
+    pub candidates: Vec<Vec<Candidate>>,
+    gaps: Vec<i64>,
+    remembered: Remembered,
+}
+
+/// One piece of a layout: a type and the place of its candidate in that type's list.
+#[derive(Clone, Copy, PartialEq, Eq, Debug)]
+pub struct Piece {
+    pub kind: usize,
+    pub index: usize,
+}
+
+impl Board {
+    pub fn read(bytes: &[u8]) -> Result<Board, u8> {
+        read_job(bytes).map(Board::new)
+    }
+
+    pub fn new(job: Job) -> Board {
+        let mut candidates: Vec<_> = job.types.iter().map(|t| all_candidates(&job, t)).collect();
+        let mut places = 0;
+        for candidate in candidates.iter_mut().flatten() {
+            candidate.place = places;
+            places += 1;
+        }
+        let gaps = job.types.iter().map(|t| gap_of(&job, t)).collect();
+        Board { job, candidates, gaps, remembered: Remembered::new(places) }
+    }
+
+    pub fn rows(&self) -> usize {
+        rows(&self.job)
+    }
+
+    pub fn dots(&self) -> usize {
+        columns(&self.job) * rows(&self.job)
+    }
+
+    /// Words of a set of candidates: ceil(D / 16).
+    pub fn words(&self) -> usize {
+        self.dots().div_ceil(16)
+    }
+
+    /// N, the number of pieces.
+    pub fn pieces(&self) -> usize {
+        self.demands().iter().sum()
+    }
+
+    pub fn demands(&self) -> Vec<usize> {
+        self.job.types.iter().map(|t| t.demand.into()).collect()
+    }
+
+    pub fn at(&self, piece: Piece) -> &Candidate {
+        &self.candidates[piece.kind][piece.index]
+    }
+
+    /// The place in the type's list of its candidate of that number, if there is such a candidate.
+    pub fn find(&self, kind: usize, number: usize) -> Option<usize> {
+        self.candidates[kind].binary_search_by_key(&number, |c| c.number).ok()
+    }
+
+    pub fn conflict(&self, one: Piece, other: Piece) -> bool {
+        let gap = self.gaps[one.kind].max(self.gaps[other.kind]);
+        let (a, b) = (self.at(one), self.at(other));
+        self.remembered.get(a.place, b.place, || in_conflict(&a.parts, &b.parts, gap))
+    }
+
+    /// The largest end, 0 for no piece.
+    pub fn length(&self, layout: &[Piece]) -> i64 {
+        layout.iter().map(|&p| self.at(p).end).max().unwrap_or(0)
+    }
+}
+
+pub fn columns(job: &Job) -> usize {
+    (job.length / job.step + 1).into()
+}
+
+pub fn rows(job: &Job) -> usize {
+    (job.width / job.step + 1).into()
+}
+
+/// The gap of the class with the smallest rank number, 0 if the type has no class.
+fn gap_of(job: &Job, kind: &Type) -> i64 {
+    job.classes
+        .iter()
+        .filter(|c| kind.class_mask >> c.id & 1 == 1)
+        .min_by_key(|c| c.rank)
+        .map_or(0, |c| c.gap.into())
+}
+
+fn all_candidates(job: &Job, kind: &Type) -> Vec<Candidate> {
+    let mut found = Vec::new();
+    for column in 0..columns(job) {
+        for row in 0..rows(job) {
+            for turn in 0..4 {
+                if kind.turn_mask >> turn & 1 == 1 {
+                    found.extend(candidate(job, kind, column, row, turn));
+                }
+            }
+        }
+    }
+    found
+}
+
+fn candidate(job: &Job, kind: &Type, column: usize, row: usize, turn: usize) -> Option<Candidate> {
+    let step = i64::from(job.step);
+    let dot = point(column as i64 * step, row as i64 * step);
+    let parts: Vec<Part> = kind
+        .parts
+        .iter()
+        .map(|part| part.iter().map(|&corner| moved(turned(corner, turn), dot)).collect())
+        .collect();
+    let on_board = parts.iter().flatten().all(|c| {
+        (0..=i64::from(job.length)).contains(&c.x) && (0..=i64::from(job.width)).contains(&c.y)
+    });
+    let end = parts.iter().flatten().map(|c| c.x).max()?;
+    let number = (column * rows(job) + row) * 4 + turn;
+    on_board.then_some(Candidate { number, column, row, turn, end, parts, place: 0 })
+}
+
+/// Conflicts worked out once, for boards with few candidates; a larger board works each out anew.
+struct Remembered {
+    side: usize,
+    known: RefCell<Vec<Option<bool>>>,
+}
+
+impl Remembered {
+    const MOST: usize = 1500;
+
+    fn new(candidates: usize) -> Remembered {
+        let side = if candidates <= Self::MOST { candidates } else { 0 };
+        Remembered { side, known: RefCell::new(vec![None; side * side]) }
+    }
+
+    fn get(&self, one: usize, other: usize, work_out: impl Fn() -> bool) -> bool {
+        if self.side == 0 {
+            return work_out();
+        }
+        *self.known.borrow_mut()[one * self.side + other].get_or_insert_with(work_out)
+    }
+}

@@ -1,0 +1,11 @@
+//! Document 01 in plain Rust, written from that document alone and from none of the engine's code.
+//! It is slow on purpose: each rule stands where it can be read beside its sentence.
+
+pub mod board;
+pub mod exhaustive;
+pub mod geometry;
+pub mod layout;
+pub mod print;
+pub mod reader;
+pub mod services;
+pub mod walk;

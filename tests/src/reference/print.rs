@@ -1,0 +1,25 @@
+//! What the command program prints for a job.
+
+use super::board::Board;
+use super::layout::to_numbers;
+use super::walk::walk;
+
+pub const BUDGET: u64 = 1_000_000;
+
+pub fn printed(bytes: &[u8]) -> String {
+    let board = match Board::read(bytes) {
+        Err(number) => return format!("refused {number}\n"),
+        Ok(board) => board,
+    };
+    let walked = walk(&board, BUDGET);
+    let steps = walked.steps;
+    let Some(best) = walked.best else {
+        return if walked.stopped { format!("stopped - {steps}\n") } else { format!("none {steps}\n") };
+    };
+    let verdict = if walked.stopped { "stopped" } else { "shortest" };
+    let mut out = format!("{verdict} {} {steps}\n", board.length(&best));
+    for entry in to_numbers(&board, &best).chunks(4) {
+        out += &format!("{} {} {} {}\n", entry[0], entry[1], entry[2], entry[3]);
+    }
+    out
+}

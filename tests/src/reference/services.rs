@@ -1,0 +1,131 @@
+//! The four services: each gives its answer and changes the lent buffers as document 01 says. The job
+//! comes as it was read: a board, or the refusal number.
+
+use super::board::{Board, Piece};
+use super::layout::{passing, to_numbers};
+use super::walk::walk;
+use crate::answer::{Answer, ENDED, STOPPED_WITH_LAYOUT, STOPPED_WITH_NOTHING};
+
+pub type Reading = Result<Board, u8>;
+
+/// The numbers that read writes, in order; a negative coordinate as 65,536 plus it.
+pub fn content(board: &Board) -> Vec<u16> {
+    let job = &board.job;
+    let mut out = vec![job.width, job.length, job.step, job.classes.len() as u16];
+    for class in &job.classes {
+        out.extend([class.id, class.rank, class.gap].map(u16::from));
+    }
+    out.push(job.types.len() as u16);
+    for kind in &job.types {
+        out.extend([kind.demand, kind.turn_mask, kind.class_mask, kind.parts.len() as u8].map(u16::from));
+        for part in &kind.parts {
+            out.push(part.len() as u16);
+            out.extend(part.iter().flat_map(|c| [c.x, c.y].map(|n| n.rem_euclid(65_536) as u16)));
+        }
+    }
+    out.push(board.pieces() as u16);
+    out
+}
+
+pub fn read(reading: &Reading, answer: &mut [u8]) -> Answer {
+    let board = match reading {
+        Err(number) => return Answer::refused(*number),
+        Ok(board) => board,
+    };
+    let numbers = content(board);
+    if answer.len() / 2 < numbers.len() {
+        return Answer::refused(9);
+    }
+    write_numbers(answer, &numbers);
+    Answer::counted(numbers.len())
+}
+
+pub fn row(reading: &Reading, kind: u64, number: u64, other: u64, row: &mut [u8]) -> Answer {
+    let board = match reading {
+        Err(number) => return Answer::refused(*number),
+        Ok(board) => board,
+    };
+    let Some((piece, other)) = row_arguments(board, kind, number, other) else {
+        return Answer::refused(12);
+    };
+    if row.len() / 8 < board.words() {
+        return Answer::refused(9);
+    }
+    let mut words = vec![0u64; board.words()];
+    for (index, candidate) in board.candidates[other].iter().enumerate() {
+        if board.conflict(piece, Piece { kind: other, index }) {
+            words[candidate.number / 64] |= 1 << (candidate.number % 64);
+        }
+    }
+    write_words(row, &words);
+    Answer::counted(words.len())
+}
+
+fn row_arguments(board: &Board, kind: u64, number: u64, other: u64) -> Option<(Piece, usize)> {
+    let kind = usize::try_from(kind).ok().filter(|&k| k < board.job.types.len())?;
+    let other = usize::try_from(other).ok().filter(|&k| k < board.job.types.len())?;
+    let index = board.find(kind, usize::try_from(number).ok()?)?;
+    Some((Piece { kind, index }, other))
+}
+
+pub fn check(reading: &Reading, layout: &[u8]) -> Answer {
+    let board = match reading {
+        Err(number) => return Answer::refused(*number),
+        Ok(board) => board,
+    };
+    match passing(board, &numbers_of(layout)) {
+        None => Answer::refused(11),
+        Some(layout) => Answer::counted(board.length(&layout) as usize),
+    }
+}
+
+pub fn run(reading: &Reading, budget: u32, work: &mut [u8], answer: &mut [u8]) -> Answer {
+    let board = match reading {
+        Err(number) => return Answer::refused(*number),
+        Ok(board) => board,
+    };
+    let work_words = work_words(board);
+    if work.len() / 8 < work_words {
+        return Answer::refused(8);
+    }
+    if answer.len() / 2 < 4 * board.pieces() {
+        return Answer::refused(9);
+    }
+    let walked = walk(board, budget.into());
+    write_words(work, &vec![0; work_words]);
+    if let Some(best) = &walked.best {
+        write_numbers(answer, &to_numbers(board, best));
+    }
+    let steps = u32::try_from(walked.steps).expect("at most the budget");
+    let count = walked.best.as_ref().map_or(0, |best| board.length(best) as u16);
+    let (number, verdict) = match (walked.stopped, &walked.best) {
+        (false, Some(_)) => (0, ENDED),
+        (false, None) => (10, ENDED),
+        (true, Some(_)) => (0, STOPPED_WITH_LAYOUT),
+        (true, None) => (0, STOPPED_WITH_NOTHING),
+    };
+    Answer { number, verdict, count, steps }
+}
+
+/// T × N × ceil(D / 16).
+pub fn work_words(board: &Board) -> usize {
+    board.job.types.len() * board.pieces() * board.words()
+}
+
+pub fn numbers_of(bytes: &[u8]) -> Vec<u16> {
+    bytes.chunks_exact(2).map(|b| u16::from_le_bytes([b[0], b[1]])).collect()
+}
+
+pub fn bytes_of(numbers: &[u16]) -> Vec<u8> {
+    numbers.iter().flat_map(|n| n.to_le_bytes()).collect()
+}
+
+fn write_numbers(buffer: &mut [u8], numbers: &[u16]) {
+    let bytes = bytes_of(numbers);
+    buffer[..bytes.len()].copy_from_slice(&bytes);
+}
+
+fn write_words(buffer: &mut [u8], words: &[u64]) {
+    let bytes: Vec<u8> = words.iter().flat_map(|w| w.to_le_bytes()).collect();
+    buffer[..bytes.len()].copy_from_slice(&bytes);
+}

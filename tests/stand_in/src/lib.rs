@@ -1,0 +1,265 @@
+//! The four services over the unverified opponent: what the comparison tests are tried on, as it is and
+//! with each of the deliberate mistakes.
+
+use std::slice;
+
+use opponent::job::{read, Job};
+use opponent::mutant;
+use opponent::rows::{place, Board, Rows};
+use opponent::walk::Walk;
+
+fn packed(number: u8, verdict: u8, count: usize, steps: u64) -> u64 {
+    u64::from(number) | u64::from(verdict) << 8 | (count as u64) << 16 | steps << 32
+}
+
+fn refused(number: u8) -> u64 {
+    packed(number, 0, 0, 0)
+}
+
+/// # Safety
+/// Pointers and lengths name the caller's buffers.
+#[no_mangle]
+pub unsafe extern "C" fn nest_read(job: *const u8, job_len: usize, answer: *mut u8, answer_len: usize) -> u64 {
+    let job = slice::from_raw_parts(job, job_len);
+    let answer = slice::from_raw_parts_mut(answer, answer_len);
+    match read(job) {
+        Err(number) => refused(number),
+        Ok(job) => write_content(&job, answer),
+    }
+}
+
+fn write_content(job: &Job, answer: &mut [u8]) -> u64 {
+    let mut out = vec![job.width, job.length, job.step, job.class_count as i32];
+    for class in &job.classes[..job.class_count] {
+        out.extend(class.map(i32::from));
+    }
+    out.push(job.kind_count as i32);
+    for kind in &job.kinds[..job.kind_count] {
+        let head = [kind.demand as i32, i32::from(kind.turns), i32::from(kind.classes), kind.part_count as i32];
+        out.extend(head);
+        for part in &kind.parts[..kind.part_count] {
+            out.push(part.corners as i32);
+            for i in 0..part.corners {
+                out.extend([part.x[i], part.y[i]]);
+            }
+        }
+    }
+    out.push(job.pieces as i32);
+    if answer.len() / 2 < out.len() {
+        return refused(9);
+    }
+    for (i, &n) in out.iter().enumerate() {
+        let n = if mutant::is("negative_as_byte") && n < 0 { n & 255 } else { n };
+        answer[2 * i..2 * i + 2].copy_from_slice(&(n as u16).to_le_bytes());
+    }
+    spoil_odd_byte(answer);
+    packed(0, 0, out.len(), 0)
+}
+
+/// A mistake: the odd last byte is cleared.
+fn spoil_odd_byte(buffer: &mut [u8]) {
+    if mutant::is("odd_byte_overwritten") && buffer.len() % 2 == 1 {
+        buffer[buffer.len() - 1] = 0;
+    }
+}
+
+/// # Safety
+/// Pointers and lengths name the caller's buffers.
+#[no_mangle]
+pub unsafe extern "C" fn nest_row(
+    job: *const u8,
+    job_len: usize,
+    kind: u64,
+    number: u64,
+    other: u64,
+    row: *mut u8,
+    row_len: usize,
+) -> u64 {
+    let job = slice::from_raw_parts(job, job_len);
+    let row = slice::from_raw_parts_mut(row, row_len);
+    match read(job) {
+        Err(number) => refused(number),
+        Ok(job) => write_row(&job, kind, number, other, row),
+    }
+}
+
+fn write_row(job: &Job, kind: u64, number: u64, other: u64, row: &mut [u8]) -> u64 {
+    let words = job.words();
+    let short = row.len() / 8 < words;
+    if mutant::is("nine_before_twelve") && short {
+        return refused(9);
+    }
+    let narrow = |n: u64| if mutant::is("kind_of_32_bits") { n & 0xFFFF_FFFF } else { n };
+    let (kind, other) = (narrow(kind), narrow(other));
+    let number = if mutant::is("number_of_16_bits") { number & 0xFFFF } else { number };
+    let kinds = job.kind_count as u64;
+    if kind >= kinds || other >= kinds || number >= 4096 {
+        return refused(12);
+    }
+    let board = Board::new(job);
+    if !board.is_candidate(kind as usize, number as usize) {
+        return refused(12);
+    }
+    if short {
+        return refused(9);
+    }
+    let mut out: Vec<u64> =
+        row.chunks_exact(8).take(words).map(|b| u64::from_le_bytes(b.try_into().expect("eight"))).collect();
+    if !mutant::is("row_untouched") {
+        board.row(kind as usize, number as usize, other as usize, &mut out);
+    }
+    if mutant::is("row_always_zero") {
+        out.fill(0);
+    }
+    for (place, word) in row.chunks_exact_mut(8).zip(out) {
+        place.copy_from_slice(&word.to_le_bytes());
+    }
+    packed(0, 0, words, 0)
+}
+
+/// # Safety
+/// Pointers and lengths name the caller's buffers.
+#[no_mangle]
+pub unsafe extern "C" fn nest_check(job: *const u8, job_len: usize, layout: *const u8, layout_len: usize) -> u64 {
+    let job = slice::from_raw_parts(job, job_len);
+    let layout = slice::from_raw_parts(layout, layout_len);
+    match read(job) {
+        Err(number) => refused(number),
+        Ok(job) => checked(&job, layout).map_or(refused(11), |length| packed(0, 0, length, 0)),
+    }
+}
+
+fn checked(job: &Job, layout: &[u8]) -> Option<usize> {
+    let numbers: Vec<usize> =
+        layout.chunks_exact(2).map(|b| usize::from(u16::from_le_bytes([b[0], b[1]]))).collect();
+    if mutant::is("check_passes_nothing") {
+        return None;
+    }
+    let longer = mutant::is("check_takes_longer_layouts") && numbers.len() > 4 * job.pieces;
+    if numbers.len() != 4 * job.pieces && !longer {
+        return None;
+    }
+    let board = Board::new(job);
+    let (mut placed, mut length): (Vec<(usize, usize)>, i32) = (vec![], 0);
+    for entry in numbers.chunks_exact(4).take(job.pieces) {
+        let (kind, column, row, turn) = (entry[0], entry[1], entry[2], entry[3]);
+        let by_number = mutant::is("check_by_number_alone");
+        if kind >= job.kind_count || !by_number && (column >= job.columns || row >= job.rows || turn > 3) {
+            return None;
+        }
+        let number = (column * job.rows + row) * 4 + turn;
+        let rises = mutant::is("check_without_order") || placed.last().is_none_or(|&last| last < (kind, number));
+        let clear = |&(k, n): &(usize, usize)| !board.conflict(k, n, kind, number);
+        if !rises || !board.is_candidate(kind, number) || !placed.iter().all(clear) {
+            return None;
+        }
+        placed.push((kind, number));
+        length = length.max(board.end(kind, number));
+    }
+    let copies = |kind: usize| placed.iter().filter(|p| p.0 == kind).count();
+    (0..job.kind_count).all(|k| copies(k) == job.kinds[k].demand).then_some(length as usize)
+}
+
+/// # Safety
+/// Pointers and lengths name the caller's buffers.
+#[no_mangle]
+pub unsafe extern "C" fn nest_run(
+    job: *const u8,
+    job_len: usize,
+    budget: u32,
+    work: *mut u8,
+    work_len: usize,
+    answer: *mut u8,
+    answer_len: usize,
+) -> u64 {
+    let job = slice::from_raw_parts(job, job_len);
+    let work = slice::from_raw_parts_mut(work, work_len);
+    let answer = slice::from_raw_parts_mut(answer, answer_len);
+    if mutant::is("guard_written") && work_len > 0 {
+        // The byte past the lent ones.
+        work.as_mut_ptr().add(work_len).write(0xA5);
+    }
+    match read(job) {
+        Err(number) => refused(number),
+        Ok(job) => run(&job, budget, work, answer),
+    }
+}
+
+fn run(job: &Job, budget: u32, work: &mut [u8], answer: &mut [u8]) -> u64 {
+    let work_bytes = 8 * job.kind_count * job.pieces * job.words();
+    let answer_short = answer.len() / 2 < 4 * job.pieces;
+    if mutant::is("eight_after_nine") && answer_short {
+        return refused(9);
+    }
+    if work.len() < work_bytes {
+        return refused(8);
+    }
+    if answer_short {
+        return refused(9);
+    }
+    let board = Board::new(job);
+    let mut rows = Rows::new(&board);
+    let out = Walk::new(&board, &mut rows).run(budget.into());
+    let none = !out.stopped && out.best.is_none();
+    clear_work(work, work_bytes, none);
+    if let Some((_, numbers)) = &out.best {
+        write_layout(job, numbers, answer);
+        if mutant::is("rest_copied") {
+            (1..job.pieces).for_each(|piece| answer.copy_within(0..8, 8 * piece));
+        }
+    }
+    if out.stopped && out.best.is_none() && mutant::is("answer_written_when_stopped_with_nothing")
+        || none && mutant::is("answer_cleared_when_none")
+    {
+        answer[..8 * job.pieces].fill(0);
+    }
+    spoil_odd_byte(answer);
+    let length = out.best.map_or(0, |(length, _)| length as usize);
+    let mut stopped = out.stopped;
+    let mut steps = out.steps;
+    if mutant::is("stopped_at_exact_budget") && steps == u64::from(budget) {
+        stopped = true;
+    }
+    if mutant::is("steps_always_counted") && stopped {
+        steps += 1;
+    }
+    if mutant::is("invented_steps") && !stopped {
+        steps /= 2;
+    }
+    let mut held = out.best.is_some();
+    if mutant::is("stopped_at_once") {
+        (stopped, steps, held) = (true, 0, false);
+    }
+    if mutant::is("none_to_all") {
+        (stopped, held) = (false, false);
+    }
+    match (stopped, held) {
+        (false, true) => packed(0, 0, length, steps),
+        (false, false) => packed(10, 0, 0, steps),
+        (true, true) => packed(0, 1, length, steps),
+        (true, false) => packed(0, 2, 0, steps),
+    }
+}
+
+fn clear_work(work: &mut [u8], needed: usize, none: bool) {
+    if mutant::is("work_not_cleared") || none && mutant::is("work_not_cleared_when_none") {
+        return;
+    }
+    let more = if mutant::is("one_work_word_too_many") { 8 } else { 0 };
+    let last = work.len().min(needed + more);
+    work[..last].fill(0);
+}
+
+fn write_layout(job: &Job, numbers: &[u16; 12], answer: &mut [u8]) {
+    let mut piece = 0;
+    for kind in 0..job.kind_count {
+        for _ in 0..job.kinds[kind].demand {
+            let at = place(job, numbers[piece].into());
+            for (i, n) in [kind, at.column, at.row, at.turn].into_iter().enumerate() {
+                let from = 8 * piece + 2 * i;
+                answer[from..from + 2].copy_from_slice(&(n as u16).to_le_bytes());
+            }
+            piece += 1;
+        }
+    }
+}
