@@ -14,7 +14,13 @@ pub extern "C" fn nest_read(job: &[u8], answer: &mut [u8]) -> u64
 
 // "Conflict row takes a candidate, given as its type and its number, and a second type."
 #[no_mangle]
-pub extern "C" fn nest_row(job: &[u8], kind: usize, number: usize, other: usize, row: &mut [u8]) -> u64
+pub extern "C" fn nest_row(
+    job: &[u8],
+    kind: usize,
+    number: usize,
+    other: usize,
+    row: &mut [u8],
+) -> u64
     ensures { λ r. ⌜ (r ≡ writtenWord (Services.conflictRow (now (job .entry)) kind number other (now (row .entry)) .answer)) × (now (row .exit) ≡ Services.conflictRow (now (job .entry)) kind number other (now (row .entry)) .buffer) ⌝ }
 {
     model::written_word(candidates::rows::row(job, kind, number, other, row))
