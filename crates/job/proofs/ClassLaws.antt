@@ -10,9 +10,9 @@ use borrow.Author.Tests.{eqb-true, eq-eqb, ne-eqb, lt-ltb, le-ltb}
 use lib.Dec.{eqb, ltb}
 use Rattle.model.specs.Content.{SpacingClass}
 use Rattle.model.specs.Format.{byteAt, classInRange, distinct}
-use Rattle.model.specs.Lists.{all, any, keep, rising, below}
-use Rattle.model.proofs.Folds.{all-below-more, rising-first, map-same, keep-none}
-use Rattle.job.specs.Classes.{classFrom, classesFrom, entryAt, entriesFrom, allInRange, occursLater, distinctColumn, firstFrom, hasId, indexOf}
+use Rattle.model.specs.Lists.{all, any, keep, concat, rising, below}
+use Rattle.model.proofs.Folds.{all-below-more, rising-first, map-same, keep-none, map-below-more, concat-more}
+use Rattle.job.specs.Classes.{classFrom, classesFrom, entryAt, entriesFrom, allInRange, occursLater, distinctColumn, firstFrom, hasId, indexOf, classesOfId, risenBelow}
 
 pub range-none : (s : List ℕ) (o : ℕ) → true ≡ allInRange s o 0
 unfolding allInRange all below rising
@@ -44,6 +44,12 @@ module _ (s : List ℕ) (o n : ℕ) where
   pub distinct-all : distinctColumn s o n ≡ distinct (entriesFrom s o n 0)
   unfolding distinctColumn below
   distinct-all = let e : n - 0 ≡ n = omega arith in rw e
+
+-- ---- By rising id
+
+pub risen-more : (cs : List SpacingClass) (i : ℕ) → risenBelow (i + 1) cs ≡ risenBelow i cs ++ classesOfId i cs
+risen-more cs i =
+    ap concat (map-below-more (λ i. classesOfId i cs) i) ∙ concat-more (map (λ i. classesOfId i cs) (below i)) (classesOfId i cs)
 
 -- ---- The first of an id
 

@@ -1,31 +1,28 @@
 -- Laws of the numbers of an accepted job's content: how many they are, and that those written in parts are all of them.
-use mathlib.Core.Bool.{Bool, true, false, cond}
 use mathlib.Core.List.{List, [], _∷_, _++_, map, append-assoc}
-use mathlib.Core.Path.{_≡_, refl, sym, ap, ap₂, subst, _∙_}
-use Prim.Native.Nat.{ℕ, zero, suc, _+_, _*_, _-_, _/_, _<_, _≤_}
+use mathlib.Core.Path.{_≡_, refl, sym, ap, ap₂, _∙_}
+use Prim.Native.Nat.{ℕ, _+_, _*_, _-_, _/_, _<_, _≤_}
 use native.Mathlib.Omega.{arith}
 use borrow.Author.Tests.{lt-ltb, le-ltb, eq-eqb, ne-eqb}
-use lib.Dec.{eqb, ltb}
 use lib.ListN.{length, length-append, take, drop}
-use Rattle.words.specs.Number.{count, filled}
-use Rattle.model.specs.Content.{Job, kindCount, pieceCount}
+use Rattle.words.specs.Number.{count}
+use Rattle.model.specs.Content.{kindCount, pieceCount}
 use Rattle.model.specs.Format.{wordAt, boardAt, boardOf, classesAt, classesStated, classesOf, byRisingId, kindsAt, kindsLength, kindsStated, kindBytes, kindsGot, many, readKind, content, refusal}
 use Rattle.model.specs.Lists.{concat}
-use Rattle.model.specs.Services.{WriteOutcome, writeOutcome, numbersIn, withNumbers, kindNumbers, contentNumbers, readContent}
+use Rattle.model.specs.Services.{writeOutcome, numbersIn, withNumbers, kindNumbers, contentNumbers, readContent}
 use Rattle.model.specs.Services as Services
 use Rattle.model.specs.declared.Written.the-variants as W
-use Rattle.model.proofs.Causes.{NoCause, no-cause, Sections, sections, classes-in-range, KindsFit, kinds-fit}
+use Rattle.model.proofs.Causes.{no-cause, classes-in-range}
 use Rattle.model.proofs.Readers.{many-sum, many-least}
-use Rattle.model.proofs.Records.{KindRead, kind-read}
-use Rattle.job.specs.Classes.{classesFrom, distinctColumn}
-use Rattle.job.specs.Records.{Reads, valuesOf}
+use Rattle.model.proofs.Records.{kind-read}
+use Rattle.job.specs.Classes.{classesFrom}
 use Rattle.job.specs.Refusal.{refusalTo6}
 use Rattle.job.specs.Write.{written, boardNumbers, frontNumbers, backNumbers, classesNumbers, kindsNumbers}
 use Rattle.job.proofs.CauseLaws.{classes-are}
 use Rattle.job.proofs.ListingLaws.{kind-each}
 use Rattle.job.proofs.RecordLaws.{values-from}
 use Rattle.job.proofs.RisingLaws.{risen-length, length-from, length-classes}
-use Rattle.job.proofs.ViewLaws.{inside, kinds-in, got-list, kind-count, length-list, list-reads}
+use Rattle.job.proofs.ViewLaws.{kinds-in, got-list, kind-count, length-list, list-reads}
 use Rattle.job.proofs.WriteLaws.{written-then, written-all, records-length}
 
 -- The three numbers of the board.

@@ -14,11 +14,12 @@ use Rattle.model.specs.Content.{SpacingClass, Kind}
 use Rattle.model.specs.Format.{byteAt, distinct, byRisingId}
 use Rattle.model.specs.Gap.{names, better, bestFrom, bestRanked, gapOr0}
 use Rattle.model.specs.Lists.{all, any, keep, concat, rising, below}
-use Rattle.model.proofs.Folds.{keep-append, keep-none, concat-more, map-below-more}
+use Rattle.model.proofs.Folds.{keep-append, keep-none}
 use Rattle.model.proofs.Lists.{and-left, and-right}
 use Rattle.job.specs.Classes.{classFrom, classesFrom, entryAt, firstFrom, hasId, indexOf, distinctColumn}
 use Rattle.job.specs.Gaps.{bestOf, offered, offeredId, bestBelow}
 use Rattle.job.specs.declared.gaps.Best.{Best}
+use Rattle.job.proofs.ClassLaws.{risen-more}
 
 pub eqb-swap : (a b : ℕ) → eqb a b ≡ eqb b a
 eqb-swap a b = go (eqb b a) refl
@@ -143,10 +144,8 @@ module _ (s : List ℕ) (o n : ℕ) (k : Kind) (d : distinctColumn s o n ≡ tru
   abbrev risen : ℕ → List SpacingClass
   risen i = concat (map (λ i. keep (λ c. eqb (c .id) i) (classesFrom s o n)) (below i))
 
-  risen-more : (i : ℕ) → risen (suc i) ≡ risen i ++ keep (λ c. eqb (c .id) i) (classesFrom s o n)
-  risen-more i =
-      ap risen (sym (add-one i)) ∙ ap concat (map-below-more (λ i. keep (λ c. eqb (c .id) i) (classesFrom s o n)) i)
-      ∙ concat-more (map (λ i. keep (λ c. eqb (c .id) i) (classesFrom s o n)) (below i)) (keep (λ c. eqb (c .id) i) (classesFrom s o n))
+  risen-suc : (i : ℕ) → risen (suc i) ≡ risen i ++ keep (λ c. eqb (c .id) i) (classesFrom s o n)
+  risen-suc i = ap risen (sym (add-one i)) ∙ risen-more (classesFrom s o n) i
 
   best-is : (i : ℕ) → bestBelow s o n (k .classes) i ≡ offers (bestOf false 0 0) (keep (names k) (risen i))
   unfolding bestBelow below rising concat keep offers
@@ -156,7 +155,7 @@ module _ (s : List ℕ) (o n : ℕ) (k : Kind) (d : distinctColumn s o n ≡ tru
       ∙ sym (offer-one i (offers (bestOf false 0 0) (keep (names k) (risen i))))
       ∙ sym (offers-append (bestOf false 0 0) (keep (names k) (risen i)) (keep (names k) (keep (λ c. eqb (c .id) i) (classesFrom s o n))))
       ∙ ap (offers (bestOf false 0 0)) (sym (keep-append (names k) (risen i) (keep (λ c. eqb (c .id) i) (classesFrom s o n))))
-      ∙ ap (λ l. offers (bestOf false 0 0) (keep (names k) l)) (sym (risen-more i))
+      ∙ ap (λ l. offers (bestOf false 0 0) (keep (names k) l)) (sym (risen-suc i))
 
   -- The gap that the model gives the kind.
   pub gap-is : bestBelow s o n (k .classes) 8 .gap ≡ gapOr0 (bestRanked (keep (names k) (byRisingId (classesFrom s o n))))

@@ -1,11 +1,11 @@
 -- Laws of the loops that write a type list, a number for each byte.
-use mathlib.Core.List.{List, [], _∷_, _++_, map}
+use mathlib.Core.List.{List, [], _∷_, map}
 use mathlib.Core.Path.{_≡_, refl, sym, ap, ap₂, subst, _∙_}
-use Prim.Native.Nat.{ℕ, zero, suc, _+_, _*_, _-_, _<_, _≤_}
+use Prim.Native.Nat.{ℕ, _+_, _*_, _-_, _<_, _≤_}
 use native.Mathlib.Omega.{arith}
 use lib.ListN.{length, length-map, take, drop, length-drop}
 use Rattle.model.specs.Content.{Part, Kind, noKind}
-use Rattle.model.specs.Format.{byteAt, Got, got, many, readPart, readKind}
+use Rattle.model.specs.Format.{byteAt, got, many, readPart, readKind}
 use Rattle.model.specs.Lists.{concat, below, rising}
 use Rattle.model.specs.Services.{vertexNumbers, partNumbers, kindNumbers}
 use Rattle.model.proofs.Folds.{map-below-more}
@@ -13,7 +13,7 @@ use Rattle.model.proofs.Lists.{length-below}
 use Rattle.model.proofs.Readers.{many-sum}
 use Rattle.model.proofs.Records.{byte-first, length-vertices, PartRead, part-read, KindRead, kind-read}
 use Rattle.job.specs.Parts.{partFrom}
-use Rattle.job.specs.Records.{sizeOf, valueOf, valuesOf, Reads}
+use Rattle.job.specs.Records.{sizeOf, valueOf, Reads}
 use Rattle.job.specs.Write.{written, firstBytes, partsNumbers, kindsNumbers}
 use Rattle.job.proofs.PartLaws.{part-corners}
 use Rattle.job.proofs.PlaceLaws.{got-next}
@@ -127,11 +127,6 @@ module _ (s : List ℕ) (n k i here : ℕ) (w : Reads (many readKind n s) k) (h 
   kind-there =
       let q = kind-read (drop here s) _ _ got-kind .head in
       subst (λ l. 1 ≤ sizeOf (readKind l)) (sym (tail s here)) (omega arith)
-
-  pub kinds-read : (m : ℕ) → m ≡ sizeOf (readKind (take (length s - here) (drop here s))) → Reads (many readKind (i + 1) s) (here + m)
-  kinds-read m e =
-      let z : sizeOf (readKind (drop here s)) ≡ m = sym (e ∙ ap (λ l. sizeOf (readKind l)) (tail s here)) in
-      reads-more readKind s i here _ m r (got-kind ∙ ap (got (valueOf noKind (readKind (drop here s)))) z)
 
   pub kinds-more : (at : ℕ) (a u v : List ℕ) → here ≤ length s → (at + length s) * 2 ≤ length a → u ≡ written at (kindsNumbers i s) a
       → v ≡ written (at + here) (kindNumbers (valueOf noKind (readKind (take (length s - here) (drop here s))))) u → v ≡ written at (kindsNumbers (i + 1) s) a

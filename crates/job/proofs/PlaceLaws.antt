@@ -36,6 +36,13 @@ got-next f d s n k i m w h r = go (f (drop m s)) refl
     go bad q = let z : bad ≡ got (valuesOf (many f n s)) k = sym (reads-bad f s i n m h r q) ∙ w in let y : _≡_ {A = ℕ} 0 1 = cc in absurd (omega arith)
     go (got x j) q = refl
 
+-- One record more is read, of the size that is found behind those read so far.
+pub reads-on : {A : Type 0} (f : List ℕ → Got A) (d : A) (s : List ℕ) (n k i m r : ℕ) → Reads (many f n s) k → i < n → Reads (many f i s) m
+    → r ≡ sizeOf (f (take (length s - m) (drop m s))) → Reads (many f (i + 1) s) (m + r)
+reads-on f d s n k i m r w h q e =
+    let z : r ≡ sizeOf (f (drop m s)) = e ∙ ap (λ l. sizeOf (f l)) (tail s m) in
+    subst (λ j. Reads (many f (i + 1) s) (m + j)) (sym z) (reads-more f s i m _ _ q (got-next f d s n k i m w h q))
+
 module _ (s : List ℕ) (n base first : ℕ) (before : List ℕ) where
   pub placed-none : Placed s 0 base first before before
   placed-none = record { found = λ i h. absurd (omega arith); size = refl; kept = λ j h. refl }
@@ -59,6 +66,4 @@ module _ (s : List ℕ) (n base first : ℕ) (before : List ℕ) where
 
   pub reads-next : (i here k r : ℕ) → Reads (many readPart n s) k → i < n → Reads (many readPart i s) here
       → r ≡ sizeOf (readPart (take (length s - here) (drop here s))) → Reads (many readPart (i + 1) s) (here + r)
-  reads-next i here k r w h q e =
-      let z : r ≡ sizeOf (readPart (drop here s)) = e ∙ ap (λ l. sizeOf (readPart l)) (tail s here) in
-      subst (λ m. Reads (many readPart (i + 1) s) (here + m)) (sym z) (reads-more readPart s i here _ _ q (got-next readPart [] s n k i here w h q))
+  reads-next i here k r w h q e = reads-on readPart [] s n k i here r w h q e

@@ -11,14 +11,15 @@ use borrow.Author.Tests.{lt-ltb, le-ltb, le-leb, lt-leb, leb-true, leb-false, eq
 use lib.Dec.{eqb, leb, ltb}
 use lib.ListN.{length, length-map, length-append, take, drop}
 use Rattle.model.specs.Content.{SpacingClass}
-use Rattle.model.specs.Format.{byteAt, byRisingId, classInRange}
+use Rattle.model.specs.Format.{byRisingId, classInRange}
 use Rattle.model.specs.Lists.{all, keep, concat, below, rising}
 use Rattle.model.specs.Services.{classNumbers}
-use Rattle.model.proofs.Folds.{map-append, map-below-more, concat-append, concat-more}
+use Rattle.model.proofs.Folds.{map-append, concat-append}
 use Rattle.model.proofs.Lists.{and-left, and-right, length-below}
 use Rattle.model.proofs.Records.{byte-first, byte-behind}
 use Rattle.job.specs.Classes.{classFrom, classesFrom, classesOfId, risenBelow, indexOf, distinctColumn}
 use Rattle.job.specs.Write.{written, firstBytes, classesNumbers}
+use Rattle.job.proofs.ClassLaws.{risen-more}
 use Rattle.job.proofs.GapLaws.{found}
 use Rattle.job.proofs.RecordLaws.{tail}
 use Rattle.job.proofs.WriteLaws.{written-none, written-then, numbers-length}
@@ -60,16 +61,12 @@ unfolding classNumbers
 length-classes cs = numbers-length classNumbers 3 (λ c. refl) cs
 
 module _ (cs : List SpacingClass) where
-  risen-more : (i : ℕ) → risenBelow (i + 1) cs ≡ risenBelow i cs ++ classesOfId i cs
-  risen-more i =
-      ap concat (map-below-more (λ i. classesOfId i cs) i) ∙ concat-more (map (λ i. classesOfId i cs) (below i)) (classesOfId i cs)
-
   pub risen-none : 0 ≡ length (risenBelow 0 cs)
   unfolding concat below rising
   risen-none = refl
 
   pub risen-one : (i k r : ℕ) → k ≡ length (risenBelow i cs) → r ≡ length (classesOfId i cs) → k + r ≡ length (risenBelow (i + 1) cs)
-  risen-one i k r ek er = ap₂ (λ a b. a + b) ek er ∙ sym (ap length (risen-more i) ∙ length-append (risenBelow i cs) (classesOfId i cs))
+  risen-one i k r ek er = ap₂ (λ a b. a + b) ek er ∙ sym (ap length (risen-more cs i) ∙ length-append (risenBelow i cs) (classesOfId i cs))
 
   pub classes-none : (at : ℕ) (a : List ℕ) → a ≡ written at (classesNumbers (risenBelow 0 cs)) a
   unfolding concat below rising
@@ -81,7 +78,7 @@ module _ (cs : List SpacingClass) where
   classes-more at i k a u v ek h eu ev =
       let l = length-classes (risenBelow i cs) in
       let more : classesNumbers (risenBelow (i + 1) cs) ≡ classesNumbers (risenBelow i cs) ++ classesNumbers (classesOfId i cs) =
-      ap classesNumbers (risen-more i) ∙ ap concat (map-append classNumbers (risenBelow i cs) (classesOfId i cs))
+      ap classesNumbers (risen-more cs i) ∙ ap concat (map-append classNumbers (risenBelow i cs) (classesOfId i cs))
       ∙ concat-append (map classNumbers (risenBelow i cs)) (map classNumbers (classesOfId i cs)) in
       written-then at (at + k * 3) (classesNumbers (risenBelow i cs)) (classesNumbers (classesOfId i cs)) a u v (omega arith) h eu ev
       ∙ ap (λ r. written at r a) (sym more)

@@ -18,8 +18,8 @@ use Rattle.job.specs.Places.{FoundAt, Placed}
 use Rattle.job.specs.Records.{sizeOf, valueOf, valuesOf, Reads}
 use Rattle.job.specs.Table.{gapIn, Stored, Built}
 use Rattle.job.proofs.GapLaws.{gap-is}
-use Rattle.job.proofs.PlaceLaws.{at-more, got-next}
-use Rattle.job.proofs.RecordLaws.{tail, reads-none, values-none, reads-more, values-more, reads-from, values-from, size-is}
+use Rattle.job.proofs.PlaceLaws.{at-more, got-next, reads-on}
+use Rattle.job.proofs.RecordLaws.{tail, reads-none, values-none, values-more, reads-from, values-from, size-is}
 
 -- A place found behind the first h bytes is one of the whole.
 found-behind : (list : List ℕ) (base h o : ℕ) (P : Part) → FoundAt (drop h list) (base + h) o P → FoundAt list base o P
@@ -55,9 +55,7 @@ module _ (cs : List SpacingClass) (list : List ℕ) (base kinds size : ℕ) (w :
 
   pub next-size : (t here r : ℕ) → t < kinds → Reads (many readKind t list) here → r ≡ sizeOf (readKind (take (length list - here) (drop here list)))
       → Reads (many readKind (t + 1) list) (here + r)
-  next-size t here r h q e =
-      let z : r ≡ sizeOf (readKind (drop here list)) = e ∙ ap (λ l. sizeOf (readKind l)) (tail list here) in
-      subst (λ m. Reads (many readKind (t + 1) list) (here + m)) (sym z) (reads-more readKind list t here _ _ q (got-next readKind noKind list kinds size t here w h q))
+  next-size t here r h q e = reads-on readKind noKind list kinds size t here r w h q e
 
   pub built-none : (ds rs gs ps pa : List ℕ) → Built cs list base 0 0 0 ds rs gs ps pa
   unfolding sum

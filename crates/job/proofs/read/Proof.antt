@@ -1,4 +1,4 @@
-use mathlib.Core.Path.{_≡_, sym, ap, _∙_}
+use mathlib.Core.Path.{sym, ap, _∙_}
 use Rattle.model.specs.declared.Written.the-variants as W
 use Rattle.job.proofs.ContentLaws.{read-refused, read-accepted}
 use borrow.Author.Needs.{needs}

@@ -1,4 +1,3 @@
-use native.Mathlib.Omega.{arith}
 use Rattle.job.proofs.ContentLaws.{board-written}
 use borrow.Author.Needs.{needs}
 use Rattle.job.proofs.content.put_board.Statement.{statement}

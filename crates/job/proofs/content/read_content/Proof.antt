@@ -1,4 +1,4 @@
-use mathlib.Core.Path.{_≡_, refl, sym, ap, _∙_}
+use mathlib.Core.Path.{sym, ap, _∙_}
 use native.Mathlib.Omega.{arith}
 use Rattle.model.specs.declared.Written.the-variants as W
 use Rattle.job.proofs.ContentLaws.{six-none, kinds-some, content-length, content-few, content-fits, content-written}
