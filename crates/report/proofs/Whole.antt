@@ -50,6 +50,13 @@ rendered-parts a s pieces = ap (λ (t : List ℕ). firstLine a ++ t) (shown-line
 pub text-short : (a : RunAnswer) (s : List ℕ) (k : ℕ) → AnswerRange a → AreBytes s → length (firstLine a ++ linesIn s k) ≤ 26 + k * 24
 text-short a s k g known = rw length-append (omega (arith, first-short a g, lines-short s known k))
 
+-- So 512 are enough for the text of an answer with at most 12 entries.
+pub rendered-short : (a : RunAnswer) (s : List ℕ) (pieces : ℕ) → AnswerRange a → AreBytes s → pieces ≤ 12 → length (rendered a s pieces) ≤ 512
+rendered-short a s pieces g known few =
+    let short = text-short a s (shownCount a pieces) g known in
+    let parts = ap (λ (t : List ℕ). length t) (rendered-parts a s pieces) in
+    omega (arith, short, parts, shown-few a pieces)
+
 -- What is rendered of a run of a job is what the definition of the program's output says is printed of it.
 pub rendered-printed : (j : Job) (r : RunOutcome) → rendered (r .answer) (r .out) (pieceCount j) ≡ printed j r
 unfolding rendered printed layoutIn

@@ -18,6 +18,7 @@ pub fn render(answer: RunAnswer, numbers: &[u8], pieces: usize, dst: &mut [u8]) 
     requires { ⌜ 512 ≤ length (now dst) ⌝ }
     ensures { λ r. ⌜ r ≡ length (rendered answer (now (numbers .entry)) pieces) ⌝ }
     ensures { λ _. ⌜ now (dst .exit) ≡ rendered answer (now (numbers .entry)) pieces ++ drop (length (rendered answer (now (numbers .entry)) pieces)) (now (dst .entry)) ⌝ }
+    ensures { λ r. ⌜ r ≤ 512 ⌝ }
 {
     let next = first::put_first_line(dst, 0, answer);
     layout::put_entries(dst, next, numbers, layout::shown_count(answer, pieces))

@@ -4,11 +4,12 @@ use mathlib.Core.Path.{_≡_, ap, _∙_}
 use Prim.Native.Nat.{ℕ, _+_, _*_, _≤_}
 use native.Mathlib.Omega.{arith}
 use lib.ListN.{length}
+use Rattle.words.specs.Bytes.{AreBytes}
 use Rattle.model.specs.Output.{firstLine}
 use Rattle.report.specs.Text.{linesIn}
 use Rattle.report.proofs.Placing.{placed-as, placed-then, placed-front, room}
 use Rattle.report.proofs.Range.{answer-range, first-short}
-use Rattle.report.proofs.Whole.{shown-few, rendered-parts, text-short}
+use Rattle.report.proofs.Whole.{shown-few, rendered-parts, rendered-short, text-short}
 use borrow.Author.Needs.{needs}
 use Rattle.report.proofs.render.Statement.{statement}
 use Rattle.report.proofs.render.Tie as tie
@@ -43,7 +44,10 @@ returns c =
     let s : List ℕ = start .args .numbers .now in
     let text : firstLine a ++ linesIn s (c .before .before .before .shown-count .result) ≡ _ =
     ap (λ (k : ℕ). firstLine a ++ linesIn s k) (c .before .before .before .shown-count .ensures) ∙ rendered-parts a s (start .args .pieces) in
-    placed-front (placed-as text (placed-then (omega arith) (c .before .before .before .before .before .before .before .put-first-line .ensures) (c .before .before .put-entries .ensures)))
+    let known : AreBytes s = λ i. c .before .before .before .before .before .before .before .before .before .before .shared-slice-known .given i .fits in
+    let short = rendered-short a s (start .args .pieces) (answer-range a (start .good .0)) known (start .pre .0) in
+    let front = placed-front (placed-as text (placed-then (omega arith) (c .before .before .before .before .before .before .before .put-first-line .ensures) (c .before .before .put-entries .ensures))) in
+    (front .0, (front .1, omega (arith, front .0, short)))
 
 pub render-spec : {M : Type 1} → statement M
 render-spec =

@@ -1,0 +1,42 @@
+-- `command::respond` meets its contract: what is rendered of the run is what the program prints of it.
+use Rattle.command.proofs.Text.{text-is}
+use borrow.Author.Needs.{needs}
+use Rattle.command.proofs.respond.Statement.{statement}
+use Rattle.command.proofs.respond.Tie as tie
+
+pieces-shown-requires : tie.Need-pieces-shown-requires
+pieces-shown-requires c κs = search needs
+
+run-requires : tie.Need-run-requires
+run-requires c κs = search needs
+
+render-requires : tie.Need-render-requires
+render-requires c κs = search needs
+
+same-length : tie.Need-same-length
+same-length c = search needs
+
+same-length-2 : tie.Need-same-length-2
+same-length-2 c = search needs
+
+same-length-3 : tie.Need-same-length-3
+same-length-3 c = search needs
+
+returns : tie.Need-returns
+returns c =
+    let start = c .before .before .before .before .before .before .before .before .before .before .before .before .before .before .before .before .before in
+    let shown = c .before .before .before .before .before .before .before .before .before .before .before .before .pieces-shown in
+    let same = text-is (start .args .bytes .now) (shown .result) (start .args .budget) (start .args .work .now) (start .args .answer .now) (shown .ensures) in
+    (cc same, (cc same, c .before .before .render .ensures .1 .1))
+
+pub respond-spec : {M : Type 1} → statement M
+respond-spec =
+    tie.close
+    (tie.spec
+    pieces-shown-requires
+    run-requires
+    render-requires
+    same-length
+    same-length-2
+    same-length-3
+    returns)

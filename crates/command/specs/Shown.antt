@@ -1,0 +1,11 @@
+-- How many entries of a layout the program looks at.
+use mathlib.Core.List.{List}
+use mathlib.Core.Path.{_≡_}
+use Prim.Native.Nat.{ℕ, _≤_}
+use Rattle.model.specs.Content.{pieceCount}
+use Rattle.model.specs.Format.{refusal, content}
+
+-- At most 12, and as many as an accepted job has pieces.
+pub record Shown (s : List ℕ) (n : ℕ) : Type 0 where
+  pub few : n ≤ 12
+  pub exact : refusal s ≡ 0 → n ≡ pieceCount (content s)

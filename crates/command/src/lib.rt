@@ -1,0 +1,37 @@
+// What the command program does between reading a job and writing its text.
+ghost use mathlib.Core.List.{_++_};
+ghost use mathlib.Core.Path.{_≡_};
+ghost use Prim.Native.Nat.{_≤_};
+ghost use lib.ListN.{length, drop};
+ghost use Rattle.model.specs.Format.{content};
+ghost use Rattle.model.specs.Output.{printed};
+ghost use Rattle.model.specs.Services;
+ghost use Rattle.command.specs.Shown.{Shown};
+
+// The number of pieces of an accepted job; of a refused one none are shown.
+fn pieces_shown(bytes: &[u8]) -> usize
+    ensures { λ r. ⌜ Shown (now (bytes .entry)) r ⌝ }
+{
+    let opened = job::open(bytes);
+    let refusal = opened.refusal;
+    let view = opened.view;
+    if refusal == 0 { view.pieces } else { 0 }
+}
+
+// Runs a job under a budget and puts the text of its answer at the front of `text`; says how long the text is.
+pub fn respond(
+    bytes: &[u8],
+    budget: u32,
+    work: &mut [u8],
+    answer: &mut [u8],
+    text: &mut [u8],
+) -> usize
+    requires { ⌜ (49152 ≤ length (now work)) × (96 ≤ length (now answer)) × (512 ≤ length (now text)) ⌝ }
+    ensures { λ r. ⌜ r ≡ length (printed (content (now (bytes .entry))) (Services.run (now (bytes .entry)) budget (now (work .entry)) (now (answer .entry)))) ⌝ }
+    ensures { λ r. ⌜ now (text .exit) ≡ printed (content (now (bytes .entry))) (Services.run (now (bytes .entry)) budget (now (work .entry)) (now (answer .entry))) ++ drop r (now (text .entry)) ⌝ }
+    ensures { λ r. ⌜ r ≤ 512 ⌝ }
+{
+    let pieces = pieces_shown(bytes);
+    let a = search::run::run(bytes, budget, work, answer);
+    report::render(a, answer, pieces, text)
+}
