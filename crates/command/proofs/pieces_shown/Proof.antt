@@ -1,5 +1,6 @@
 -- `command::pieces_shown` meets its contract: an accepted job has at most 12 pieces, and its view says how many.
 use mathlib.Core.Path.{_≡_, _∙_, sym}
+use native.Mathlib.Omega.{arith}
 use Rattle.model.specs.Format.{refusal}
 use Rattle.model.proofs.AcceptedKinds.{pieces-most}
 use borrow.Author.Needs.{needs}
@@ -15,7 +16,7 @@ returns c =
     let opened = c .before .before .«open» .ensures in
     let e : refusal s ≡ 0 = sym (opened .0) ∙ c .if1 .taken in
     let pieces = opened .1 (c .if1 .taken) .pieces in
-    record { few = rw pieces (pieces-most s e); exact = λ _. pieces }
+    record { few = omega (arith, pieces, pieces-most s e); exact = λ _. pieces }
 
 returns-2 : tie.Need-returns-2
 returns-2 c = search needs

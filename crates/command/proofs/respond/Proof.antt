@@ -1,4 +1,10 @@
 -- `command::respond` meets its contract: what is rendered of the run is what the program prints of it.
+use mathlib.Core.List.{List}
+use mathlib.Core.Path.{_≡_}
+use Prim.Native.Nat.{ℕ}
+use lib.ListN.{length}
+use Rattle.model.specs.Services.{RunOutcome, run}
+use Rattle.report.specs.Text.{rendered}
 use Rattle.command.proofs.Text.{text-is}
 use borrow.Author.Needs.{needs}
 use Rattle.command.proofs.respond.Statement.{statement}
@@ -26,8 +32,14 @@ returns : tie.Need-returns
 returns c =
     let start = c .before .before .before .before .before .before .before .before .before .before .before .before .before .before .before .before .before in
     let shown = c .before .before .before .before .before .before .before .before .before .before .before .before .pieces-shown in
-    let same = text-is (start .args .bytes .now) (shown .result) (start .args .budget) (start .args .work .now) (start .args .answer .now) (shown .ensures) in
-    (cc same, (cc same, c .before .before .render .ensures .1 .1))
+    let ran = c .before .before .before .before .before .before .before .before .before .run in
+    let put = c .before .before .render in
+    let bytes : List ℕ = start .args .bytes .now in
+    let outcome : RunOutcome = run bytes (start .args .budget) (start .args .work .now) (start .args .answer .now) in
+    let told : ran .result ≡ outcome .answer = ran .ensures .0 in
+    let long : put .result ≡ length (rendered (ran .result) _ (shown .result)) = put .ensures .0 in
+    let same = text-is bytes (shown .result) (start .args .budget) (start .args .work .now) (start .args .answer .now) (shown .ensures) in
+    (cc (same, told, long), (cc (same, told, long), put .ensures .1 .1))
 
 pub respond-spec : {M : Type 1} → statement M
 respond-spec =
