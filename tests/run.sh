@@ -2,7 +2,8 @@
 # Links everything on this side of the C interface with a libnest.a and runs it: the comparison tests, then the
 # C example on every job of jobs/, held to the expected outputs. Needs no network.
 # usage: tests/run.sh FOLDER_OF_LIBNEST [COUNT]
-# CC, CFLAGS and NEST_LDLIBS (libraries that libnest.a itself needs) may be given.
+# CC, CFLAGS and NEST_LDLIBS (libraries that libnest.a itself needs) may be given. NEST_PROGRAM is the command
+# program, if it is to be run too: on every job of jobs/, and on inputs of several sizes.
 set -eu
 if [ $# -lt 1 ] || [ ! -f "$1/libnest.a" ]; then
     echo "usage: tests/run.sh FOLDER_OF_LIBNEST [COUNT]" >&2
@@ -20,18 +21,44 @@ NEST_LIB_DIR="$library" cargo build -q -j1 --offline --release --bin compare --m
 
 ${CC:-cc} -std=c99 -Wall -Wextra -Werror ${CFLAGS:--O1} -I "$root/include" "$root/examples/nest.c" \
     "$library/libnest.a" ${NEST_LDLIBS:-} -o "$build/nest"
-jobs=0
-failed=0
-for job in "$root"/jobs/*.job; do
-    jobs=$((jobs + 1))
-    "$build/nest" "$job" >"$build/printed" || true
-    if ! cmp -s "$build/printed" "${job%.job}.out"; then
-        failed=$((failed + 1))
-        echo "jobs/$(basename "$job"): the C example printed:"
-        cat "$build/printed"
-        echo "expected:"
-        cat "${job%.job}.out"
+
+# Runs a program on every job, as its standard input and as its argument, and holds what it prints to what is expected.
+over_jobs() { # NAME PROGRAM
+    jobs=0
+    failed=0
+    for job in "$root"/jobs/*.job; do
+        jobs=$((jobs + 1))
+        "$2" "$job" <"$job" >"$build/printed" || true
+        if ! cmp -s "$build/printed" "${job%.job}.out"; then
+            failed=$((failed + 1))
+            echo "jobs/$(basename "$job"): the $1 printed:"
+            cat "$build/printed"
+            echo "expected:"
+            cat "${job%.job}.out"
+        fi
+    done
+    echo "$1: $((jobs - failed)) of $jobs jobs as expected"
+    [ "$jobs" -gt 0 ] && [ "$failed" -eq 0 ]
+}
+
+# The command program on an input of so many zero bytes: it is refused by this number.
+sized() { # PROGRAM BYTES NUMBER
+    said=$(head -c "$2" /dev/zero | "$1")
+    if [ "$said" != "refused $3" ]; then
+        echo "$2 zero bytes: the command program printed '$said', expected 'refused $3'"
+        return 1
     fi
-done
-echo "C example: $((jobs - failed)) of $jobs jobs as expected"
-[ "$jobs" -gt 0 ] && [ "$failed" -eq 0 ]
+}
+
+over_jobs "C example" "$build/nest"
+if [ -n "${NEST_PROGRAM:-}" ]; then
+    over_jobs "command program" "$NEST_PROGRAM"
+    # 1024 bytes are the most that a job may have; a file may be longer than what one read gives.
+    sized "$NEST_PROGRAM" 0 1
+    sized "$NEST_PROGRAM" 13 1
+    sized "$NEST_PROGRAM" 14 2
+    sized "$NEST_PROGRAM" 1024 2
+    sized "$NEST_PROGRAM" 1025 1
+    sized "$NEST_PROGRAM" 100000 1
+    echo "command program: inputs of 0 to 100000 bytes as expected"
+fi
