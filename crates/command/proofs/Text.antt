@@ -1,14 +1,21 @@
--- What is rendered of a run is what document 01 has the program print of it.
+-- What is rendered of a run is what document 01 has the program print of it; and the buffers here are long enough for every job.
 use mathlib.Core.Bool.{Bool, true, false}
 use mathlib.Core.List.{List}
 use mathlib.Core.Path.{_≡_, refl, sym, ap, _∙_}
-use Prim.Native.Nat.{ℕ}
+use Prim.Native.Nat.{ℕ, _≤_}
+use native.Mathlib.Omega.{arith}
 use borrow.Author.Tests.{eqb-true}
 use lib.Dec.{eqb}
+use lib.ListN.{length}
+use Rattle.words.specs.Number.{count}
 use Rattle.model.specs.Content.{pieceCount}
 use Rattle.model.specs.Format.{refusal, content}
-use Rattle.model.specs.Output.{layoutLines, printed}
-use Rattle.model.specs.Services.{run}
+use Rattle.model.specs.Demand3.{Fit}
+use Rattle.model.specs.Output.{layoutLines, printed, program}
+use Rattle.model.specs.Services.{numbersIn, wordsIn, run}
+use Rattle.model.proofs.AcceptedKinds.{pieces-most}
+use Rattle.model.proofs.Program.{program-prints, program-refuses}
+use Rattle.search.proofs.Running.{few-work}
 use Rattle.report.specs.Text.{rendered}
 use Rattle.report.proofs.Whole.{rendered-printed}
 use Rattle.command.specs.Shown.{Shown}
@@ -22,3 +29,21 @@ text-is s n budget work out shown = go (eqb (refusal s) 0) refl
         → rendered (run s budget work out .answer) (run s budget work out .out) n ≡ printed (content s) (run s budget work out)
     go true e = rw (shown .exact (eqb-true (refusal s) 0 e)) (rendered-printed (content s) (run s budget work out))
     go false e = rw (e, run)
+
+-- 6144 work words and 48 answer numbers are enough for every accepted job.
+buffers-fit : (s work out : List ℕ) → 49152 ≤ length work → 96 ≤ length out → refusal s ≡ 0 → Fit s work out
+unfolding wordsIn numbersIn count
+buffers-fit s work out w o accepted =
+    record {
+      accepted = accepted;
+      work-long-enough = omega (arith, few-work s accepted);
+      out-long-enough = omega (arith, pieces-most s accepted);
+    }
+
+-- "gives run a budget of 1,000,000 and prints": with such buffers, whatever they hold, the text is the program's.
+pub prints-program : (s work out : List ℕ) → 49152 ≤ length work → 96 ≤ length out → printed (content s) (run s 1000000 work out) ≡ program s
+prints-program s work out w o = go (eqb (refusal s) 0) refl
+  where
+    go : (c : Bool) → eqb (refusal s) 0 ≡ c → printed (content s) (run s 1000000 work out) ≡ program s
+    go true e = program-prints s work out (buffers-fit s work out w o (eqb-true (refusal s) 0 e))
+    go false e = program-refuses s work out e

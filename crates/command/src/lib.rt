@@ -4,6 +4,7 @@ ghost use mathlib.Core.Path.{_≡_};
 ghost use Prim.Native.Nat.{_≤_};
 ghost use lib.ListN.{length, drop};
 ghost use Rattle.model.specs.Format.{content};
+ghost use Rattle.model.specs.Output;
 ghost use Rattle.model.specs.Output.{printed};
 ghost use Rattle.model.specs.Services;
 ghost use Rattle.command.specs.Shown.{Shown};
@@ -19,6 +20,7 @@ fn pieces_shown(bytes: &[u8]) -> usize
 }
 
 // Runs a job under a budget and puts the text of its answer at the front of `text`; says how long the text is.
+// Work words and answer numbers are enough for every job, so at the program's budget it is the program's text, whatever they hold.
 pub fn respond(
     bytes: &[u8],
     budget: u32,
@@ -30,8 +32,21 @@ pub fn respond(
     ensures { λ r. ⌜ r ≡ length (printed (content (now (bytes .entry))) (Services.run (now (bytes .entry)) budget (now (work .entry)) (now (answer .entry)))) ⌝ }
     ensures { λ r. ⌜ now (text .exit) ≡ printed (content (now (bytes .entry))) (Services.run (now (bytes .entry)) budget (now (work .entry)) (now (answer .entry))) ++ drop r (now (text .entry)) ⌝ }
     ensures { λ r. ⌜ r ≤ 512 ⌝ }
+    ensures { λ _. ⌜ (budget ≡ 1000000 → printed (content (now (bytes .entry))) (Services.run (now (bytes .entry)) budget (now (work .entry)) (now (answer .entry))) ≡ Output.program (now (bytes .entry))) ⌝ }
 {
     let pieces = pieces_shown(bytes);
     let a = search::run::run(bytes, budget, work, answer);
     report::render(a, answer, pieces, text)
+}
+
+// What the command program makes of the bytes that it read: "gives run a budget of 1,000,000 and prints".
+pub fn program(bytes: &[u8], text: &mut [u8]) -> usize
+    requires { ⌜ 512 ≤ length (now text) ⌝ }
+    ensures { λ r. ⌜ r ≡ length (Output.program (now (bytes .entry))) ⌝ }
+    ensures { λ r. ⌜ now (text .exit) ≡ Output.program (now (bytes .entry)) ++ drop r (now (text .entry)) ⌝ }
+    ensures { λ r. ⌜ r ≤ 512 ⌝ }
+{
+    let mut work = [0u8; 49152];
+    let mut answer = [0u8; 96];
+    respond(bytes, 1000000, &mut work, &mut answer, text)
 }

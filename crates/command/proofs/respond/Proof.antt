@@ -3,9 +3,11 @@ use mathlib.Core.List.{List}
 use mathlib.Core.Path.{_≡_}
 use Prim.Native.Nat.{ℕ}
 use lib.ListN.{length}
+use Rattle.model.specs.Format.{content}
+use Rattle.model.specs.Output.{printed, program}
 use Rattle.model.specs.Services.{RunOutcome, run}
 use Rattle.report.specs.Text.{rendered}
-use Rattle.command.proofs.Text.{text-is}
+use Rattle.command.proofs.Text.{text-is, prints-program}
 use borrow.Author.Needs.{needs}
 use Rattle.command.proofs.respond.Statement.{statement}
 use Rattle.command.proofs.respond.Tie as tie
@@ -39,7 +41,8 @@ returns c =
     let told : ran .result ≡ outcome .answer = ran .ensures .0 in
     let long : put .result ≡ length (rendered (ran .result) _ (shown .result)) = put .ensures .0 in
     let same = text-is bytes (shown .result) (start .args .budget) (start .args .work .now) (start .args .answer .now) (shown .ensures) in
-    (cc (same, told, long), (cc (same, told, long), put .ensures .1 .1))
+    let program-text : start .args .budget ≡ 1000000 → printed (content bytes) outcome ≡ program bytes = λ e. rw e (prints-program bytes (start .args .work .now) (start .args .answer .now) (start .pre .0) (start .pre .1)) in
+    (cc (same, told, long), (cc (same, told, long), (put .ensures .1 .1, program-text)))
 
 pub respond-spec : {M : Type 1} → statement M
 respond-spec =

@@ -1,0 +1,33 @@
+-- `command::program` meets its contract: its buffers are long enough for every job, so the text of the run is the program's.
+use mathlib.Core.Path.{refl}
+use borrow.Author.Needs.{needs}
+use Rattle.command.proofs.program.Statement.{statement}
+use Rattle.command.proofs.program.Tie as tie
+
+slice-aggregate-respond : tie.Need-slice-aggregate-respond
+slice-aggregate-respond c = search needs
+
+slice-aggregate-respond-2 : tie.Need-slice-aggregate-respond-2
+slice-aggregate-respond-2 c = search needs
+
+respond-requires : tie.Need-respond-requires
+respond-requires c κs = search needs
+
+same-length : tie.Need-same-length
+same-length c = search needs
+
+returns : tie.Need-returns
+returns c =
+    let answered = c .before .before .before .before .respond in
+    let same = answered .ensures .1 .1 .1 refl in
+    (cc same, (cc same, answered .ensures .1 .1 .0))
+
+pub program-spec : {M : Type 1} → statement M
+program-spec =
+    tie.close
+    (tie.spec
+    slice-aggregate-respond
+    slice-aggregate-respond-2
+    respond-requires
+    same-length
+    returns)
