@@ -2,16 +2,12 @@
 use crate::jobs;
 use crate::show;
 
-// The program's budget, and no other, unless a board names one.
-const BUDGET: u32 = 1000000;
-
 // "W 2, L 4", the bytes that document 01 prints: "Budgets 3, 2, 1: shortest 4; stopped with 4; stopped with nothing."
 pub fn budgets() {
     let name = b"two squares, W 2, L 4";
     let job =
         b"\x02\x00\x04\x00\x01\x00\x02\x01\x00\x01\x04\x00\x00\x02\x00\x02\x02\x00\x02\x00\x00\x00\x00\x06\x00\x0D\x00\x00\x01\x21\x00\x44\x42";
-    show::read(name, job);
-    show::run(name, job, BUDGET);
+    show::read_and_run(name, job);
     show::run(name, job, 4);
     show::run(name, job, 3);
     show::run(name, job, 2);
@@ -23,8 +19,7 @@ pub fn budgets() {
 fn squares(name: &[u8], l: u16) {
     let mut job = [0u8; 64];
     let n = jobs::squares(&mut job, 2, l);
-    show::read(name, &job[0..n]);
-    show::run(name, &job[0..n], BUDGET);
+    show::read_and_run(name, &job[0..n]);
     show::run(name, &job[0..n], 0);
 }
 
@@ -39,8 +34,7 @@ pub fn lengths() {
 fn gap_one(name: &[u8], l: u16) {
     let mut job = [0u8; 64];
     let n = jobs::gap_squares(&mut job, 1, 2, l);
-    show::read(name, &job[0..n]);
-    show::run(name, &job[0..n], BUDGET);
+    show::read_and_run(name, &job[0..n]);
 }
 
 // "Gap 1: L 5 gives 5; L 4 none."
@@ -55,8 +49,7 @@ pub fn triangles() {
     let kinds = b"\x01\x01\0\x01\x03\0\0\x02\0\x02\x02\x01\x01\0\x01\x03\0\0\x02\x02\0\x02";
     let mut job = [0u8; 64];
     let n = jobs::job_of(&mut job, 2, 2, b"", 2, kinds);
-    show::read(name, &job[0..n]);
-    show::run(name, &job[0..n], BUDGET);
+    show::read_and_run(name, &job[0..n]);
     let layout = [0u8, 0, 0, 0, 0, 0, 0, 0, 1, 0, 0, 0, 0, 0, 0, 0];
     show::check(name, &job[0..n], &layout);
 }
@@ -67,8 +60,7 @@ pub fn strips() {
     let mut job = [0u8; 64];
     let kinds = [2u8, 1, 0, 1, 4, 0, 0, 10, 10, 10, 11, 0, 1];
     let n = jobs::job_of(&mut job, 12, 20, b"", 1, &kinds);
-    show::read(name, &job[0..n]);
-    show::run(name, &job[0..n], BUDGET);
+    show::read_and_run(name, &job[0..n]);
     let layout = [0u8, 0, 0, 0, 0, 0, 0, 0, 0, 0, 0, 0, 1, 0, 0, 0];
     show::check(name, &job[0..n], &layout);
 }
@@ -78,8 +70,7 @@ fn bar(name: &[u8], turns: u8) {
     let mut job = [0u8; 64];
     let kinds = [1u8, turns, 0, 1, 4, 0, 0, 3, 0, 3, 1, 0, 1];
     let n = jobs::job_of(&mut job, 3, 1, b"", 1, &kinds);
-    show::read(name, &job[0..n]);
-    show::run(name, &job[0..n], BUDGET);
+    show::read_and_run(name, &job[0..n]);
     show::check(name, &job[0..n], &[0, 0, 1, 0, 0, 0, 1, 0]);
 }
 
@@ -89,13 +80,12 @@ pub fn bars() {
     bar(b"bar, W 3, L 1, turn mask 1", 1);
 }
 
-// Two squares in both classes of these class records.
+// Two squares in both classes of these class records. At (2,0), candidate 24, the second is nearer than gap 1 to the first, at (3,0) it is not.
 fn ranked(name: &[u8], classes: &[u8; 6]) {
     let mut job = [0u8; 64];
     let kinds = [2u8, 1, 3, 1, 4, 0, 0, 2, 0, 2, 2, 0, 2];
     let n = jobs::job_of(&mut job, 2, 7, classes, 1, &kinds);
-    show::read(name, &job[0..n]);
-    show::run(name, &job[0..n], BUDGET);
+    show::read_and_run(name, &job[0..n]);
     show::row(name, &job[0..n], 24);
     show::row(name, &job[0..n], 36);
 }

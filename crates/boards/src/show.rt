@@ -77,6 +77,12 @@ pub fn read(board: &[u8], job: &[u8]) {
     say(b"\n");
 }
 
+// What read gives, and what a run with the program's budget finds.
+pub fn read_and_run(board: &[u8], job: &[u8]) {
+    read(board, job);
+    run(board, job, 1000000);
+}
+
 // Whether the row of type 0's candidate 0 has type 0's candidate of this number in conflict, or the refusal.
 pub fn row(board: &[u8], job: &[u8], number: usize)
     requires { ⌜ number < 4096 ⌝ }
