@@ -33,6 +33,8 @@ pub fn respond(
     ensures { λ r. ⌜ now (text .exit) ≡ printed (content (now (bytes .entry))) (Services.run (now (bytes .entry)) budget (now (work .entry)) (now (answer .entry))) ++ drop r (now (text .entry)) ⌝ }
     ensures { λ r. ⌜ r ≤ 512 ⌝ }
     ensures { λ _. ⌜ (budget ≡ 1000000 → printed (content (now (bytes .entry))) (Services.run (now (bytes .entry)) budget (now (work .entry)) (now (answer .entry))) ≡ Output.program (now (bytes .entry))) ⌝ }
+    ensures { λ _. ⌜ now (work .exit) ≡ Services.run (now (bytes .entry)) budget (now (work .entry)) (now (answer .entry)) .work ⌝ }
+    ensures { λ _. ⌜ now (answer .exit) ≡ Services.run (now (bytes .entry)) budget (now (work .entry)) (now (answer .entry)) .out ⌝ }
 {
     let pieces = pieces_shown(bytes);
     let a = search::run::run(bytes, budget, work, answer);

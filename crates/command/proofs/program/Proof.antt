@@ -19,7 +19,7 @@ same-length c = search needs
 returns : tie.Need-returns
 returns c =
     let answered = c .before .before .before .before .respond in
-    let same = answered .ensures .1 .1 .1 refl in
+    let same = answered .ensures .1 .1 .1 .0 refl in
     (cc same, (cc same, answered .ensures .1 .1 .0))
 
 pub program-spec : {M : Type 1} → statement M

@@ -42,7 +42,7 @@ returns c =
     let long : put .result ≡ length (rendered (ran .result) _ (shown .result)) = put .ensures .0 in
     let same = text-is bytes (shown .result) (start .args .budget) (start .args .work .now) (start .args .answer .now) (shown .ensures) in
     let program-text : start .args .budget ≡ 1000000 → printed (content bytes) outcome ≡ program bytes = λ e. rw e (prints-program bytes (start .args .work .now) (start .args .answer .now) (start .pre .0) (start .pre .1)) in
-    (cc (same, told, long), (cc (same, told, long), (put .ensures .1 .1, program-text)))
+    (cc (same, told, long), (cc (same, told, long), (put .ensures .1 .1, (program-text, (ran .ensures .1 .0, ran .ensures .1 .1)))))
 
 pub respond-spec : {M : Type 1} → statement M
 respond-spec =
