@@ -7,3 +7,4 @@ pub mod PlacementLaws
 pub mod RowLaws
 pub mod PreparedLaws
 pub mod AnswerLaws
+pub mod OffsetLaws
