@@ -8,3 +8,4 @@ pub mod RowLaws
 pub mod PreparedLaws
 pub mod AnswerLaws
 pub mod OffsetLaws
+pub mod OffsetFilling

@@ -7,7 +7,7 @@ use mathlib.Core.Path.{_≡_}
 use Prim.Native.Nat.{ℕ, _+_, _-_, _*_, _/_, _%_, _≤_, _<_}
 use lib.Dec.{leb}
 use lib.IntN.{ℤ, pos, _-ℤ_}
-use lib.ListN.{length}
+use lib.ListN.{length, getD}
 use Rattle.words.specs.Bits.{testBit}
 use Rattle.words.specs.Sets.{member}
 use Rattle.model.specs.Content.{Job, kindAt, kindCount}
@@ -140,3 +140,19 @@ pub record SectionReady (table : List ℤ) (step : ℕ) (w : Window) (p : Piece)
   pub turn : q < 4
   pub second : Fitting r
   pub other : k < 4
+
+-- The same of two kinds of the job.
+abbrev pub kindsAtCell : Job → Window → ℕ → ℕ → ℕ → ℕ → ℕ → Bool
+kindsAtCell j w t q u k i =
+    offsetConflict j t q u k (fromMiddle (j .sheet .g) (w .across) (i / height w)) (fromMiddle (j .sheet .g) (w .up) (i % height w))
+
+-- Kinds and rotations that there are.
+pub record Turned (w : Window) (t q u k : ℕ) : Type 0 where
+  pub kind : t < w .kinds
+  pub turn : q < 4
+  pub other : u < w .kinds
+  pub other-turn : k < 4
+
+-- The section is needed, by the numbers of a view.
+unfoldable pub isNeeded : View → ℕ → ℕ → ℕ → ℕ → Bool
+isNeeded v t q u k = leb t u && testBit (getD (v .rotations) t 0) q && testBit (getD (v .rotations) u 0) k

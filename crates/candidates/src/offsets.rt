@@ -10,10 +10,18 @@ ghost use Rattle.model.specs.Format.{content};
 ghost use Rattle.model.specs.Grid;
 ghost use Rattle.model.specs.Layout;
 ghost use Rattle.model.specs.Layout.{entryOf};
-ghost use Rattle.candidates.specs.Rows.{placedOf};
 ghost use Rattle.candidates.specs.Offsets;
-ghost use Rattle.candidates.specs.Offsets.{width, height, sectionOf, sections, cellOf, offsetCell, covered, Sized, OffsetsOf};
+ghost use Rattle.candidates.specs.Offsets.{width, height, area, sectionOf, sections, cellOf, offsetCell, fromMiddle, covered, SectionsOf, Sized, Roomy, OffsetsOf};
+ghost use Rattle.candidates.specs.Offsets.{Written, conflictAtCell, SectionReady, kindsAtCell, Turned, isNeeded};
+ghost use Rattle.candidates.specs.Placements.{Bounded};
+ghost use Rattle.candidates.specs.Rows.{placedOf};
+ghost use Rattle.candidates.specs.Turned.{Viewed, TurnedOf};
 use crate::conflicts::Placed;
+use crate::conflicts::pair_gap;
+use crate::pieces::Piece;
+use crate::pieces::piece_of;
+use crate::pieces::pieces_conflict;
+use job::View;
 
 // How many kinds a table of offsets has, and how many columns and rows each way.
 pub struct Window {
@@ -38,7 +46,7 @@ pub fn covers(window: Window, a: Placed, c: Placed) -> bool
 
 // The section of kind t, turned q quarter turns, and kind u, turned k quarter turns.
 fn section_of(window: Window, t: usize, q: usize, u: usize, k: usize) -> usize
-    requires { ⌜ Sized window × (((t < window .kinds) × (q < 4)) × ((u < window .kinds) × (k < 4))) ⌝ }
+    requires { ⌜ Sized window × Turned window t q u k ⌝ }
     ensures { λ r. ⌜ (r ≡ sectionOf window t q u k) × (r < sections window) ⌝ }
 {
     (t * 4 + q) * (window.kinds * 4) + (u * 4 + k)
@@ -85,4 +93,113 @@ pub fn conflict_at(
     let x = window_place(window.across, a.column, c.column);
     let y = window_place(window.up, a.row, c.row);
     words::sets::contains(bits, cell_of(window, section, x, y))
+}
+
+// How far column n of a window, or row n, lies from the middle one.
+fn away(step: usize, middle: usize, n: usize) -> i16
+    requires { ⌜ (n * step ≤ 2000) × (middle * step ≤ 1000) ⌝ }
+    ensures { λ r. ⌜ r ≡ fromMiddle step middle n ⌝ }
+{
+    ((n * step) as i16) - ((middle * step) as i16)
+}
+
+// How many offsets a window has.
+fn area_of(window: Window) -> usize
+    requires { ⌜ Sized window ⌝ }
+    ensures { λ r. ⌜ (r ≡ area window) × (r ≤ 4004001) ⌝ }
+{
+    (window.across * 2 + 1) * (window.up * 2 + 1)
+}
+
+// Fills a section, from its first cell on: where the piece p, turned q quarter turns, is in conflict with the piece r, turned k quarter turns.
+fn fill_section(
+    turned: &[i16],
+    step: usize,
+    window: Window,
+    p: Piece,
+    q: usize,
+    r: Piece,
+    k: usize,
+    gap: u16,
+    first: usize,
+    bits: &mut [u8],
+)
+    requires { ⌜ SectionReady (now turned) step window p q r k ⌝ }
+    requires { ⌜ (first + area window ≤ 196608) × (length (now bits) ≡ 24576) ⌝ }
+    ensures { λ _. ⌜ Written first (area window) (conflictAtCell (now (turned .entry)) step window p q r k gap) (now (bits .entry)) (now (bits .exit)) ⌝ }
+{
+    let height = window.up * 2 + 1;
+    let n = area_of(window);
+    let mut i: usize = 0;
+    while i < n {
+        let dx = away(step, window.across, i / height);
+        let dy = away(step, window.up, i % height);
+        let on = pieces_conflict(turned, p, q, r, k, dx, dy, gap);
+        words::sets::assign(bits, first + i, on);
+        i += 1;
+    }
+}
+
+// Fills the section of kind t, turned q quarter turns, and kind u, turned k quarter turns.
+fn fill_kinds(
+    job: &[u8],
+    view: View,
+    turned: &[i16],
+    window: Window,
+    t: usize,
+    q: usize,
+    u: usize,
+    k: usize,
+    bits: &mut [u8],
+)
+    requires { ⌜ Viewed (now job) view × TurnedOf (now job) (now turned) ⌝ }
+    requires { ⌜ Roomy view window × (length (now bits) ≡ 24576) ⌝ }
+    requires { ⌜ Turned window t q u k ⌝ }
+    ensures { λ _. ⌜ Written (sectionOf window t q u k * area window) (area window) (kindsAtCell (content (now (job .entry))) window t q u k) (now (bits .entry)) (now (bits .exit)) ⌝ }
+{
+    let p = piece_of(job, view, t);
+    let r = piece_of(job, view, u);
+    let gap = pair_gap(view, t, u);
+    let first = section_of(window, t, q, u, k) * area_of(window);
+    fill_section(turned, view.step, window, p, q, r, k, gap, first, bits);
+}
+
+// Whether a section is needed: kind u is not before kind t, and both may be turned so.
+fn is_needed(view: View, t: usize, q: usize, u: usize, k: usize) -> bool
+    requires { ⌜ Bounded view × (((t < view .kinds) × (q < 4)) × ((u < view .kinds) × (k < 4))) ⌝ }
+    ensures { λ r. ⌜ r ≡ isNeeded view t q u k ⌝ }
+{
+    let masks = view.rotations;
+    let first = masks[t] as u64;
+    let second = masks[u] as u64;
+    (t <= u) & words::bits::test_bit(first, q as u64) & words::bits::test_bit(second, k as u64)
+}
+
+// Fills section i, if it is needed. The sections that are not needed cost no test of a pair.
+fn fill_next(job: &[u8], view: View, turned: &[i16], window: Window, i: usize, bits: &mut [u8])
+    requires { ⌜ Viewed (now job) view × TurnedOf (now job) (now turned) ⌝ }
+    requires { ⌜ Roomy view window × (length (now bits) ≡ 24576) ⌝ }
+    requires { ⌜ (i < sections window) × SectionsOf (content (now job)) window i (now bits) ⌝ }
+    ensures { λ _. ⌜ SectionsOf (content (now (job .entry))) window (i + 1) (now (bits .exit)) ⌝ }
+{
+    let turns = window.kinds * 4;
+    let a = i / turns;
+    let c = i % turns;
+    if is_needed(view, a / 4, a % 4, c / 4, c % 4) {
+        fill_kinds(job, view, turned, window, a / 4, a % 4, c / 4, c % 4, bits);
+    }
+}
+
+// Fills the table.
+pub fn make_offsets(job: &[u8], view: View, turned: &[i16], window: Window, bits: &mut [u8])
+    requires { ⌜ Viewed (now job) view × TurnedOf (now job) (now turned) ⌝ }
+    requires { ⌜ Roomy view window × (length (now bits) ≡ 24576) ⌝ }
+    ensures { λ _. ⌜ OffsetsOf (now (job .entry)) window (now (bits .exit)) ⌝ }
+{
+    let turns = window.kinds * 4;
+    let mut i: usize = 0;
+    while i < turns * turns {
+        fill_next(job, view, turned, window, i, bits);
+        i += 1;
+    }
 }

@@ -29,7 +29,7 @@ turn-of-2 e = place-turn (now (e .args .job)) (e .pre .0 .accepted) (e .args .u)
 section-of-requires : tie.Need-section-of-requires
 section-of-requires c κs =
     let e = c .before .before in
-    (e .pre .0 .sized, ((omega (arith, e .pre .0 .kinds), turn-of e), (omega (arith, e .pre .0 .kinds), turn-of-2 e)))
+    (e .pre .0 .sized, record { kind = omega (arith, e .pre .0 .kinds); turn = turn-of e; other = omega (arith, e .pre .0 .kinds); other-turn = turn-of-2 e })
 
 window-place-requires : tie.Need-window-place-requires
 window-place-requires c κs =

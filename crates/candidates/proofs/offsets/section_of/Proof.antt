@@ -19,7 +19,7 @@ mul-result-2 c = search needs
 mul-result-3 : tie.Need-mul-result-3
 mul-result-3 c =
     let e = c .before in
-    omega (arith, section-small (e .args .window) (e .pre .0) (e .args .t) (e .args .q) (e .pre .1 .0 .0) (e .pre .1 .0 .1))
+    omega (arith, section-small (e .args .window) (e .pre .0) (e .args .t) (e .args .q) (e .pre .1 .kind) (e .pre .1 .turn))
 
 mul-result-4 : tie.Need-mul-result-4
 mul-result-4 c = search needs
@@ -30,13 +30,13 @@ add-result-2 c = search needs
 add-result-3 : tie.Need-add-result-3
 add-result-3 c =
     let e = c .before in
-    omega (arith, e .pre .0 .kinds, section-small (e .args .window) (e .pre .0) (e .args .t) (e .args .q) (e .pre .1 .0 .0) (e .pre .1 .0 .1))
+    omega (arith, e .pre .0 .kinds, section-small (e .args .window) (e .pre .0) (e .args .t) (e .args .q) (e .pre .1 .kind) (e .pre .1 .turn))
 
 returns : tie.Need-returns
 unfolding sectionOf
 returns c =
     let e = c .before in
-    (refl, section-below (e .args .window) (e .pre .0) (e .args .t) (e .args .q) (e .args .u) (e .args .k) (e .pre .1 .0 .0) (e .pre .1 .0 .1) (e .pre .1 .1 .0) (e .pre .1 .1 .1))
+    (refl, section-below (e .args .window) (e .pre .0) (e .args .t) (e .args .q) (e .args .u) (e .args .k) (e .pre .1 .kind) (e .pre .1 .turn) (e .pre .1 .other) (e .pre .1 .other-turn))
 
 pub section-of-spec : {M : Type 1} → statement M
 section-of-spec =
