@@ -3,19 +3,19 @@ use mathlib.Core.Bool.{Bool, true, false, _&&_}
 use mathlib.Core.List.{List, [], _∷_, map}
 use mathlib.Core.Logic.{_⊎_, inl, inr, ⊎-elim}
 use mathlib.Core.Path.{_≡_, refl, sym, ap, ap₂, subst, _∙_}
-use Prim.Native.Nat.{ℕ, zero, suc, _+_, _-_, _*_, _/_, _%_, _≤_, _<_}
+use Prim.Native.Nat.{ℕ, zero, suc, _+_, _-_, _*_, _/_, _%_, _^_, _≤_, _<_}
 use native.Mathlib.Nat.{suc-mul, lt-of-le-of-lt, le-trans, mul-le-mul-right, not-suc-le-zero, mod-lt, mod-eq-of-lt, div-eq-of-lt, mul-add-div-right, mul-add-mod-self-right, div-lt-iff-lt-mul, div-add-mod'}
 use native.Mathlib.Omega.{arith}
 use borrow.Author.Count.{below-more}
 use borrow.Author.Tests.{le-leb}
-use lib.Dec.{leb, lit<}
-use lib.IntN.{ℤ, pos, _-ℤ_}
+use lib.Dec.{leb, lit≤, lit<}
+use lib.IntN.{ℤ, pos, _+ℤ_, _-ℤ_}
 use lib.ListN.{length, getD}
-use mir.Syntax.{w16}
-use mir.Val.{SFits, toZ}
-use mir.ValLaws.{toZ-pos}
+use mir.Syntax.{w16, w64}
+use mir.Val.{SFits, toZ, ofZ}
+use mir.ValLaws.{toZ-ofZ, toZ-pos}
 use Rattle.integers.proofs.Sizes.{bounded, fits-natAbs}
-use Rattle.integers.proofs.Solver.{_⊟_}
+use Rattle.integers.proofs.Solver.{_⊞_, _⊟_}
 use Rattle.words.specs.Bits.{testBit, assignedBit}
 use Rattle.words.specs.Bytes.{AreBytes}
 use Rattle.words.specs.Sets.{wordOffset, member, changed}
@@ -27,6 +27,7 @@ use Rattle.model.specs.Gap.{pairGap}
 use Rattle.model.specs.Geometry.{piecesConflict}
 use Rattle.model.proofs.Lists.{and-left, and-right}
 use Rattle.geometry.specs.Flat.{shifted}
+use Rattle.geometry.proofs.Sizes.{size-of, fits-64}
 use Rattle.job.specs.declared.View.{View}
 use Rattle.candidates.specs.Offsets.{offsetConflict, width, height, area, turns, sectionOf, sections, cellOf, cells, offsetCell, fromMiddle, Needed, SectionsOf, Sized, Written, conflictAtCell, kindsAtCell, isNeeded}
 use Rattle.candidates.specs.Pieces.{PieceOf, partsIn}
@@ -35,6 +36,7 @@ use Rattle.candidates.specs.declared.offsets.Window.{Window}
 use Rattle.candidates.specs.declared.pieces.Piece.{Piece}
 use Rattle.candidates.proofs.OffsetLaws.{digits, offset-below}
 use Rattle.candidates.proofs.PieceLaws.{parts-turned}
+use Rattle.candidates.proofs.PlacementLaws.{wide-fits}
 use Rattle.candidates.proofs.ViewLaws.{kind-in}
 
 -- ---- how far from the middle
@@ -246,3 +248,20 @@ module _ (s : List ℕ) (v : View) (x : Viewed s v) (t q u k : ℕ) (ht : t < ki
   unfolding isNeeded
   needed-told n =
       rw (kind-in s v x t ht .rotations, kind-in s v x u hu .rotations, le-leb t u (n .ordered), n .first, n .second)
+
+-- ---- how far pieces reach
+
+module _ (low high : ℤ) (fl : SFits w16 low) (fh : SFits w16 high) where
+  pub span-fits : SFits w64 (high -ℤ low)
+  span-fits = fits-64 (high -ℤ low) (le-trans (bounded (2 ^ 15 ∷ 2 ^ 15 ∷ []) 2 (λ h l. h ⊟ l) high low (size-of w16 high fh) (size-of w16 low fl)) (lit≤ tt))
+
+  -- of two coordinates of 16 bits, read in 64
+  pub span-read : toZ w64 (ofZ w64 (toZ w16 (ofZ w16 high))) -ℤ toZ w64 (ofZ w64 (toZ w16 (ofZ w16 low))) ≡ high -ℤ low
+  span-read = ap₂ _-ℤ_ (toZ-ofZ w64 _ (wide-fits high fh) ∙ toZ-ofZ w16 high fh) (toZ-ofZ w64 _ (wide-fits low fl) ∙ toZ-ofZ w16 low fl)
+
+  pub span-value : toZ w64 (ofZ w64 (toZ w64 (ofZ w64 (toZ w16 (ofZ w16 high))) -ℤ toZ w64 (ofZ w64 (toZ w16 (ofZ w16 low))))) ≡ high -ℤ low
+  span-value = ap (λ z. toZ w64 (ofZ w64 z)) span-read ∙ toZ-ofZ w64 (high -ℤ low) span-fits
+
+pub spaced-fits : (low high : ℤ) (gap : ℕ) → SFits w16 low → SFits w16 high → gap ≤ 63 → SFits w64 ((high -ℤ low) +ℤ pos gap)
+spaced-fits low high gap fl fh h =
+    fits-64 ((high -ℤ low) +ℤ pos gap) (le-trans (bounded (2 ^ 15 ∷ 2 ^ 15 ∷ 63 ∷ []) 3 (λ h l g. (h ⊟ l) ⊞ g) high low (pos gap) (size-of w16 high fh) (size-of w16 low fl) h) (lit≤ tt))

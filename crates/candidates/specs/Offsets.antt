@@ -17,6 +17,7 @@ use Rattle.model.specs.Geometry.{rotated, piecesConflict}
 use Rattle.geometry.specs.Flat.{shifted}
 use Rattle.job.specs.declared.View.{View}
 use Rattle.candidates.specs.Pieces.{Fitting, partsIn}
+use Rattle.candidates.specs.Placements.{Bounded}
 use Rattle.candidates.specs.declared.conflicts.Placed.{Placed}
 use Rattle.candidates.specs.declared.offsets.Window.{Window}
 use Rattle.candidates.specs.declared.pieces.Piece.{Piece}
@@ -156,3 +157,12 @@ pub record Turned (w : Window) (t q u k : ℕ) : Type 0 where
 -- The section is needed, by the numbers of a view.
 unfoldable pub isNeeded : View → ℕ → ℕ → ℕ → ℕ → Bool
 isNeeded v t q u k = leb t u && testBit (getD (v .rotations) t 0) q && testBit (getD (v .rotations) u 0) k
+
+-- ---- choosing a window
+
+-- What a window may grow from.
+pub record Growing (v : View) (gap limit : ℕ) (w : Window) : Type 0 where
+  pub bounded : Bounded v
+  pub few : gap ≤ 63
+  pub most : limit ≤ 196608
+  pub window : Roomy v w
