@@ -34,7 +34,7 @@ unfolding sections
 fill-next-requires c κs =
     let at = c .before .before in
     let e = at .before .before .before .before in
-    (e .pre .0, ((e .pre .1 .0, at .loop .inv .1 ∙ e .pre .1 .1), (c .before .loop-test .taken, at .loop .inv .2)))
+    (e .pre .0, ((e .pre .1 .0, at .loop .inv .1 ∙ e .pre .1 .1), (omega arith, at .loop .inv .2)))
 
 add-i : tie.Need-add-i Inv-loop μ-loop
 add-i c =
