@@ -1,22 +1,22 @@
 -- Filling the table of conflicts by offset, cell by cell and section by section. Assumes nothing.
-use mathlib.Core.Bool.{Bool, true, false, _&&_}
-use mathlib.Core.List.{List, [], _∷_, map}
+use mathlib.Core.Bool.{Bool, true, false}
+use mathlib.Core.List.{List, [], _∷_}
 use mathlib.Core.Logic.{_⊎_, inl, inr, ⊎-elim}
-use mathlib.Core.Path.{_≡_, refl, sym, ap, ap₂, subst, _∙_}
-use Prim.Native.Nat.{ℕ, zero, suc, _+_, _-_, _*_, _/_, _%_, _^_, _≤_, _<_}
+use mathlib.Core.Path.{_≡_, refl, sym, ap, ap₂, _∙_}
+use Prim.Native.Nat.{ℕ, suc, _+_, _-_, _*_, _/_, _%_, _^_, _≤_, _<_}
 use native.Mathlib.Nat.{suc-mul, lt-of-le-of-lt, le-trans, mul-le-mul-right, not-suc-le-zero, mod-lt, mod-eq-of-lt, div-eq-of-lt, mul-add-div-right, mul-add-mod-self-right, div-lt-iff-lt-mul, div-add-mod'}
 use native.Mathlib.Omega.{arith}
 use borrow.Author.Count.{below-more}
 use borrow.Author.Tests.{le-leb}
-use lib.Dec.{leb, lit≤, lit<}
+use lib.Dec.{lit≤, lit<}
 use lib.IntN.{ℤ, pos, _+ℤ_, _-ℤ_}
-use lib.ListN.{length, getD}
+use lib.ListN.{length}
 use mir.Syntax.{w16, w64}
 use mir.Val.{SFits, toZ, ofZ}
 use mir.ValLaws.{toZ-ofZ, toZ-pos}
 use Rattle.integers.proofs.Sizes.{bounded, fits-natAbs}
 use Rattle.integers.proofs.Solver.{_⊞_, _⊟_}
-use Rattle.words.specs.Bits.{testBit, assignedBit}
+use Rattle.words.specs.Bits.{assignedBit}
 use Rattle.words.specs.Bytes.{AreBytes}
 use Rattle.words.specs.Sets.{wordOffset, member, changed}
 use Rattle.words.proofs.Cases.{le-or-lt}
@@ -24,13 +24,10 @@ use Rattle.words.proofs.Member.{member-with-same, member-with-other, member-wit
 use Rattle.model.specs.Content.{Job, kindAt, kindCount}
 use Rattle.model.specs.Format.{content}
 use Rattle.model.specs.Gap.{pairGap}
-use Rattle.model.specs.Geometry.{piecesConflict}
-use Rattle.model.proofs.Lists.{and-left, and-right}
-use Rattle.geometry.specs.Flat.{shifted}
 use Rattle.geometry.proofs.Sizes.{size-of, fits-64}
 use Rattle.job.specs.declared.View.{View}
 use Rattle.candidates.specs.Offsets.{offsetConflict, width, height, area, turns, sectionOf, sections, cellOf, cells, offsetCell, fromMiddle, Needed, SectionsOf, Sized, Written, conflictAtCell, kindsAtCell, isNeeded}
-use Rattle.candidates.specs.Pieces.{PieceOf, partsIn}
+use Rattle.candidates.specs.Pieces.{PieceOf}
 use Rattle.candidates.specs.Turned.{Viewed, TurnedOf}
 use Rattle.candidates.specs.declared.offsets.Window.{Window}
 use Rattle.candidates.specs.declared.pieces.Piece.{Piece}

@@ -1,23 +1,23 @@
 -- The table of conflicts by offset: its cells, and what it says of the model's conflict. Assumes nothing.
-use mathlib.Core.Bool.{Bool, true, false, _&&_}
+use mathlib.Core.Bool.{true, _&&_}
 use mathlib.Core.List.{List, [], _∷_, map}
-use mathlib.Core.Path.{_≡_, refl, sym, ap, ap₂, subst, _∙_}
-use Prim.Native.Nat.{ℕ, zero, suc, _+_, _-_, _*_, _/_, _%_, _≤_, _<_}
-use native.Mathlib.Nat.{add-mul, suc-mul, le-trans, lt-of-lt-of-le, mul-le-mul, mul-le-mul-left, mul-le-mul-right, div-le-self}
+use mathlib.Core.Path.{_≡_, sym, ap, ap₂, _∙_}
+use Prim.Native.Nat.{ℕ, suc, _+_, _-_, _*_, _/_, _%_, _≤_, _<_}
+use native.Mathlib.Nat.{add-mul, suc-mul, lt-of-lt-of-le, mul-le-mul, mul-le-mul-right, div-le-self}
 use native.Mathlib.Omega.{arith}
 use borrow.Author.Tests.{ltb-true, leb-true}
 use lib.Dec.{leb, ltb}
-use lib.IntN.{ℤ, pos, _-ℤ_}
+use lib.IntN.{pos, _-ℤ_}
 use lib.ListN.{length, getD}
 use Rattle.integers.proofs.Linear.{integers, parts--ℤ}
 use Rattle.words.specs.Bits.{testBit}
-use Rattle.words.specs.Sets.{wordOffset, member}
-use Rattle.model.specs.Candidate.{placedPart, placedParts, admitted, isCandidate}
-use Rattle.model.specs.Content.{Part, Board, Job, kindAt, kindCount}
+use Rattle.words.specs.Sets.{member}
+use Rattle.model.specs.Candidate.{placedParts, admitted, isCandidate}
+use Rattle.model.specs.Content.{Part, Job, kindAt, kindCount}
 use Rattle.model.specs.Format.{content, refusal}
 use Rattle.model.specs.Gap.{pairGap}
 use Rattle.model.specs.Geometry.{rotated, piecesConflict}
-use Rattle.model.specs.Grid.{Placement, placement, rows, columns, placementOf}
+use Rattle.model.specs.Grid.{Placement, rows, columns, placementOf}
 use Rattle.model.specs.Layout.{entry, entryOf, entryKind, conflict}
 use Rattle.model.proofs.AcceptedKinds.{kind-ranges}
 use Rattle.model.proofs.Lists.{and-left, and-right}

@@ -1,6 +1,6 @@
 -- `candidates::offsets::cells_of` meets its contract. Assumes nothing.
 use mathlib.Core.Path.{refl}
-use Prim.Native.Nat.{_*_, _≤_}
+use Prim.Native.Nat.{_*_}
 use native.Mathlib.Nat.{mul-le-mul}
 use native.Mathlib.Omega.{arith}
 use Rattle.candidates.specs.Offsets.{width, height, turns, area, sections, cells}

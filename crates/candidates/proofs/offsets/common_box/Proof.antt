@@ -1,6 +1,5 @@
 -- `candidates::offsets::common_box` meets its contract. Assumes nothing.
 use Prim.Native.Nat.{_-_, _≤_}
-use native.Mathlib.Omega.{arith}
 use borrow.Author.Needs.{needs}
 use Rattle.candidates.proofs.offsets.common_box.Statement.{statement}
 use Rattle.candidates.proofs.offsets.common_box.Tie as tie

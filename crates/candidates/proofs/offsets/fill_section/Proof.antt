@@ -1,7 +1,7 @@
 -- `candidates::offsets::fill_section` meets its contract. Assumes nothing.
 use mathlib.Core.List.{map}
-use mathlib.Core.Path.{_≡_, refl, sym, ap, ap₂, subst, _∙_}
-use Prim.Native.Nat.{_+_, _-_, _*_, _/_, _%_, _≤_, _<_}
+use mathlib.Core.Path.{_≡_, refl, ap₂, subst, _∙_}
+use Prim.Native.Nat.{_+_, _-_, _/_, _%_, _≤_, _<_}
 use native.Mathlib.Omega.{arith}
 use borrow.Author.Needs.{sfits-of}
 use denote.Ref.{now}
@@ -13,7 +13,7 @@ use Rattle.model.specs.Geometry.{piecesConflict}
 use Rattle.geometry.specs.Flat.{shifted}
 use Rattle.candidates.specs.Pieces.{partsIn}
 use Rattle.words.specs.Bytes.{AreBytes}
-use Rattle.candidates.specs.Offsets.{area, height, width, Written, conflictAtCell}
+use Rattle.candidates.specs.Offsets.{area, height, Written, conflictAtCell}
 use Rattle.candidates.proofs.OffsetFilling.{twice-middle, cell-column, cell-row, written-none, written-more}
 use borrow.Author.Needs.{needs}
 use Rattle.candidates.proofs.offsets.fill_section.Statement.{statement}

@@ -4,7 +4,7 @@ use mathlib.Core.Path.{refl}
 use Prim.Native.Nat.{_*_}
 use native.Mathlib.Nat.{mul-le-mul}
 use borrow.Author.Needs.{needs}
-use Rattle.candidates.specs.Offsets.{cells, sections, area, turns, Roomy}
+use Rattle.candidates.specs.Offsets.{cells, sections, area, Roomy}
 use Rattle.candidates.proofs.offsets.window_of.Statement.{statement}
 use Rattle.candidates.proofs.offsets.window_of.Tie as tie
 
