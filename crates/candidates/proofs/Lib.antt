@@ -7,3 +7,5 @@ pub mod PlacementLaws
 pub mod RowLaws
 pub mod PreparedLaws
 pub mod AnswerLaws
+pub mod OffsetLaws
+pub mod OffsetFilling

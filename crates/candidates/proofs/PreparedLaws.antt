@@ -64,7 +64,7 @@ reached n g c h =
     omega arith
 
 -- the board's numbers are at most 1000
-sheet-range : (s : List ℕ) → refusal s ≡ 0 → (content s .sheet .W ≤ 1000) × (content s .sheet .L ≤ 1000) × (content s .sheet .g ≤ 1000)
+pub sheet-range : (s : List ℕ) → refusal s ≡ 0 → (content s .sheet .W ≤ 1000) × (content s .sheet .L ≤ 1000) × (content s .sheet .g ≤ 1000)
 unfolding content
 sheet-range s e = let f = board-fits s (accepted-no-cause s e .not4) in (f .widthMost, f .lengthMost, f .stepMost)
 

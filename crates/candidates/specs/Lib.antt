@@ -4,3 +4,4 @@ pub mod Pieces
 pub mod Boxes
 pub mod Placements
 pub mod Rows
+pub mod Offsets
