@@ -65,7 +65,7 @@ pub fn is_candidate(view: View, boxes: Boxes, kind: usize, number: usize) -> boo
 }
 
 // The x of what ends at `high`, moved by this much; 0 where that lies before the board.
-fn end_of(high: i16, by: usize) -> usize
+pub fn end_of(high: i16, by: usize) -> usize
     requires { ⌜ by ≤ 1000 ⌝ }
     ensures { λ r. ⌜ r ≡ natural (high +ℤ pos by) ⌝ }
 {

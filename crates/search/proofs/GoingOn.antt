@@ -96,8 +96,8 @@ module _ (j : Job) (ns : List ℕ) where
 
     -- ---- Look-ahead
 
-    pub settle-ready : level < pieceCount j → Placeable j ns level (st .bound) work
-    settle-ready h = record { within = h; fits = r .work-fits; first = t .first; latest = t .latest; sets = r .sets }
+    pub settle-ready : level < pieceCount j → 0 < level → Placeable j ns level (st .bound) work
+    settle-ready h p = record { within = h; fits = r .work-fits; later = p; latest = t .latest p; sets = r .sets }
 
     short : layoutLength j (placedOf j ns level) < boundOf j (heldOf j (st .found) out)
     short = rw (← (r .len-is), ← (r .bound-is)) (t .below)

@@ -12,7 +12,7 @@ pub mod Meeting
 pub mod Sifting
 pub mod Filling
 pub mod Slots
-pub mod Tables
+pub mod PlanLaws
 pub mod Limits
 pub mod PieceOrder
 pub mod Making

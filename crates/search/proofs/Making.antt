@@ -6,7 +6,7 @@ use mathlib.Core.Path.{_≡_, refl, sym, ap, _∙_, subst}
 use Prim.Native.Nat.{ℕ, zero, suc, _+_, _*_, _-_, _≤_, _<_}
 use native.Mathlib.Numerals.{add-one}
 use native.Mathlib.Omega.{arith}
-use borrow.Author.Tests.{eq-eqb, ne-eqb, leb-true, leb-false}
+use borrow.Author.Tests.{eq-eqb, ne-eqb, le-leb, leb-true, leb-false}
 use lib.Dec.{leb, ltb, eqb}
 use lib.ListN.{length, getD, drop}
 use Rattle.words.specs.Sets.{member, countMembers}
@@ -103,19 +103,26 @@ module _ (j : Job) where
         behind = refl;
       }
 
-  -- The set is made, and its members are counted.
-  pub kind-made : (ns : List ℕ) (level bound u members : ℕ) (work work′ : List ℕ) → 0 < copiesLeft u (piecesFrom j level) → Made j ns level bound u work work′
-      → members ≡ countMembers (setWords (j .sheet) * 64) (slotOf j work′ level u)
-      → KindSettled j ns level bound u work work′ (leb (copiesLeft u (piecesFrom j level)) members)
-  kind-made ns level bound u members work work′ p m e =
+  -- The set is made, and its members are counted. (No copies are never too many.)
+  pub kind-made : (ns : List ℕ) (level bound u copies members : ℕ) (work work′ : List ℕ) → copies ≡ copiesLeft u (piecesFrom j level) → Made j ns level bound u work work′
+      → members ≡ countMembers (setWords (j .sheet) * 64) (slotOf j work′ level u) → KindSettled j ns level bound u work work′ (leb copies members)
+  kind-made ns level bound u copies members work work′ q m e =
       record {
         answer =
-            sym (rw (ne-eqb (copiesLeft u (piecesFrom j level)) 0 (λ q. omega arith))
-            (ap (leb (copiesLeft u (piecesFrom j level))) (sym (e ∙ keeps-count j (placedOf j ns level) bound u (slotOf j work′ level u) (m .kept)))));
+            ap (λ (n : ℕ). leb n members) q
+            ∙ ap (leb (copiesLeft u (piecesFrom j level))) (e ∙ keeps-count j (placedOf j ns level) bound u (slotOf j work′ level u) (m .kept))
+            ∙ sym (none-or (copiesLeft u (piecesFrom j level)) (membersOf j (placedOf j ns level) bound u));
         kept = λ q. m .kept;
         outside = m .outside;
         behind = m .behind;
       }
+    where
+      none-or : (n k : ℕ) → (eqb n 0 || leb n k) ≡ leb n k
+      none-or n k = go (eq-or-ne n 0)
+        where
+          go : (n ≡ 0) ⊎ (n ≡ 0 → ⊥) → (eqb n 0 || leb n k) ≡ leb n k
+          go (inl q) = rw (eq-eqb n 0 q) (sym (le-leb n k (omega arith)))
+          go (inr q) = rw (ne-eqb n 0 q)
 
   -- ---- Kind after kind
 
@@ -182,7 +189,7 @@ module _ (j : Job) where
       record {
         within = p .within;
         fits = rw e (p .fits);
-        first = p .first;
+        later = p .later;
         latest = p .latest;
         sets = λ l u h g k. keeps-frame j (placedOf j ns l) bound l level u work work′ h g f (p .sets l u h g k);
       }

@@ -2,29 +2,30 @@
 use mathlib.Core.Bool.{Bool, true, false, not, _&&_, _||_, and-false}
 use mathlib.Core.List.{List}
 use mathlib.Core.Path.{_≡_, refl, sym, ap, _∙_, subst}
-use Prim.Native.Nat.{ℕ, _/_, _%_, _≤_, _<_}
+use Prim.Native.Nat.{ℕ, _+_, _*_, _/_, _%_, _≤_, _<_}
 use native.Mathlib.Omega.{arith}
 use borrow.Author.Tests.{le-ltb, lt-ltb, le-leb, lt-leb, eqb-true, leb-true, leb-false}
 use lib.Dec.{leb, ltb, eqb}
-use lib.IntN.{ℤ}
-use Rattle.model.specs.Candidate.{isCandidate, extent}
+use lib.IntN.{ℤ, pos, _+ℤ_}
+use lib.ListN.{getD}
+use Rattle.model.specs.Candidate.{isCandidate, natural, extent}
 use Rattle.model.specs.Content.{Job, kindAt, kindCount}
 use Rattle.model.specs.Format.{content}
 use Rattle.model.specs.Gap.{pairGap}
 use Rattle.model.specs.Grid.{placement, placementOf, rows, numberLimit}
 use Rattle.model.specs.Layout.{entryOf, entryKind, entryExtent, conflict}
+use Rattle.model.proofs.Accepted.{accepted-kinds}
 use Rattle.model.proofs.Lists.{and-left, and-right}
 use Rattle.model.proofs.Search.Pieces.{entry-kind}
-use Rattle.job.specs.declared.View.{View}
-use Rattle.candidates.specs.Placements.{Bounded, offered, extentAt}
+use Rattle.candidates.specs.Pieces.{PieceOf}
+use Rattle.candidates.specs.Placements.{Bounded, extentAt}
 use Rattle.candidates.specs.Rows.{placedOf, Near, conflictBetween}
 use Rattle.candidates.specs.Turned.{Viewed}
-use Rattle.candidates.specs.declared.boxes.Boxes.{Boxes}
-use Rattle.candidates.proofs.PreparedLaws.{bounded, offered-is, extent-is, numbers-conflict, number-near, candidate-number}
-use Rattle.candidates.proofs.RowLaws.{candidate-column}
-use Rattle.search.specs.Known.{Known, PairOf}
+use Rattle.candidates.specs.declared.offsets.Window.{Window}
+use Rattle.candidates.specs.declared.pieces.Piece.{Piece}
+use Rattle.candidates.proofs.PreparedLaws.{bounded, extent-is, numbers-conflict, number-near, candidate-number}
+use Rattle.search.specs.Known.{Known}
 use Rattle.search.specs.Narrowing.{stays}
-use Rattle.search.specs.declared.board.Pair.{Pair}
 use Rattle.search.specs.declared.plan.Plan.{Plan}
 use Rattle.search.proofs.Extents.{candidate-entry}
 
@@ -33,43 +34,41 @@ pub candidate-kind : (j : Job) (u m : ℕ) → isCandidate j u m ≡ true → u 
 unfolding entryOf
 candidate-kind j u m e = entry-kind j (entryOf j u m) (candidate-entry j u m ∙ e)
 
-module _ (s : List ℕ) (v : View) (p : Plan) (table : List ℤ) (b : Boxes) (k : Known s v p table b) where
-  -- The job is accepted, and the view is its own.
-  pub viewed : Viewed s v
-  viewed = record { accepted = k .accepted; view = k .view }
+module _ (s : List ℕ) (p : Plan) (w : Window) (table : List ℤ) (bits : List ℕ) (k : Known s p w table bits) where
+  -- The job is accepted, and this is its view.
+  pub viewed : Viewed s (k .plan .view)
+  viewed = record { accepted = k .plan .accepted; view = k .plan .viewed }
 
-  pub limits : Bounded v
-  limits = bounded s v viewed
+  limits : Bounded (k .plan .view)
+  limits = bounded s (k .plan .view) viewed
 
-  -- The kinds that the view counts are those of the job.
-  pub kind-within : (u : ℕ) → u < kindCount (content s) → u < v .kinds
-  kind-within u h = rw (k .view .kinds) h
+  -- The board has a row.
+  pub some-row : 1 ≤ p .rows
+  some-row = rw (k .plan .rows) (limits .rows .0)
 
-  pub candidate-is : (u m : ℕ) → u < kindCount (content s) → offered v b u m ≡ isCandidate (content s) u m
-  candidate-is u m h = offered-is s v b viewed (k .boxed) u h m
+  -- There are eight kinds at most.
+  pub few-kinds : kindCount (content s) ≤ 8
+  few-kinds = accepted-kinds s (k .plan .accepted) .few-kinds
 
   module _ (u m : ℕ) (c : isCandidate (content s) u m ≡ true) where
-    -- A candidate's column is one of the board's.
-    pub column-below : m / 4 / v .rows < v .columns
-    column-below = candidate-column v b u m (candidate-is u m (candidate-kind (content s) u m c) ∙ c)
-
-    -- Its end, by the box of its kind.
-    pub end-is : extentAt v b u (m / 4 / v .rows) (m % 4) ≡ entryExtent (content s) (entryOf (content s) u m)
-    unfolding entryExtent entryKind entryOf placementOf
-    end-is =
-        ap (λ (r : ℕ). extentAt v b u (m / 4 / r) (m % 4)) (k .view .rows)
-        ∙ extent-is s v b viewed (k .boxed) u (candidate-kind (content s) u m c) (m / 4 / rows (content s .sheet)) (m / 4 % rows (content s .sheet)) (m % 4) (omega arith)
-
     -- It is near.
-    pub near : Near (v .step) (placedOf (v .rows) m)
-    near = number-near s v viewed m (candidate-number (content s) u m c)
+    pub near : Near (p .step) (placedOf (p .rows) m)
+    near = rw (k .plan .step, k .plan .rows) (number-near s (k .plan .view) viewed m (candidate-number (content s) u m c))
 
-  -- The conflict of a placed candidate with another, by what the pair has in common.
-  pub pair-conflict : (t n u m : ℕ) (pair : Pair) → PairOf s v t n u pair
-      → conflictBetween table (v .step) (pair .first) (pair .place) (pair .second) (placedOf (v .rows) m) (pair .gap)
-      ≡ conflict (content s) (entryOf (content s) t n) (entryOf (content s) u m)
-  pair-conflict t n u m pair r =
-      rw (r .place, r .gap) (numbers-conflict s v table viewed (k .table) t u (r .kinds .0) (r .kinds .1) (pair .first) (pair .second) (r .first) (r .second) n m)
+    -- Its end, by the end of its kind on the first column.
+    pub end-is : natural (getD (p .ends) (u * 4 + m % 4) (pos 0) +ℤ pos (m / 4 / p .rows * p .step)) ≡ entryExtent (content s) (entryOf (content s) u m)
+    unfolding entryExtent entryKind entryOf placementOf extentAt
+    end-is =
+        let h : u < kindCount (content s) = candidate-kind (content s) u m c in
+        rw (k .plan .ends u (m % 4) h (omega arith), k .plan .rows, k .plan .step, k .plan .viewed .rows)
+        (extent-is s (k .plan .view) (k .plan .boxes) viewed (k .plan .boxed) u h (m / 4 / rows (content s .sheet)) (m / 4 % rows (content s .sheet)) (m % 4) (omega arith))
+
+  -- The conflict of two candidates, by the corners of their kinds.
+  pub corners-conflict : (t n u m : ℕ) (first second : Piece) (gap : ℕ) → t < kindCount (content s) → u < kindCount (content s)
+      → PieceOf s t first → PieceOf s u second → gap ≡ pairGap (content s) (kindAt (content s) t) (kindAt (content s) u)
+      → conflictBetween table (p .step) first (placedOf (p .rows) n) second (placedOf (p .rows) m) gap ≡ conflict (content s) (entryOf (content s) t n) (entryOf (content s) u m)
+  corners-conflict t n u m first second gap ht hu f g e =
+      rw (k .plan .step, k .plan .rows, e) (numbers-conflict s (k .plan .view) table viewed (k .table) t u ht hu first second f g n m)
 
 -- ---- The three tests
 

@@ -35,12 +35,12 @@ SetsKept j ns depth bound work =
 
 -- ---- The sets of one level
 
--- The sets of this level can be made: those below are kept, and the latest piece was a member; or it is the first level and nothing is held.
+-- The sets of this level, which is not the first, can be made: those below are kept, and the latest piece was a member.
 pub record Placeable (j : Job) (ns : List ℕ) (level bound : ℕ) (work : List ℕ) : Type 0 where
   pub within : level < pieceCount j
   pub fits : workWords j * 8 ≤ length work
-  pub first : level ≡ 0 → bound ≡ j .sheet .L + 1
-  pub latest : 0 < level → setOf j (placedOf j ns (level - 1)) bound (pieceKind j (level - 1)) (numbersAt ns (level - 1)) ≡ true
+  pub later : 0 < level
+  pub latest : setOf j (placedOf j ns (level - 1)) bound (pieceKind j (level - 1)) (numbersAt ns (level - 1)) ≡ true
   pub sets : SetsKept j ns level bound work
 
 -- The set of this level and kind is made, and no other changed.

@@ -1,114 +1,178 @@
-// Where the search meets the geometry: candidates, their ends, and what stays once a piece is placed.
+// Where the search meets the geometry: the ends of candidates, and which candidates stay once a piece is placed.
 ghost use mathlib.Core.Bool.{true};
 ghost use mathlib.Core.Path.{_≡_};
 ghost use Prim.Native.Nat.{_<_};
 ghost use Rattle.model.specs.Candidate.{isCandidate};
-ghost use Rattle.model.specs.Content.{kindCount};
+ghost use Rattle.model.specs.Content.{kindAt, kindCount};
 ghost use Rattle.model.specs.Format.{content};
-ghost use Rattle.model.specs.Layout.{entryOf, entryExtent};
-ghost use Rattle.search.specs.Known.{Known, PairOf};
+ghost use Rattle.model.specs.Gap.{pairGap};
+ghost use Rattle.model.specs.Layout.{entryOf, entryExtent, conflict};
+ghost use Rattle.candidates.specs.Rows.{placedOf};
+ghost use Rattle.search.specs.Known.{Known};
 ghost use Rattle.search.specs.Narrowing.{stays};
 use crate::plan::Plan;
-use candidates::boxes::Boxes;
+use crate::plan::piece_in;
 use candidates::conflicts::Placed;
 use candidates::conflicts::conflict_between;
-use candidates::conflicts::pair_gap;
 use candidates::conflicts::placed_of;
-use candidates::pieces::Piece;
-use candidates::pieces::piece_of;
+use candidates::offsets::Window;
+use candidates::offsets::conflict_at;
+use candidates::offsets::covers;
 use candidates::placements;
-use job::View;
 
-// What the conflicts of a placed candidate with the candidates of a kind have in common: the parts of both, the place, and the gap of the pair.
-pub struct Pair {
-    pub first: Piece,
-    pub place: Placed,
-    pub second: Piece,
-    pub gap: u16,
-}
-
-// Kind u has a candidate of number m.
-pub fn is_candidate(
+// Where candidate m of kind u ends, which stands at this place.
+fn end_at(
     job: &[u8],
-    view: View,
     plan: Plan,
+    window: Window,
     turned: &[i16],
-    boxes: Boxes,
+    conflicts: &[u8],
     u: usize,
     m: usize,
-) -> bool
-    requires { ⌜ Known (now job) view plan (now turned) boxes × (u < kindCount (content (now job))) ⌝ }
-    ensures { λ r. ⌜ r ≡ isCandidate (content (now (job .entry))) u m ⌝ }
+    place: Placed,
+) -> usize
+    requires { ⌜ Known (now job) plan window (now turned) (now conflicts) × (isCandidate (content (now job)) u m ≡ true) ⌝ }
+    requires { ⌜ place ≡ placedOf (plan .rows) m ⌝ }
+    ensures { λ r. ⌜ r ≡ entryExtent (content (now (job .entry))) (entryOf (content (now (job .entry))) u m) ⌝ }
 {
-    placements::is_candidate(view, boxes, u, m)
+    let ends = plan.ends;
+    placements::end_of(ends[u * 4 + place.rotation], place.column * plan.step)
 }
 
 // Where candidate m of kind u ends.
 pub fn end_of(
     job: &[u8],
-    view: View,
     plan: Plan,
+    window: Window,
     turned: &[i16],
-    boxes: Boxes,
+    conflicts: &[u8],
     u: usize,
     m: usize,
 ) -> usize
-    requires { ⌜ Known (now job) view plan (now turned) boxes × (isCandidate (content (now job)) u m ≡ true) ⌝ }
+    requires { ⌜ Known (now job) plan window (now turned) (now conflicts) × (isCandidate (content (now job)) u m ≡ true) ⌝ }
     ensures { λ r. ⌜ r ≡ entryExtent (content (now (job .entry))) (entryOf (content (now (job .entry))) u m) ⌝ }
 {
-    let place = placed_of(view.rows, m);
-    placements::extent(view, boxes, u, place.column, place.rotation)
+    let place = placed_of(plan.rows, m);
+    end_at(job, plan, window, turned, conflicts, u, m, place)
 }
 
-// The pair of candidate n of kind t, which is placed, and kind u.
-pub fn pair_of(
+// The gap of a pair of kinds: the larger of the two.
+fn pair_gap(
     job: &[u8],
-    view: View,
     plan: Plan,
+    window: Window,
     turned: &[i16],
-    boxes: Boxes,
+    conflicts: &[u8],
+    t: usize,
+    u: usize,
+) -> u16
+    requires { ⌜ Known (now job) plan window (now turned) (now conflicts) × (t < kindCount (content (now job))) × (u < kindCount (content (now job))) ⌝ }
+    ensures { λ r. ⌜ r ≡ pairGap (content (now (job .entry))) (kindAt (content (now (job .entry))) t) (kindAt (content (now (job .entry))) u) ⌝ }
+{
+    let gaps = plan.gaps;
+    let g = gaps[t];
+    let h = gaps[u];
+    if g < h { h as u16 } else { g as u16 }
+}
+
+// Whether candidate n of kind t, at the first place, is in conflict with candidate m of kind u, at the second, by the corners of both.
+fn conflict_by_corners(
+    job: &[u8],
+    plan: Plan,
+    window: Window,
+    turned: &[i16],
+    conflicts: &[u8],
     t: usize,
     n: usize,
+    from: Placed,
     u: usize,
-) -> Pair
-    requires { ⌜ Known (now job) view plan (now turned) boxes × (t < kindCount (content (now job))) × (u < kindCount (content (now job))) ⌝ }
-    ensures { λ r. ⌜ PairOf (now (job .entry)) view t n u r ⌝ }
+    m: usize,
+    place: Placed,
+) -> bool
+    requires { ⌜ Known (now job) plan window (now turned) (now conflicts) ⌝ }
+    requires { ⌜ (isCandidate (content (now job)) t n ≡ true) × (isCandidate (content (now job)) u m ≡ true) ⌝ }
+    requires { ⌜ (from ≡ placedOf (plan .rows) n) × (place ≡ placedOf (plan .rows) m) ⌝ }
+    ensures { λ r. ⌜ r ≡ conflict (content (now (job .entry))) (entryOf (content (now (job .entry))) t n) (entryOf (content (now (job .entry))) u m) ⌝ }
 {
-    Pair {
-        first: piece_of(job, view, t),
-        place: placed_of(view.rows, n),
-        second: piece_of(job, view, u),
-        gap: pair_gap(view, t, u),
-    }
+    let first = piece_in(job, plan, t);
+    let second = piece_in(job, plan, u);
+    let gap = pair_gap(job, plan, window, turned, conflicts, t, u);
+    conflict_between(turned, plan.step, first, from, second, place, gap)
 }
 
-// Candidate m of kind u stays once candidate n of kind t is placed. The cheap tests come first.
+// The same, looked up where the table of offsets has it.
+fn in_conflict(
+    job: &[u8],
+    plan: Plan,
+    window: Window,
+    turned: &[i16],
+    conflicts: &[u8],
+    t: usize,
+    n: usize,
+    from: Placed,
+    u: usize,
+    m: usize,
+    place: Placed,
+) -> bool
+    requires { ⌜ Known (now job) plan window (now turned) (now conflicts) ⌝ }
+    requires { ⌜ (isCandidate (content (now job)) t n ≡ true) × (isCandidate (content (now job)) u m ≡ true) ⌝ }
+    requires { ⌜ (from ≡ placedOf (plan .rows) n) × (place ≡ placedOf (plan .rows) m) ⌝ }
+    ensures { λ r. ⌜ r ≡ conflict (content (now (job .entry))) (entryOf (content (now (job .entry))) t n) (entryOf (content (now (job .entry))) u m) ⌝ }
+{
+    if (t <= u) & covers(window, from, place) {
+        return conflict_at(job, window, conflicts, plan.rows, t, n, from, u, m, place);
+    }
+    conflict_by_corners(
+        job,
+        plan,
+        window,
+        turned,
+        conflicts,
+        t,
+        n,
+        from,
+        u,
+        m,
+        place,
+    )
+}
+
+// Candidate m of kind u stays once candidate n of kind t is placed, where `from` says. The cheap tests come first.
 pub fn still_live(
     job: &[u8],
-    view: View,
     plan: Plan,
+    window: Window,
     turned: &[i16],
-    boxes: Boxes,
-    pair: Pair,
+    conflicts: &[u8],
     bound: usize,
     t: usize,
     n: usize,
+    from: Placed,
     u: usize,
     m: usize,
 ) -> bool
-    requires { ⌜ Known (now job) view plan (now turned) boxes × PairOf (now job) view t n u pair ⌝ }
+    requires { ⌜ Known (now job) plan window (now turned) (now conflicts) × (from ≡ placedOf (plan .rows) n) ⌝ }
     requires { ⌜ (isCandidate (content (now job)) t n ≡ true) × (isCandidate (content (now job)) u m ≡ true) ⌝ }
     ensures { λ r. ⌜ r ≡ stays (content (now (job .entry))) bound t n u m ⌝ }
 {
     if (t == u) & (m <= n) {
         return false;
     }
-    let place = placed_of(view.rows, m);
-    if placements::extent(view, boxes, u, place.column, place.rotation) >= bound {
+    let place = placed_of(plan.rows, m);
+    if end_at(job, plan, window, turned, conflicts, u, m, place) >= bound {
         return false;
     }
-    let first = pair.first;
-    let from = pair.place;
-    let second = pair.second;
-    !conflict_between(turned, view.step, first, from, second, place, pair.gap)
+    !in_conflict(
+        job,
+        plan,
+        window,
+        turned,
+        conflicts,
+        t,
+        n,
+        from,
+        u,
+        m,
+        place,
+    )
 }

@@ -1,4 +1,5 @@
 // The run service: the walk over the pieces under a step budget, with live sets kept in the lent work words.
+mod beginning;
 mod board;
 mod lookahead;
 mod narrowing;

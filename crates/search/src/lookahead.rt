@@ -1,4 +1,4 @@
-// The live sets of one level, one for each kind with copies left, and look-ahead: whether each has members for its copies.
+// The live sets of a level behind the first, one for each kind with copies left, and look-ahead: whether each has members for its copies.
 ghost use mathlib.Core.Path.{_≡_};
 ghost use Prim.Native.Nat.{_+_, _*_, _≤_, _<_};
 ghost use lib.ListN.{length};
@@ -10,87 +10,82 @@ ghost use Rattle.search.specs.Known.{Known};
 ghost use Rattle.search.specs.Levels.{piecesFrom};
 ghost use Rattle.search.specs.Slots.{SetPlace};
 ghost use Rattle.search.specs.Walk.{Placeable, Made, KindSettled, Settled};
-use crate::narrowing::fill;
 use crate::narrowing::narrow;
 use crate::plan::Plan;
-use candidates::boxes::Boxes;
-use job::View;
+use candidates::offsets::Window;
 use words::sets;
 
 // The word at which the set of level l and kind u begins.
 pub fn set_start(
     job: &[u8],
-    view: View,
     plan: Plan,
+    window: Window,
     turned: &[i16],
-    boxes: Boxes,
+    conflicts: &[u8],
     l: usize,
     u: usize,
 ) -> usize
-    requires { ⌜ Known (now job) view plan (now turned) boxes × (l < pieceCount (content (now job))) × (u < kindCount (content (now job))) ⌝ }
+    requires { ⌜ Known (now job) plan window (now turned) (now conflicts) × (l < pieceCount (content (now job))) × (u < kindCount (content (now job))) ⌝ }
     ensures { λ r. ⌜ SetPlace (content (now (job .entry))) l u r ⌝ }
 {
-    (l * view.kinds + u) * plan.words
+    (l * plan.types + u) * plan.words
 }
 
-// The set of this level and kind: at the first level all candidates, at a later one what is left of the set of the level before.
+// The set of this level and kind: what is left of the set of the level before.
 fn make_set(
     job: &[u8],
-    view: View,
     plan: Plan,
+    window: Window,
     turned: &[i16],
-    boxes: Boxes,
+    conflicts: &[u8],
     bound: usize,
     numbers: [usize; 12],
     level: usize,
     u: usize,
     work: &mut [u8],
 )
-    requires { ⌜ Known (now job) view plan (now turned) boxes ⌝ }
+    requires { ⌜ Known (now job) plan window (now turned) (now conflicts) ⌝ }
     requires { ⌜ Placeable (content (now job)) numbers level bound (now work) ⌝ }
     requires { ⌜ (u < kindCount (content (now job))) × (0 < copiesLeft u (piecesFrom (content (now job)) level)) ⌝ }
     ensures { λ _. ⌜ Made (content (now (job .entry))) numbers level bound u (now (work .entry)) (now (work .exit)) ⌝ }
 {
     let words = plan.words;
-    let to = set_start(job, view, plan, turned, boxes, level, u);
-    if level == 0 {
-        fill(job, view, plan, turned, boxes, u, work, to, words);
-    } else {
-        let before = level - 1;
-        let kinds = plan.kinds;
-        let from = set_start(job, view, plan, turned, boxes, before, u);
-        narrow(
-            job,
-            view,
-            plan,
-            turned,
-            boxes,
-            bound,
-            kinds[before],
-            numbers[before],
-            u,
-            work,
-            from,
-            to,
-            words,
-        );
-    }
+    let to = set_start(job, plan, window, turned, conflicts, level, u);
+    let before = level - 1;
+    let from = set_start(job, plan, window, turned, conflicts, before, u);
+    let kinds = plan.kinds;
+    let kind = kinds[before];
+    narrow(
+        job,
+        plan,
+        window,
+        turned,
+        conflicts,
+        bound,
+        kind as usize,
+        numbers[before],
+        u,
+        work,
+        from,
+        to,
+        words,
+    );
 }
 
 // The set of this level and kind, if copies of the kind are left, and whether it has members for them.
 fn settle_kind(
     job: &[u8],
-    view: View,
     plan: Plan,
+    window: Window,
     turned: &[i16],
-    boxes: Boxes,
+    conflicts: &[u8],
     bound: usize,
     numbers: [usize; 12],
     level: usize,
     u: usize,
     work: &mut [u8],
 ) -> bool
-    requires { ⌜ Known (now job) view plan (now turned) boxes ⌝ }
+    requires { ⌜ Known (now job) plan window (now turned) (now conflicts) ⌝ }
     requires { ⌜ Placeable (content (now job)) numbers level bound (now work) ⌝ }
     requires { ⌜ u < kindCount (content (now job)) ⌝ }
     ensures { λ r. ⌜ KindSettled (content (now (job .entry))) numbers level bound u (now (work .entry)) (now (work .exit)) r ⌝ }
@@ -102,17 +97,17 @@ fn settle_kind(
     }
     make_set(
         job,
-        view,
         plan,
+        window,
         turned,
-        boxes,
+        conflicts,
         bound,
         numbers,
         level,
         u,
         work,
     );
-    let at = set_start(job, view, plan, turned, boxes, level, u) * 8;
+    let at = set_start(job, plan, window, turned, conflicts, level, u) * 8;
     let members = sets::count(&work[at..], plan.words as u32);
     copies as u64 <= members
 }
@@ -120,28 +115,28 @@ fn settle_kind(
 // The sets of this level, and look-ahead. It ends at the first kind with too few members.
 pub fn settle(
     job: &[u8],
-    view: View,
     plan: Plan,
+    window: Window,
     turned: &[i16],
-    boxes: Boxes,
+    conflicts: &[u8],
     bound: usize,
     numbers: [usize; 12],
     level: usize,
     work: &mut [u8],
 ) -> bool
-    requires { ⌜ Known (now job) view plan (now turned) boxes ⌝ }
+    requires { ⌜ Known (now job) plan window (now turned) (now conflicts) ⌝ }
     requires { ⌜ Placeable (content (now job)) numbers level bound (now work) ⌝ }
     ensures { λ r. ⌜ Settled (content (now (job .entry))) numbers level bound (now (work .entry)) (now (work .exit)) r ⌝ }
 {
-    let kinds = view.kinds;
+    let kinds = plan.types;
     let mut u = 0;
     while u < kinds {
         if !settle_kind(
             job,
-            view,
             plan,
+            window,
             turned,
-            boxes,
+            conflicts,
             bound,
             numbers,
             level,

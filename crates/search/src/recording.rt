@@ -9,8 +9,7 @@ ghost use Rattle.model.specs.Services.{withLayout};
 ghost use Rattle.search.specs.Known.{Known};
 ghost use Rattle.search.specs.Walk.{layoutOf, Recordable};
 use crate::plan::Plan;
-use candidates::boxes::Boxes;
-use job::View;
+use candidates::offsets::Window;
 use words::numbers;
 
 // The four numbers of an entry, from byte `at` on.
@@ -27,18 +26,18 @@ fn put_entry(out: &mut [u8], at: usize, kind: u16, column: u16, row: u16, rotati
 // The layout of all pieces, each at the candidate of its number, becomes the first answer numbers.
 pub fn record_layout(
     job: &[u8],
-    view: View,
     plan: Plan,
+    window: Window,
     turned: &[i16],
-    boxes: Boxes,
+    conflicts: &[u8],
     candidates: [usize; 12],
     out: &mut [u8],
 )
-    requires { ⌜ Known (now job) view plan (now turned) boxes × Recordable (content (now job)) candidates (now out) ⌝ }
+    requires { ⌜ Known (now job) plan window (now turned) (now conflicts) × Recordable (content (now job)) candidates (now out) ⌝ }
     ensures { λ _. ⌜ now (out .exit) ≡ withLayout (some (layoutOf (content (now (job .entry))) candidates)) (now (out .entry)) ⌝ }
 {
-    let rows = view.rows;
-    let pieces = view.pieces;
+    let rows = plan.rows;
+    let pieces = plan.pieces;
     let kinds = plan.kinds;
     let mut i = 0;
     while i < pieces {

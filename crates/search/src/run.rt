@@ -4,12 +4,21 @@ ghost use Prim.Native.Nat.{_-_, _≤_};
 ghost use Rattle.model.specs.Format.{content};
 ghost use Rattle.model.specs.Services;
 ghost use Rattle.model.specs.Services.{workWords, runOutcome, runContent};
-ghost use Rattle.candidates.specs.Turned.{Viewed};
+ghost use lib.ListN.{replicate};
+ghost use Rattle.candidates.specs.Turned.{Viewed, TurnedOf};
+ghost use Rattle.search.specs.Known.{PlanOf};
+ghost use Rattle.search.specs.Levels.{tryLevel};
 ghost use Rattle.search.specs.Run.{RoomFor, Walked, told};
+ghost use Rattle.search.specs.Walk.{numbersAt, heldOf, Ready, Left};
+use crate::beginning::settle_first;
+use crate::plan::Plan;
 use crate::plan::make_plan;
 use crate::walk::Progress;
-use crate::walk::go_on;
+use crate::walk::try_piece;
+use candidates::boxes::Boxes;
 use candidates::boxes::boxes_of;
+use candidates::offsets::make_offsets;
+use candidates::offsets::window_of;
 use candidates::turned::turn_all;
 use job::View;
 use model::Held;
@@ -24,34 +33,69 @@ fn work_words(job: &[u8], view: View) -> usize
     view.kinds * view.pieces * ((view.columns * view.rows + 15) / 16)
 }
 
+// How many bits the table of conflicts may have. The fewer the steps, the fewer are worth their price; 196,608 fill its 24,576 bytes.
+fn table_limit(budget: u32) -> usize
+    ensures { λ r. ⌜ r ≤ 196608 ⌝ }
+{
+    if budget < 3072 {
+        budget as usize * 64
+    } else {
+        196608
+    }
+}
+
+// The first piece tries its candidates, with the conflicts looked up in a table.
+fn try_first(
+    job: &[u8],
+    view: View,
+    boxes: Boxes,
+    plan: Plan,
+    turned: &[i16],
+    work: &mut [u8],
+    out: &mut [u8],
+    state: Progress,
+) -> Progress
+    requires { ⌜ Viewed (now job) view × PlanOf (now job) plan × TurnedOf (now job) (now turned) ⌝ }
+    requires { ⌜ Ready (content (now job)) (now work) (now out) (replicate 12 0) 0 1 0 state ⌝ }
+    ensures { λ r. ⌜ Left (content (now (job .entry))) (now (work .entry)) (now (out .entry)) (now (work .exit)) (now (out .exit)) 1 state r (tryLevel (content (now (job .entry))) (numbersAt (replicate 12 0)) 0 0 (state .left) (heldOf (content (now (job .entry))) (state .found) (now (out .entry)))) ⌝ }
+{
+    let window = window_of(view, boxes, table_limit(state.left));
+    let mut conflicts = [0u8; 24576];
+    make_offsets(job, view, turned, window, &mut conflicts);
+    try_piece(
+        job,
+        plan,
+        window,
+        turned,
+        &conflicts,
+        work,
+        out,
+        [0usize; 12],
+        0,
+        0,
+        state,
+    )
+}
+
 // The walk of an accepted job, in buffers that are large enough. What holds for the whole walk is computed first.
 fn walk(job: &[u8], view: View, budget: u32, work: &mut [u8], answer: &mut [u8]) -> Progress
     requires { ⌜ Viewed (now job) view × RoomFor (content (now job)) (now work) (now answer) ⌝ }
     ensures { λ r. ⌜ Walked (content (now (job .entry))) budget (now (work .entry)) (now (answer .entry)) (now (work .exit)) (now (answer .exit)) r ⌝ }
 {
-    let plan = make_plan(job, view);
     let mut turned = [0i16; 4096];
     turn_all(job, view, &mut turned);
     let boxes = boxes_of(job, view, &turned);
+    let plan = make_plan(job, view, boxes);
     let start = Progress {
         left: budget,
         bound: view.length + 1,
         found: false,
         stopped: false,
     };
-    go_on(
-        job,
-        view,
-        plan,
-        &turned,
-        boxes,
-        work,
-        answer,
-        [0usize; 12],
-        0,
-        0,
-        start,
-    )
+    if settle_first(job, view, boxes, plan, work) {
+        return try_first(job, view, boxes, plan, &turned, work, answer, start);
+    }
+    start
 }
 
 // What is answered where the walk came so far.

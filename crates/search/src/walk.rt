@@ -15,8 +15,7 @@ use crate::lookahead::set_start;
 use crate::lookahead::settle;
 use crate::plan::Plan;
 use crate::recording::record_layout;
-use candidates::boxes::Boxes;
-use job::View;
+use candidates::offsets::Window;
 use words::sets;
 
 // How far the walk has come: what is left of the budget, what an end has to stay below, whether a layout is held, whether the walk stopped.
@@ -30,10 +29,10 @@ pub struct Progress {
 // The first member of a set from a number on that ends below the bound of this moment, or the limit of the numbers.
 fn next_live(
     job: &[u8],
-    view: View,
     plan: Plan,
+    window: Window,
     turned: &[i16],
-    boxes: Boxes,
+    conflicts: &[u8],
     numbers: [usize; 12],
     level: usize,
     bound: usize,
@@ -41,7 +40,7 @@ fn next_live(
     set: &[u8],
     from: usize,
 ) -> usize
-    requires { ⌜ Known (now job) view plan (now turned) boxes × (plan .words * 8 ≤ length (now set)) ⌝ }
+    requires { ⌜ Known (now job) plan window (now turned) (now conflicts) × (plan .words * 8 ≤ length (now set)) ⌝ }
     requires { ⌜ KeepsSince (content (now job)) (placedOf (content (now job)) numbers level) bound u (now set) ⌝ }
     ensures { λ r. ⌜ NextLive (content (now (job .entry))) (placedOf (content (now (job .entry))) numbers level) bound u from r ⌝ }
 {
@@ -49,7 +48,7 @@ fn next_live(
     let limit = words * 64;
     let mut n = sets::next_member(set, words as u32, from);
     while n < limit {
-        if board::end_of(job, view, plan, turned, boxes, u, n) < bound {
+        if board::end_of(job, plan, window, turned, conflicts, u, n) < bound {
             return n;
         }
         n = sets::next_member(set, words as u32, n + 1);
@@ -65,12 +64,12 @@ fn longer(a: usize, b: usize) -> usize
 }
 
 // Piece `level` tries its live candidates in rising order, each against the best of that moment.
-fn try_piece(
+pub fn try_piece(
     job: &[u8],
-    view: View,
     plan: Plan,
+    window: Window,
     turned: &[i16],
-    boxes: Boxes,
+    conflicts: &[u8],
     work: &mut [u8],
     out: &mut [u8],
     numbers: [usize; 12],
@@ -78,23 +77,24 @@ fn try_piece(
     extent: usize,
     state: Progress,
 ) -> Progress
-    requires { ⌜ Known (now job) view plan (now turned) boxes × (level < pieceCount (content (now job))) ⌝ }
+    requires { ⌜ Known (now job) plan window (now turned) (now conflicts) × (level < pieceCount (content (now job))) ⌝ }
     requires { ⌜ Ready (content (now job)) (now work) (now out) numbers level (level + 1) extent state ⌝ }
     ensures { λ r. ⌜ Left (content (now (job .entry))) (now (work .entry)) (now (out .entry)) (now (work .exit)) (now (out .exit)) (level + 1) state r (tryLevel (content (now (job .entry))) (numbersAt numbers) level 0 (state .left) (heldOf (content (now (job .entry))) (state .found) (now (out .entry)))) ⌝ }
 {
     let kinds = plan.kinds;
-    let kind = kinds[level];
-    let at = set_start(job, view, plan, turned, boxes, level, kind) * 8;
+    let own = kinds[level];
+    let kind = own as usize;
+    let at = set_start(job, plan, window, turned, conflicts, level, kind) * 8;
     let limit = plan.words * 64;
     let mut st = state;
     let mut from = 0;
     while extent < st.bound {
         let n = next_live(
             job,
-            view,
             plan,
+            window,
             turned,
-            boxes,
+            conflicts,
             numbers,
             level,
             st.bound,
@@ -113,7 +113,7 @@ fn try_piece(
                 stopped: true,
             };
         }
-        let end = board::end_of(job, view, plan, turned, boxes, kind, n);
+        let end = board::end_of(job, plan, window, turned, conflicts, kind, n);
         let less = Progress {
             left: st.left - 1,
             bound: st.bound,
@@ -124,10 +124,10 @@ fn try_piece(
         taken[level] = n;
         st = go_on(
             job,
-            view,
             plan,
+            window,
             turned,
-            boxes,
+            conflicts,
             work,
             out,
             taken,
@@ -144,12 +144,12 @@ fn try_piece(
 }
 
 // What follows once `level` pieces are placed, the latest just counted: a complete layout becomes the best; else look-ahead, and the next piece.
-pub fn go_on(
+fn go_on(
     job: &[u8],
-    view: View,
     plan: Plan,
+    window: Window,
     turned: &[i16],
-    boxes: Boxes,
+    conflicts: &[u8],
     work: &mut [u8],
     out: &mut [u8],
     numbers: [usize; 12],
@@ -157,13 +157,13 @@ pub fn go_on(
     extent: usize,
     state: Progress,
 ) -> Progress
-    requires { ⌜ Known (now job) view plan (now turned) boxes ⌝ }
+    requires { ⌜ Known (now job) plan window (now turned) (now conflicts) ⌝ }
     requires { ⌜ Ready (content (now job)) (now work) (now out) numbers level level extent state ⌝ }
-    requires { ⌜ Taken (content (now job)) numbers level extent state ⌝ }
+    requires { ⌜ Taken (content (now job)) numbers level extent state × (0 < level) ⌝ }
     ensures { λ r. ⌜ Left (content (now (job .entry))) (now (work .entry)) (now (out .entry)) (now (work .exit)) (now (out .exit)) level state r (goOnLevel (content (now (job .entry))) (numbersAt numbers) level (state .left) (heldOf (content (now (job .entry))) (state .found) (now (out .entry)))) ⌝ }
 {
-    if level == view.pieces {
-        record_layout(job, view, plan, turned, boxes, numbers, out);
+    if level == plan.pieces {
+        record_layout(job, plan, window, turned, conflicts, numbers, out);
         return Progress {
             left: state.left,
             bound: extent,
@@ -173,10 +173,10 @@ pub fn go_on(
     }
     if settle(
         job,
-        view,
         plan,
+        window,
         turned,
-        boxes,
+        conflicts,
         state.bound,
         numbers,
         level,
@@ -184,10 +184,10 @@ pub fn go_on(
     ) {
         return try_piece(
             job,
-            view,
             plan,
+            window,
             turned,
-            boxes,
+            conflicts,
             work,
             out,
             numbers,

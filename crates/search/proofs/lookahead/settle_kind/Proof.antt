@@ -11,7 +11,7 @@ use Rattle.model.specs.Search.{copiesLeft}
 use Rattle.model.proofs.Accepted.{accepted-kinds}
 use Rattle.search.specs.Levels.{piecesFrom}
 use Rattle.search.specs.Slots.{setStart, slotOf}
-use Rattle.search.proofs.Limits.{few-pieces, few-words}
+use Rattle.search.proofs.Limits.{few-pieces, few-words, few-copies}
 use Rattle.search.proofs.Slots.{part-rest}
 use Rattle.search.proofs.Making.{kind-none, kind-made}
 use borrow.Author.Needs.{needs}
@@ -22,7 +22,7 @@ use Rattle.search.proofs.lookahead.settle_kind.Tie as tie
 few : (c : tie.Start) → (c .args .level < 12) × (c .args .u < 8)
 few c =
     let s = c .args .job .now in
-    let a = c .pre .0 .accepted in
+    let a = c .pre .0 .plan .accepted in
     (omega (arith, c .pre .1 .0 .within, few-pieces s a), omega (arith, c .pre .1 .1, accepted-kinds s a .few-kinds))
 
 -- The table tells the copies left.
@@ -30,34 +30,31 @@ told : (c : tie.Start) → getD (c .args .plan .copies) (c .args .level * 8 + c 
 told c = c .pre .0 .plan .copies (c .args .level) (c .args .u) (c .pre .1 .0 .within) (few c .1)
 
 mul-copies : tie.Need-mul-copies
-mul-copies c = omega (arith, few (c .before .before .before))
+mul-copies c = omega (arith, few (c .before .before .before .before))
 
 add-copies : tie.Need-add-copies
-add-copies c = omega (arith, few (c .before .before .before))
-
-mul-copies-2 : tie.Need-mul-copies-2
-mul-copies-2 c = omega (arith, few (c .before .before .before))
+add-copies c = omega (arith, few (c .before .before .before .before))
 
 array-read-copies : tie.Need-array-read-copies
-array-read-copies c = omega (arith, few (c .before .before .before))
+array-read-copies c = omega (arith, few (c .before .before .before .before))
 
 returns : tie.Need-returns
-returns c = kind-none (content (c .before .before .before .before .args .job .now)) _ _ _ _ _ (sym (told (c .before .before .before .before)) ∙ c .if1 .taken)
+returns c = kind-none (content (c .before .before .before .before .before .args .job .now)) _ _ _ _ _ (sym (told (c .before .before .before .before .before)) ∙ c .if1 .taken)
 
 make-set-requires : tie.Need-make-set-requires
 make-set-requires c κs =
-    let p : getD (c .before .before .before .before .before .args .plan .copies) (c .before .before .before .before .before .args .level * 8 + c .before .before .before .before .before .args .u) 0 ≡ 0 → ⊥ = c .before .if1 .left in
-    (c .before .before .before .before .before .pre .0, (c .before .before .before .before .before .pre .1 .0, (c .before .before .before .before .before .pre .1 .1, omega (arith, told (c .before .before .before .before .before)))))
+    let p : getD (c .before .before .before .before .before .before .args .plan .copies) (c .before .before .before .before .before .before .args .level * 8 + c .before .before .before .before .before .before .args .u) 0 ≡ 0 → ⊥ = c .before .if1 .left in
+    (c .before .before .before .before .before .before .pre .0, (c .before .before .before .before .before .before .pre .1 .0, (c .before .before .before .before .before .before .pre .1 .1, omega (arith, told (c .before .before .before .before .before .before)))))
 
 -- The work words are as many as they were, and the set lies within them.
-room : (c : tie.After-set-start) → (length (c .before .before .before .make-set .last .1 .1 .1 .1 .1 .1 .1 .1 .1 .0) ≡ length (c .before .before .before .before .before .before .before .before .before .args .work .now))
-    × (c .set-start .result * 8 + c .before .before .before .before .before .before .before .before .before .args .plan .words * 8 ≤ length (c .before .before .before .make-set .last .1 .1 .1 .1 .1 .1 .1 .1 .1 .0))
+room : (c : tie.After-set-start) → (length (c .before .before .before .make-set .last .1 .1 .1 .1 .1 .1 .1 .1 .1 .0) ≡ length (c .before .before .before .before .before .before .before .before .before .before .args .work .now))
+    × (c .set-start .result * 8 + c .before .before .before .before .before .before .before .before .before .before .args .plan .words * 8 ≤ length (c .before .before .before .make-set .last .1 .1 .1 .1 .1 .1 .1 .1 .1 .0))
 room c =
-    let e : length (c .before .before .before .make-set .last .1 .1 .1 .1 .1 .1 .1 .1 .1 .0) ≡ length (c .before .before .before .before .before .before .before .before .before .args .work .now) = c .before .before .before .make-set .kept .1 .1 .1 .1 .1 .1 .1 .1 .1 .0 in
-    (e, omega (arith, e, c .before .before .before .before .before .before .before .before .before .pre .0 .plan .words, c .set-start .ensures .within, c .before .before .before .before .before .before .before .before .before .pre .1 .0 .fits))
+    let e : length (c .before .before .before .make-set .last .1 .1 .1 .1 .1 .1 .1 .1 .1 .0) ≡ length (c .before .before .before .before .before .before .before .before .before .before .args .work .now) = c .before .before .before .make-set .kept .1 .1 .1 .1 .1 .1 .1 .1 .1 .0 in
+    (e, omega (arith, e, c .before .before .before .before .before .before .before .before .before .before .pre .0 .plan .words, c .set-start .ensures .within, c .before .before .before .before .before .before .before .before .before .before .pre .1 .0 .fits))
 
 set-start-requires : tie.Need-set-start-requires
-set-start-requires c κs = (c .before .before .before .before .before .before .before .before .pre .0, c .before .before .before .before .before .before .before .before .pre .1 .0 .within, c .before .before .before .before .before .before .before .before .pre .1 .1)
+set-start-requires c κs = (c .before .before .before .before .before .before .before .before .before .pre .0, c .before .before .before .before .before .before .before .before .before .pre .1 .0 .within, c .before .before .before .before .before .before .before .before .before .pre .1 .1)
 
 mul-at : tie.Need-mul-at
 mul-at c = omega (arith, c .set-start .ensures .few)
@@ -72,10 +69,13 @@ part-count-end : tie.Need-part-count-end
 part-count-end c = search needs
 
 cast-count : tie.Need-cast-count
-cast-count c = omega (arith, c .before .before .before .before .before .before .before .before .before .before .before .before .pre .0 .plan .words, few-words (c .before .before .before .before .before .before .before .before .before .before .before .before .args .job .now) (c .before .before .before .before .before .before .before .before .before .before .before .before .pre .0 .accepted))
+cast-count c = omega (arith, c .before .before .before .before .before .before .before .before .before .before .before .before .before .pre .0 .plan .words, few-words (c .before .before .before .before .before .before .before .before .before .before .before .before .before .args .job .now) (c .before .before .before .before .before .before .before .before .before .before .before .before .before .pre .0 .plan .accepted))
 
 count-requires : tie.Need-count-requires
 count-requires c κs = rw (part-rest _ _) (simp length-drop (omega (arith, room (c .before .before .before))))
+
+cast-result : tie.Need-cast-result
+cast-result c = omega (arith, told (c .before .before .before .before .before .before .before .before .before .before .before .before .before .before), few-copies (c .before .before .before .before .before .before .before .before .before .before .before .before .before .before .args .job .now) (c .before .before .before .before .before .before .before .before .before .before .before .before .before .before .pre .0 .plan .accepted) (c .before .before .before .before .before .before .before .before .before .before .before .before .before .before .args .u) (c .before .before .before .before .before .before .before .before .before .before .before .before .before .before .args .level))
 
 same-length : tie.Need-same-length
 same-length c = room (c .before .before .before .before) .0
@@ -83,14 +83,13 @@ same-length c = room (c .before .before .before .before) .0
 returns-2 : tie.Need-returns-2
 unfolding slotOf
 returns-2 c =
-    let j : Job = content (c .before .before .before .before .before .before .before .before .before .before .before .before .before .args .job .now) in
-    let p : getD (c .before .before .before .before .before .before .before .before .before .before .before .before .before .args .plan .copies) (c .before .before .before .before .before .before .before .before .before .before .before .before .before .args .level * 8 + c .before .before .before .before .before .before .before .before .before .before .before .before .before .args .u) 0 ≡ 0 → ⊥ = c .before .before .before .before .before .before .before .before .before .if1 .left in
+    let j : Job = content (c .before .before .before .before .before .before .before .before .before .before .before .before .before .before .args .job .now) in
     let W = c .before .before .before .before .before .before .before .make-set .last .1 .1 .1 .1 .1 .1 .1 .1 .1 .0 in
-    let e : c .count .result ≡ countMembers (setWords (j .sheet) * 64) (slotOf j W (c .before .before .before .before .before .before .before .before .before .before .before .before .before .args .level) (c .before .before .before .before .before .before .before .before .before .before .before .before .before .args .u)) =
-    c .count .ensures ∙ ap (countMembers (c .before .before .before .before .before .before .before .before .before .before .before .before .before .args .plan .words * 64)) (part-rest (c .before .before .before .before .set-start .result * 8) W)
-    ∙ ap (λ (n : ℕ). countMembers (n * 64) (drop (c .before .before .before .before .set-start .result * 8) W)) (c .before .before .before .before .before .before .before .before .before .before .before .before .before .pre .0 .plan .words)
+    let e : c .count .result ≡ countMembers (setWords (j .sheet) * 64) (slotOf j W (c .before .before .before .before .before .before .before .before .before .before .before .before .before .before .args .level) (c .before .before .before .before .before .before .before .before .before .before .before .before .before .before .args .u)) =
+    c .count .ensures ∙ ap (countMembers (c .before .before .before .before .before .before .before .before .before .before .before .before .before .before .args .plan .words * 64)) (part-rest (c .before .before .before .before .set-start .result * 8) W)
+    ∙ ap (λ (n : ℕ). countMembers (n * 64) (drop (c .before .before .before .before .set-start .result * 8) W)) (c .before .before .before .before .before .before .before .before .before .before .before .before .before .before .pre .0 .plan .words)
     ∙ ap (λ (a : ℕ). countMembers (setWords (j .sheet) * 64) (drop (a * 8) W)) (c .before .before .before .before .set-start .ensures .place) in
-    rw (told (c .before .before .before .before .before .before .before .before .before .before .before .before .before)) (kind-made j _ (c .before .before .before .before .before .before .before .before .before .before .before .before .before .args .level) (c .before .before .before .before .before .before .before .before .before .before .before .before .before .args .bound) (c .before .before .before .before .before .before .before .before .before .before .before .before .before .args .u) (c .count .result) (c .before .before .before .before .before .before .before .before .before .before .before .before .before .args .work .now) W (omega (arith, told (c .before .before .before .before .before .before .before .before .before .before .before .before .before))) (c .before .before .before .before .before .before .before .make-set .ensures) e)
+    kind-made j _ (c .before .before .before .before .before .before .before .before .before .before .before .before .before .before .args .level) (c .before .before .before .before .before .before .before .before .before .before .before .before .before .before .args .bound) (c .before .before .before .before .before .before .before .before .before .before .before .before .before .before .args .u) (getD (c .before .before .before .before .before .before .before .before .before .before .before .before .before .before .args .plan .copies) (c .before .before .before .before .before .before .before .before .before .before .before .before .before .before .args .level * 8 + c .before .before .before .before .before .before .before .before .before .before .before .before .before .before .args .u) 0) (c .count .result) (c .before .before .before .before .before .before .before .before .before .before .before .before .before .before .args .work .now) W (told (c .before .before .before .before .before .before .before .before .before .before .before .before .before .before)) (c .before .before .before .before .before .before .before .make-set .ensures) e
 
 pub settle-kind-spec : {M : Type 1} → statement M
 settle-kind-spec =
@@ -98,7 +97,6 @@ settle-kind-spec =
     (tie.spec
     mul-copies
     add-copies
-    mul-copies-2
     array-read-copies
     returns
     make-set-requires
@@ -109,5 +107,6 @@ settle-kind-spec =
     part-count-end
     cast-count
     count-requires
+    cast-result
     same-length
     returns-2)

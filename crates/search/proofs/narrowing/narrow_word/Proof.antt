@@ -15,11 +15,11 @@ use Rattle.search.proofs.narrowing.narrow_word.Statement.{statement}
 use Rattle.search.proofs.narrowing.narrow_word.Tie as tie
 
 abbrev Inv-loop : tie.InvT-loop
-Inv-loop job view plan turned boxes pair bound t n u first w left₀ kept₀ left kept =
+Inv-loop job plan window turned conflicts bound t n place u first w left₀ kept₀ left kept =
     ((left < 2 ^ 64) × (kept < 2 ^ 64)) × Sifted (λ i. stays (content job) bound t n u (first + i)) w left kept
 
 abbrev μ-loop : tie.MeasureT-loop
-μ-loop job view plan turned boxes pair bound t n u first w left₀ kept₀ left kept = left
+μ-loop job plan window turned conflicts bound t n place u first w left₀ kept₀ left kept = left
 
 loop-holds : tie.Need-loop-holds Inv-loop μ-loop
 loop-holds c = (search needs, sift-begin _ _)
@@ -40,7 +40,7 @@ add-still-live c = omega (arith, low c .0)
 still-live-requires : tie.Need-still-live-requires Inv-loop μ-loop
 still-live-requires c κs =
     let bit = low c in
-    (c .before .before .before .before .pre .0, (c .before .before .before .before .pre .1 .0 .0, c .before .before .before .before .pre .1 .1 (c .lowest-bit .result) (c .before .before .loop .inv .1 (c .lowest-bit .result) .1 (bit .1))))
+    (c .before .before .before .before .before .pre .0, (c .before .before .before .before .before .pre .1 .0 .0, c .before .before .before .before .before .pre .1 .1 (c .lowest-bit .result) (c .before .before .loop .inv .1 (c .lowest-bit .result) .1 (bit .1))))
 
 assign-bit-requires : tie.Need-assign-bit-requires Inv-loop μ-loop
 assign-bit-requires c κs = search needs

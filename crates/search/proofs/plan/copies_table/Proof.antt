@@ -1,13 +1,13 @@
 -- `search::plan::copies_table` meets its contract. The invariant: the entries passed are the copies left.
-use mathlib.Core.Path.{_≡_, refl, sym, ap, _∙_}
+use mathlib.Core.Path.{_≡_, refl}
 use Prim.Native.Nat.{ℕ, _+_, _-_, _*_, _/_, _%_, _≤_, _<_}
 use native.Mathlib.Omega.{arith}
 use lib.ListN.{length, getD, length-set}
 use Rattle.model.specs.Content.{pieceCount}
 use Rattle.model.specs.Format.{content}
 use Rattle.model.specs.Search.{copiesLeft}
+use Rattle.candidates.proofs.PieceLaws.{written-more}
 use Rattle.search.specs.Levels.{piecesFrom}
-use Rattle.search.proofs.Tables.{table-next}
 use Rattle.search.proofs.Limits.{few-pieces}
 use borrow.Author.Needs.{needs}
 use Rattle.search.proofs.plan.copies_table.Statement.{statement}
@@ -32,9 +32,6 @@ mul-loop c = search needs
 count-copies-requires : tie.Need-count-copies-requires Inv-loop μ-loop
 count-copies-requires c κs = (c .before .before .before .pre .0, c .before .before .before .pre .1, omega (arith, c .before .loop .inv))
 
-mul-copies : tie.Need-mul-copies Inv-loop μ-loop
-mul-copies c = search needs
-
 array-write-copies : tie.Need-array-write-copies Inv-loop μ-loop
 array-write-copies c = search needs
 
@@ -47,7 +44,7 @@ loop-less c = search needs
 loop-again : tie.Need-loop-again Inv-loop μ-loop
 loop-again c = (
   (omega (arith, c .before .before .loop .inv), c .before .before .loop .inv .0 .1, c .before .before .loop .inv .0 .2, simp length-set (c .before .before .loop .inv .0 .3)),
-  table-next (λ i. copiesLeft (i % 8) (piecesFrom (content (c .before .before .before .before .args .job .now)) (i / 8))) (c .before .before .loop .copies) (c .before .before .loop .x) (c .count-copies .result) (omega (arith, c .before .before .loop .inv)) (c .before .before .loop .inv .1) (c .count-copies .ensures),
+  written-more 0 (c .before .before .loop .copies) (c .before .before .loop .x) (c .count-copies .result) (λ i. copiesLeft (i % 8) (piecesFrom (content (c .before .before .before .before .args .job .now)) (i / 8))) (omega (arith, c .before .before .loop .inv)) (c .before .before .loop .inv .1) (c .count-copies .ensures),
 )
 
 returns : tie.Need-returns Inv-loop μ-loop
@@ -66,7 +63,6 @@ copies-table-spec =
     loop-holds
     mul-loop
     count-copies-requires
-    mul-copies
     array-write-copies
     add-x
     loop-less

@@ -1,7 +1,7 @@
 -- `search::plan::count_copies` meets its contract. The invariant: the copies counted and those still to come are those to be counted.
 use mathlib.Core.Logic.{⊎-elim}
-use mathlib.Core.Path.{_≡_, refl, sym, ap, _∙_}
-use Prim.Native.Nat.{ℕ, _+_, _-_, _*_, _≤_, _<_}
+use mathlib.Core.Path.{_≡_, sym, ap, _∙_}
+use Prim.Native.Nat.{ℕ, _+_, _-_, _≤_, _<_}
 use native.Mathlib.Omega.{arith}
 use Rattle.model.specs.Content.{pieceCount}
 use Rattle.model.specs.Format.{content}
@@ -25,11 +25,11 @@ loop-holds c =
     let e = c .pre .0 .view .pieces in
     ((e, omega (arith, e, few-pieces (c .args .job .now) (c .pre .0 .accepted))), omega (arith, e, c .pre .2), omega arith, omega arith)
 
-mul-if1 : tie.Need-mul-if1 Inv-loop μ-loop
-mul-if1 c = search needs
-
 array-read-if1 : tie.Need-array-read-if1 Inv-loop μ-loop
 array-read-if1 c = search needs
+
+cast-if1 : tie.Need-cast-if1 Inv-loop μ-loop
+cast-if1 c = search needs
 
 add-count : tie.Need-add-count Inv-loop μ-loop
 add-count c = search needs
@@ -65,8 +65,8 @@ count-copies-spec =
     Inv-loop
     μ-loop
     loop-holds
-    mul-if1
     array-read-if1
+    cast-if1
     add-count
     add-i
     loop-less

@@ -1,15 +1,15 @@
 -- `search::plan::piece_kinds` meets its contract. The invariant: the pieces passed have their kinds, and of those to come `left` are of kind t.
-use mathlib.Core.Logic.{_⊎_, inl, inr, ⊎-elim}
+use mathlib.Core.Logic.{⊎-elim}
 use mathlib.Core.Path.{_≡_, refl, sym, ap, _∙_, subst}
-use Prim.Native.Nat.{ℕ, suc, _+_, _-_, _*_, _≤_, _<_}
+use Prim.Native.Nat.{ℕ, suc, _-_, _≤_, _<_}
 use native.Mathlib.Numerals.{add-one}
 use native.Mathlib.Omega.{arith}
-use lib.ListN.{length, getD, set, length-set}
+use lib.ListN.{length, getD, length-set}
 use Rattle.model.specs.Content.{kindAt, kindCount, pieceCount}
 use Rattle.model.specs.Format.{content}
 use Rattle.model.proofs.Accepted.{accepted-kinds}
+use Rattle.candidates.proofs.PieceLaws.{written-more}
 use Rattle.search.specs.Levels.{pieceKind}
-use Rattle.search.proofs.Tables.{table-next}
 use Rattle.search.proofs.Limits.{few-pieces, demanded}
 use Rattle.search.proofs.PieceOrder.{At, at-begin, at-kind, at-piece}
 use borrow.Author.Needs.{needs}
@@ -72,29 +72,29 @@ here c =
     rw (w .1, w .2) (c .before .before .loop .inv .1 .0, omega arith, c .before .before .loop .inv .2))
     (c .if1 .came)
 
-mul-kinds : tie.Need-mul-kinds Inv-loop μ-loop
-mul-kinds c = omega (arith, c .before .before .loop .inv)
+cast-kinds : tie.Need-cast-kinds Inv-loop μ-loop
+cast-kinds c = omega (arith, c .before .before .before .loop .inv, here (c .before))
 
 array-write-kinds : tie.Need-array-write-kinds Inv-loop μ-loop
-array-write-kinds c = omega (arith, c .before .before .loop .inv)
+array-write-kinds c = omega (arith, c .before .before .before .loop .inv)
 
 sub-left : tie.Need-sub-left Inv-loop μ-loop
-sub-left c = omega (arith, here (c .before) .1)
+sub-left c = omega (arith, here (c .before .before) .1)
 
 add-l : tie.Need-add-l Inv-loop μ-loop
-add-l c = omega (arith, c .before .before .before .loop .inv)
+add-l c = omega (arith, c .before .before .before .before .loop .inv)
 
 loop-less : tie.Need-loop-less Inv-loop μ-loop
-loop-less c = omega (arith, c .before .before .before .loop .inv)
+loop-less c = omega (arith, c .before .before .before .before .loop .inv)
 
 loop-again : tie.Need-loop-again Inv-loop μ-loop
 loop-again c =
-    let j = content (c .before .before .before .before .before .args .job .now) in
-    let h = here (c .before) in
-    let l = c .before .before .before .loop .l in
-    let k : l < pieceCount j = omega (arith, c .before .before .before .loop .inv) in
-    let a = at-piece j l (c .before .if1 .t) (c .before .if1 .left) k (h .1) (h .2) in
-    ((omega (arith, c .before .before .before .loop .inv), c .before .before .before .loop .inv .0 .1, c .before .before .before .loop .inv .0 .2, simp length-set (c .before .before .before .loop .inv .0 .3)), (h .0, c .before .before .before .loop .inv .1 .1), rw (add-one l) (a .1), table-next (pieceKind j) (c .before .before .before .loop .kinds) l (c .before .if1 .t) (omega (arith, c .before .before .before .loop .inv)) (c .before .before .before .loop .inv .3) (sym (a .0)))
+    let j = content (c .before .before .before .before .before .before .args .job .now) in
+    let h = here (c .before .before) in
+    let l = c .before .before .before .before .loop .l in
+    let k : l < pieceCount j = omega (arith, c .before .before .before .before .loop .inv) in
+    let a = at-piece j l (c .before .before .if1 .t) (c .before .before .if1 .left) k (h .1) (h .2) in
+    ((omega (arith, c .before .before .before .before .loop .inv), c .before .before .before .before .loop .inv .0 .1, c .before .before .before .before .loop .inv .0 .2, simp length-set (c .before .before .before .before .loop .inv .0 .3)), (h .0, c .before .before .before .before .loop .inv .1 .1), rw (add-one l) (a .1), written-more 0 (c .before .before .before .before .loop .kinds) l (c .before .before .if1 .t) (pieceKind j) (omega (arith, c .before .before .before .before .loop .inv)) (c .before .before .before .before .loop .inv .3) (sym (a .0)))
 
 returns : tie.Need-returns Inv-loop μ-loop
 returns c = λ l h. c .before .loop .inv .3 l (omega (arith, c .before .loop .inv))
@@ -110,7 +110,7 @@ piece-kinds-spec =
     add-t
     mul-left
     array-read-left-2
-    mul-kinds
+    cast-kinds
     array-write-kinds
     sub-left
     add-l

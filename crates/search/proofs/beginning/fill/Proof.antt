@@ -1,4 +1,4 @@
--- `search::narrowing::fill` meets its contract. The invariant: the words passed are made, and nothing else changed.
+-- `search::beginning::fill` meets its contract. The invariant: the words passed are made, and nothing else changed.
 use mathlib.Core.Path.{_≡_, refl}
 use Prim.Native.Nat.{ℕ, _+_, _-_, _*_, _^_, _≤_, _<_}
 use native.Mathlib.Omega.{arith}
@@ -8,18 +8,18 @@ use Rattle.model.specs.Format.{content}
 use Rattle.search.specs.Narrowing.{Filled}
 use Rattle.search.proofs.Filling.{filled-begin, filled-next, bits-where}
 use borrow.Author.Needs.{needs}
-use Rattle.search.proofs.narrowing.fill.Statement.{statement}
-use Rattle.search.proofs.narrowing.fill.Tie as tie
+use Rattle.search.proofs.beginning.fill.Statement.{statement}
+use Rattle.search.proofs.beginning.fill.Tie as tie
 
 abbrev Inv-loop : tie.InvT-loop
-Inv-loop job view plan turned boxes u work₀ to words k₀ work k =
+Inv-loop job view boxes u work₀ to words k₀ work k =
     (k ≤ words) × ((length work ≡ length work₀) × ((to + words) * 8 < 2 ^ 64)) × Filled to k (isCandidate (content job) u) work₀ work
 
 abbrev μ-loop : tie.MeasureT-loop
-μ-loop job view plan turned boxes u work₀ to words k₀ work k = words - k
+μ-loop job view boxes u work₀ to words k₀ work k = words - k
 
 loop-holds : tie.Need-loop-holds Inv-loop μ-loop
-loop-holds c = (omega arith, (refl, omega (arith, c .before .before .pre .1 .fits, c .before .before .good .1 .1 .1 .1 .1 .1 .0 .0)), filled-begin _ _ _)
+loop-holds c = (omega arith, (refl, omega (arith, c .before .before .pre .1 .fits, c .before .before .good .1 .1 .1 .1 .0 .0)), filled-begin _ _ _)
 
 mul-fill-word : tie.Need-mul-fill-word Inv-loop μ-loop
 mul-fill-word c = search needs
