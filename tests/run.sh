@@ -1,6 +1,6 @@
 #!/bin/sh
 # Links everything on this side of the C interface with a libnest.a and runs it: the comparison tests, then the
-# C example on every job of jobs/, held to the expected outputs. Needs no network.
+# C example on every job of jobs/, held to the expected outputs, and the stack that a run takes. Needs no network.
 # usage: tests/run.sh FOLDER_OF_LIBNEST [COUNT]
 # CC, CFLAGS and NEST_LDLIBS (libraries that libnest.a itself needs) may be given. NEST_PROGRAM is the command
 # program, if it is to be run too: on every job of jobs/, and on inputs of several sizes.
@@ -19,8 +19,14 @@ mkdir -p "$build"
 NEST_LIB_DIR="$library" cargo build -q -j1 --offline --release --bin compare --manifest-path "$here/Cargo.toml"
 "$here/target/release/compare" "$@"
 
-${CC:-cc} -std=c99 -Wall -Wextra -Werror ${CFLAGS:--O1} -I "$root/include" "$root/examples/nest.c" \
-    "$library/libnest.a" ${NEST_LDLIBS:-} -o "$build/nest"
+# Compiles a C program with the header and the archive.
+with_nest() { # SOURCE PROGRAM
+    ${CC:-cc} -std=c99 -Wall -Wextra -Werror ${CFLAGS:--O1} -I "$root/include" "$1" "$library/libnest.a" ${NEST_LDLIBS:-} -o "$2"
+}
+
+with_nest "$root/examples/nest.c" "$build/nest"
+NEST_LDLIBS="${NEST_LDLIBS:-} -lpthread" with_nest "$here/stack.c" "$build/stack"
+"$build/stack" 100000 "$root"/jobs/*.job
 
 # Runs a program on every job, as its standard input and as its argument, and holds what it prints to what is expected.
 over_jobs() { # NAME PROGRAM

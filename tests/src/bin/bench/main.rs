@@ -31,6 +31,7 @@ fn main() {
     reads(&jobs);
     rows(&jobs);
     runs(&jobs);
+    budgets(&jobs);
 }
 
 /// The two have to agree before their speeds are compared.
@@ -147,6 +148,29 @@ fn run(bench: &BenchJob) -> StepCost {
         proved / whole,
     );
     StepCost { proved: proved / f64::from(steps), plain: walk / f64::from(steps) }
+}
+
+/// What is computed before the first step weighs less the more steps there are.
+fn budgets(jobs: &[BenchJob]) {
+    let growing = [1, 16, 256, 4096, 65_536, 1 << 20];
+    println!("\nrun: microseconds a step at growing budgets (a run that ends by itself is not run at larger ones)");
+    print!("{:<28}", "job");
+    growing.iter().for_each(|budget| print!(" {budget:>9}"));
+    println!();
+    let mut work = vec![0xA5; 49_152];
+    let mut answer = vec![0xA5; 96];
+    for bench in jobs {
+        print!("{:<28}", bench.name);
+        for budget in growing {
+            let steps = nest::run(&bench.bytes, budget, &mut work, &mut answer).steps;
+            let time = best_time(|| nest::run(&bench.bytes, budget, &mut work, &mut answer));
+            print!(" {:>9.2}", time / f64::from(steps.max(1)) * 1e6);
+            if steps < budget {
+                break;
+            }
+        }
+        println!();
+    }
 }
 
 /// Doubled until the run ends by itself or takes a quarter of a second.
