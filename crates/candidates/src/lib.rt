@@ -6,3 +6,4 @@ pub mod pieces;
 pub mod placements;
 pub mod rows;
 pub mod turned;
+pub mod windows;

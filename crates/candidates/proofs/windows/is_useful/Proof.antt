@@ -1,4 +1,4 @@
--- `candidates::offsets::is_useful` meets its contract. Assumes nothing.
+-- `candidates::windows::is_useful` meets its contract. Assumes nothing.
 use mathlib.Core.Path.{refl}
 use Prim.Native.Nat.{_*_, _≤_, _<_}
 use native.Mathlib.Omega.{arith}
@@ -6,8 +6,8 @@ use borrow.Author.Tests.{leb-true}
 use lib.Dec.{leb}
 use Rattle.model.proofs.Lists.{not-both, and-left}
 use Rattle.candidates.proofs.PlacementLaws.{on-dots}
-use Rattle.candidates.proofs.offsets.is_useful.Statement.{statement}
-use Rattle.candidates.proofs.offsets.is_useful.Tie as tie
+use Rattle.candidates.proofs.windows.is_useful.Statement.{statement}
+use Rattle.candidates.proofs.windows.is_useful.Tie as tie
 
 -- the window has its place on the board
 dots : (c : tie.Else1) → (c .before .before .before .before .before .args .window .across < c .before .before .before .before .before .args .view .columns) × (c .before .before .before .before .before .args .window .up < c .before .before .before .before .before .args .view .rows)

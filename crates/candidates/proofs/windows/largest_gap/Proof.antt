@@ -1,10 +1,10 @@
--- `candidates::offsets::largest_gap` meets its contract. Assumes nothing.
+-- `candidates::windows::largest_gap` meets its contract. Assumes nothing.
 use Prim.Native.Nat.{_-_, _≤_}
 use native.Mathlib.Omega.{arith}
 use mathlib.Core.Logic.{⊎-elim}
 use borrow.Author.Needs.{needs}
-use Rattle.candidates.proofs.offsets.largest_gap.Statement.{statement}
-use Rattle.candidates.proofs.offsets.largest_gap.Tie as tie
+use Rattle.candidates.proofs.windows.largest_gap.Statement.{statement}
+use Rattle.candidates.proofs.windows.largest_gap.Tie as tie
 
 abbrev Inv-loop : tie.InvT-loop
 Inv-loop gaps n r₀ t₀ r t = (t ≤ n) × (r ≤ 63)

@@ -1,10 +1,10 @@
--- `candidates::offsets::can_matter` meets its contract. Assumes nothing.
+-- `candidates::windows::can_matter` meets its contract. Assumes nothing.
 use native.Mathlib.Omega.{arith}
 use Rattle.candidates.proofs.OffsetFilling.{span-fits, span-read, span-value, spaced-fits}
 use Rattle.candidates.proofs.PlacementLaws.{wide-fits, limit-value}
 use borrow.Author.Needs.{needs}
-use Rattle.candidates.proofs.offsets.can_matter.Statement.{statement}
-use Rattle.candidates.proofs.offsets.can_matter.Tie as tie
+use Rattle.candidates.proofs.windows.can_matter.Statement.{statement}
+use Rattle.candidates.proofs.windows.can_matter.Tie as tie
 
 cast-result : tie.Need-cast-result
 cast-result c = search needs

@@ -1,12 +1,12 @@
--- `candidates::offsets::cells_of` meets its contract. Assumes nothing.
+-- `candidates::windows::cells_of` meets its contract. Assumes nothing.
 use mathlib.Core.Path.{refl}
 use Prim.Native.Nat.{_*_}
 use native.Mathlib.Nat.{mul-le-mul}
 use native.Mathlib.Omega.{arith}
 use Rattle.candidates.specs.Offsets.{width, height, turns, area, sections, cells}
 use borrow.Author.Needs.{needs}
-use Rattle.candidates.proofs.offsets.cells_of.Statement.{statement}
-use Rattle.candidates.proofs.offsets.cells_of.Tie as tie
+use Rattle.candidates.proofs.windows.cells_of.Statement.{statement}
+use Rattle.candidates.proofs.windows.cells_of.Tie as tie
 
 mul-turns : tie.Need-mul-turns
 mul-turns c = search needs

@@ -1,8 +1,8 @@
--- `candidates::offsets::common_box` meets its contract. Assumes nothing.
+-- `candidates::windows::common_box` meets its contract. Assumes nothing.
 use Prim.Native.Nat.{_-_, _≤_}
 use borrow.Author.Needs.{needs}
-use Rattle.candidates.proofs.offsets.common_box.Statement.{statement}
-use Rattle.candidates.proofs.offsets.common_box.Tie as tie
+use Rattle.candidates.proofs.windows.common_box.Statement.{statement}
+use Rattle.candidates.proofs.windows.common_box.Tie as tie
 
 abbrev Inv-loop : tie.InvT-loop
 Inv-loop masks of n e₀ i₀ e i = i ≤ n

@@ -1,7 +1,7 @@
--- `candidates::offsets::taller` meets its contract. Assumes nothing.
+-- `candidates::windows::taller` meets its contract. Assumes nothing.
 use borrow.Author.Needs.{needs}
-use Rattle.candidates.proofs.offsets.taller.Statement.{statement}
-use Rattle.candidates.proofs.offsets.taller.Tie as tie
+use Rattle.candidates.proofs.windows.taller.Statement.{statement}
+use Rattle.candidates.proofs.windows.taller.Tie as tie
 
 add-t7 : tie.Need-add-t7
 add-t7 c = search needs

@@ -1,12 +1,12 @@
--- `candidates::offsets::window_of` meets its contract. Assumes nothing.
+-- `candidates::windows::window_of` meets its contract. Assumes nothing.
 use native.Mathlib.Omega.{arith}
 use mathlib.Core.Path.{refl}
 use Prim.Native.Nat.{_*_}
 use native.Mathlib.Nat.{mul-le-mul}
 use borrow.Author.Needs.{needs}
 use Rattle.candidates.specs.Offsets.{cells, sections, area, Roomy}
-use Rattle.candidates.proofs.offsets.window_of.Statement.{statement}
-use Rattle.candidates.proofs.offsets.window_of.Tie as tie
+use Rattle.candidates.proofs.windows.window_of.Statement.{statement}
+use Rattle.candidates.proofs.windows.window_of.Tie as tie
 
 abbrev Inv-loop : tie.InvT-loop
 Inv-loop view limit all gap w₀ left₀ w left = Roomy view w

@@ -1,7 +1,7 @@
--- `candidates::offsets::wider` meets its contract. Assumes nothing.
+-- `candidates::windows::wider` meets its contract. Assumes nothing.
 use borrow.Author.Needs.{needs}
-use Rattle.candidates.proofs.offsets.wider.Statement.{statement}
-use Rattle.candidates.proofs.offsets.wider.Tie as tie
+use Rattle.candidates.proofs.windows.wider.Statement.{statement}
+use Rattle.candidates.proofs.windows.wider.Tie as tie
 
 add-t7 : tie.Need-add-t7
 add-t7 c = search needs
