@@ -5,8 +5,8 @@
  * Every one takes bytes and numbers only, keeps no state, allocates nothing and always returns. What is
  * unfit is refused by a number; nothing is assumed of the caller but this:
  *
- *   - each pointer names as many bytes as the length beside it says, at any alignment; where the length is 0
- *     no byte is touched (pass any pointer but a null one);
+ *   - each pointer names as many bytes as the length beside it says, at any alignment; a buffer of length 0
+ *     may have any pointer, null too;
  *   - a buffer that a call may change shares no byte with another buffer of that call.
  *
  * Words of this header: a piece TYPE ("kind" in the parameters) is one record of the job's type list, counted

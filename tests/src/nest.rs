@@ -28,25 +28,57 @@ extern "C" {
     ) -> u64;
 }
 
+/// A buffer by its first byte's place and its length. One of no bytes may have any place, which a slice may not.
+pub type Given = (*mut u8, usize);
+
+/// # Safety
+/// Each place has as many bytes as the length beside it says, and a buffer that may change shares none with another.
+pub unsafe fn read_at(job: Given, answer: Given) -> Answer {
+    Answer::unpack(nest_read(job.0, job.1, answer.0, answer.1))
+}
+
+/// # Safety
+/// As above.
+pub unsafe fn row_at(job: Given, kind: u64, number: u64, other: u64, row: Given) -> Answer {
+    Answer::unpack(nest_row(job.0, job.1, kind, number, other, row.0, row.1))
+}
+
+/// # Safety
+/// As above; nothing is changed, so the two may share bytes.
+pub unsafe fn check_at(job: Given, layout: Given) -> Answer {
+    Answer::unpack(nest_check(job.0, job.1, layout.0, layout.1))
+}
+
+/// # Safety
+/// As above.
+pub unsafe fn run_at(job: Given, budget: u32, work: Given, answer: Given) -> Answer {
+    Answer::unpack(nest_run(job.0, job.1, budget, work.0, work.1, answer.0, answer.1))
+}
+
+fn kept(bytes: &[u8]) -> Given {
+    (bytes.as_ptr().cast_mut(), bytes.len())
+}
+
+fn changed(bytes: &mut [u8]) -> Given {
+    (bytes.as_mut_ptr(), bytes.len())
+}
+
 pub fn read(job: &[u8], answer: &mut [u8]) -> Answer {
-    // SAFETY: pointers and lengths are those of live slices, and the changed one is borrowed alone.
-    Answer::unpack(unsafe { nest_read(job.as_ptr(), job.len(), answer.as_mut_ptr(), answer.len()) })
+    // SAFETY: places and lengths are those of live slices, and the changed one is borrowed alone.
+    unsafe { read_at(kept(job), changed(answer)) }
 }
 
 pub fn row(job: &[u8], kind: u64, number: u64, other: u64, row: &mut [u8]) -> Answer {
     // SAFETY: as above.
-    Answer::unpack(unsafe { nest_row(job.as_ptr(), job.len(), kind, number, other, row.as_mut_ptr(), row.len()) })
+    unsafe { row_at(kept(job), kind, number, other, changed(row)) }
 }
 
 pub fn check(job: &[u8], layout: &[u8]) -> Answer {
     // SAFETY: as above; nothing is changed, so the two may share bytes.
-    Answer::unpack(unsafe { nest_check(job.as_ptr(), job.len(), layout.as_ptr(), layout.len()) })
+    unsafe { check_at(kept(job), kept(layout)) }
 }
 
 pub fn run(job: &[u8], budget: u32, work: &mut [u8], answer: &mut [u8]) -> Answer {
-    let (work_at, answer_at) = (work.as_mut_ptr(), answer.as_mut_ptr());
     // SAFETY: as above; the two changed ones are borrowed apart.
-    Answer::unpack(unsafe {
-        nest_run(job.as_ptr(), job.len(), budget, work_at, work.len(), answer_at, answer.len())
-    })
+    unsafe { run_at(kept(job), budget, changed(work), changed(answer)) }
 }

@@ -11,6 +11,7 @@ fn main() {
     runs::gaps();
     runs::triangles();
     runs::strips();
+    runs::parts_that_overlap();
     runs::bars();
     runs::classes();
     pairs::meeting();

@@ -65,6 +65,17 @@ pub fn strips() {
     show::check(name, &job[0..n], &layout);
 }
 
+// "A bound from summed part areas: parts may overlap." One piece of two parts, the same square twice, on a board as large as the square.
+pub fn parts_that_overlap() {
+    let name = b"one square twice in a piece, W 2, L 2";
+    let kinds = b"\x01\x01\0\x02\x04\0\0\x02\0\x02\x02\0\x02\x04\0\0\x02\0\x02\x02\0\x02";
+    let mut job = [0u8; 64];
+    let n = jobs::job_of(&mut job, 2, 2, b"", 1, kinds);
+    show::read_and_run(name, &job[0..n]);
+    let layout = [0u8; 8];
+    show::check(name, &job[0..n], &layout);
+}
+
 // The bar with this turn mask.
 fn bar(name: &[u8], turns: u8) {
     let mut job = [0u8; 64];

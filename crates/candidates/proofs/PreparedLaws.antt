@@ -24,14 +24,14 @@ use Rattle.model.specs.Grid.{Placement, placement, rows, columns, dots, numberL
 use Rattle.model.specs.Layout.{entry, entryOf, entryKind, conflict}
 use Rattle.model.specs.Lists.{all, any, concat, below, largestZ, smallestZ}
 use Rattle.model.specs.Services.{rowBit, rowWords}
-use Rattle.model.proofs.Accepted.{accepted-no-cause, accepted-kinds, accepted-sensible}
+use Rattle.model.proofs.Accepted.{accepted-kinds, accepted-sensible}
 use Rattle.model.proofs.Box.{all-onBoard, placed-vertices, extent-placed, largest-x-moved, largest-y-moved, smallest-x-moved, smallest-y-moved}
 use Rattle.model.proofs.Folds.{map-same}
 use Rattle.model.proofs.Lists.{and-left, and-right, not-both}
 use Rattle.model.proofs.Numbers.{rows-positive}
 use Rattle.model.proofs.Moves.{Vertexed, separated-placed}
 use Rattle.model.proofs.AcceptedKinds.{gap-most}
-use Rattle.model.proofs.Causes.{board-fits}
+use Rattle.model.proofs.Causes.{no-cause, board-fits}
 use Rattle.geometry.specs.Boxes.{extentsOf}
 use Rattle.geometry.specs.Flat.{shifted}
 use Rattle.geometry.specs.declared.extents.Extents.{Extents}
@@ -66,7 +66,7 @@ reached n g c h =
 -- the board's numbers are at most 1000
 pub sheet-range : (s : List ℕ) → refusal s ≡ 0 → (content s .sheet .W ≤ 1000) × (content s .sheet .L ≤ 1000) × (content s .sheet .g ≤ 1000)
 unfolding content
-sheet-range s e = let f = board-fits s (accepted-no-cause s e .not4) in (f .widthMost, f .lengthMost, f .stepMost)
+sheet-range s e = let f = board-fits s (no-cause s e .no4) in (f .widthMost, f .lengthMost, f .stepMost)
 
 module _ (s : List ℕ) (v : View) (x : Viewed s v) where
   pub bounded : Bounded v

@@ -18,7 +18,7 @@ use Rattle.model.specs.Layout.{Entry, Layout, entryNumber, entryKind, isEntry, 
 use Rattle.model.specs.Lists.{all, sum, largest, rising, below, between}
 use Rattle.model.specs.Services.{entryIn, layoutIn, numbersIn, cause11, check}
 use Rattle.model.specs.declared.Checked.the-variants as C
-use Rattle.model.proofs.Accepted.{accepted-no-cause}
+use Rattle.model.proofs.Causes.{no-cause}
 use Rattle.model.proofs.Lists.{and-left, and-right, or-left, or-right, not-both, below-all, all-below}
 use Rattle.model.proofs.Search.Pieces.{entry-kind}
 use Rattle.job.specs.declared.View.{View}
@@ -75,7 +75,7 @@ module _ (j : Job) where
 -- "the demands sum to N, at most 12"
 pub few-pieces : (s : List ℕ) → refusal s ≡ 0 → pieceCount (content s) ≤ 12
 unfolding pieceCount content cause6 kindsUnfit kindsIn
-few-pieces s e = go (kindsGot s) (or-right (not (between 1 8 (kindsStated s))) _ (accepted-no-cause s e .not6))
+few-pieces s e = go (kindsGot s) (or-right (not (between 1 8 (kindsStated s))) _ (no-cause s e .no6))
   where
     go : (g : Got (List Kind)) → kindsUnfit (classesOf s) (kindsLength s) g ≡ false → sum (map (λ k. k .demand) (kindsIn g)) ≤ 12
     go bad u = absurd (not-both refl u)

@@ -1,5 +1,5 @@
 -- What an accepted job's content is sure to have: its refusals 1 to 7 are not given.
-use mathlib.Core.Bool.{Bool, true, false, not, cond, _||_}
+use mathlib.Core.Bool.{Bool, true, false, not, _||_}
 use mathlib.Core.List.{List, [], _∷_, map, List·Memᴰ, List·Memᴰ·head, List·Memᴰ·tail, List·Memᴰ·cases-cons, List·Memᴰ·not-nil}
 use mathlib.Core.Logic.{⊎-elim}
 use mathlib.Core.Path.{_≡_, refl, sym, ap, subst}
@@ -10,40 +10,11 @@ use borrow.Author.Tests.{ltb-false, leb-true, not-false}
 use lib.Dec.{leb, ltb}
 use lib.ListN.{length, getD, drop}
 use Rattle.model.specs.Content.{Part, Kind, Board, Job, kindAt, kindCount, pieceCount, noKind}
-use Rattle.model.specs.Format.{Got, bad, got, joined, followed, many, byteAt, readPart, headInRange, withParts, readKind, kindsStated, kindBytes, kindsGot, kindsIn, boardOf, content, cause1, cause2, cause3, cause4, cause5, cause6, cause7, kindsUnfit, classesOf, kindsLength, refusal}
+use Rattle.model.specs.Format.{Got, bad, got, joined, followed, many, byteAt, readPart, headInRange, withParts, readKind, kindsStated, kindBytes, kindsGot, kindsIn, boardOf, content, cause4, cause6, kindsUnfit, classesOf, kindsLength, refusal}
 use Rattle.model.specs.Grid.{dots}
 use Rattle.model.specs.Lists.{between, sum}
+use Rattle.model.proofs.Causes.{no-cause}
 use Rattle.model.proofs.Lists.{and-left, and-right, and-four, or-left, or-right, not-both}
-
--- ---- No cause is given
-
--- A number that is 0 was not told by a cause that tells another.
-no-cause : (c : Bool) (k n : ℕ) → 0 < k → cond c k n ≡ 0 → (c ≡ false) × (n ≡ 0)
-no-cause true k n h e = absurd (omega arith)
-no-cause false k n h e = (refl, e)
-
--- None of the sender's seven causes is given for an accepted job.
-pub record NoCause (s : List ℕ) : Type 0 where
-  pub not1 : cause1 s ≡ false
-  pub not2 : cause2 s ≡ false
-  pub not3 : cause3 s ≡ false
-  pub not4 : cause4 s ≡ false
-  pub not5 : cause5 s ≡ false
-  pub not6 : cause6 s ≡ false
-  pub not7 : cause7 s ≡ false
-
--- The number told is 0, so each cause was passed over.
-pub accepted-no-cause : (s : List ℕ) → refusal s ≡ 0 → NoCause s
-unfolding refusal
-accepted-no-cause s e =
-    let a1 = no-cause (cause1 s) 1 _ (omega arith) e in
-    let a2 = no-cause (cause2 s) 2 _ (omega arith) (a1 .1) in
-    let a3 = no-cause (cause3 s) 3 _ (omega arith) (a2 .1) in
-    let a4 = no-cause (cause4 s) 4 _ (omega arith) (a3 .1) in
-    let a5 = no-cause (cause5 s) 5 _ (omega arith) (a4 .1) in
-    let a6 = no-cause (cause6 s) 6 _ (omega arith) (a5 .1) in
-    let a7 = no-cause (cause7 s) 7 0 (omega arith) (a6 .1) in
-    record { not1 = a1 .0; not2 = a2 .0; not3 = a3 .0; not4 = a4 .0; not5 = a5 .0; not6 = a6 .0; not7 = a7 .0 }
 
 -- The number lies between the bounds.
 between-true : (lo hi n : ℕ) → between lo hi n ≡ true → (lo ≤ n) × (n ≤ hi)
@@ -124,7 +95,7 @@ fit-kinds s n (got ks m) u r = r
 pub accepted-kinds : (s : List ℕ) → refusal s ≡ 0 → KindsInRange (content s)
 unfolding cause6 content kindsGot kindCount
 accepted-kinds s e =
-    let c : cause6 s ≡ false = accepted-no-cause s e .not6 in
+    let c : cause6 s ≡ false = no-cause s e .no6 in
     let b = between-true 1 8 (kindsStated s) (not-false _ (or-left _ _ c)) in
     let f = fit-kinds s (kindsStated s) (kindsGot s) (or-right (not (between 1 8 (kindsStated s))) _ c)
     (many-reads KindInRange readKind kind-reads (kindsStated s) (kindBytes s)) in
@@ -160,4 +131,4 @@ unfolding cause4 content
 accepted-dots s e =
     let b : Board = boardOf s in
     let fields : Bool = not (between 1 1000 (b .W)) || not (between 1 1000 (b .L)) || not (between 1 1000 (b .g)) in
-    ltb-false _ _ (or-right fields (ltb 1024 (dots b)) (accepted-no-cause s e .not4))
+    ltb-false _ _ (or-right fields (ltb 1024 (dots b)) (no-cause s e .no4))

@@ -9,11 +9,11 @@ use lib.Signed.{leZ}
 use Rattle.integers.specs.Extrema.{maxZ, minZ}
 use Rattle.model.specs.Candidate.{placedPart, placedParts, placedVertices, onBoard, natural, extent}
 use Rattle.model.specs.Content.{Vertex, Part, Kind, Board}
-use Rattle.model.specs.Geometry.{rotated, moved}
+use Rattle.model.specs.Geometry.{rotated, moved, shifted}
 use Rattle.model.specs.Grid.{Placement}
 use Rattle.model.specs.Lists.{all, concat, largestZ, smallestZ}
 use Rattle.model.proofs.Extremes.{largest-test, smallest-test, largest-append, smallest-append, largest-through, smallest-through}
-use Rattle.model.proofs.Moves.{shifted, placed-moved}
+use Rattle.model.proofs.Moves.{placed-moved}
 
 -- ---- tests of all elements
 

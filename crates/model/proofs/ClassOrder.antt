@@ -22,7 +22,7 @@ use Rattle.model.specs.Services.{writeOutcome, readContent, read, rowCon
 use Rattle.model.specs.declared.Checked.the-variants as C
 use Rattle.model.specs.declared.RunAnswer.the-variants as R
 use Rattle.model.specs.declared.Written.the-variants as W
-use Rattle.model.proofs.Accepted.{accepted-no-cause}
+use Rattle.model.proofs.Causes.{no-cause}
 use Rattle.model.proofs.Lists.{or-left, or-right}
 use Rattle.model.proofs.Permuted.{any-permuted, all-permuted, map-permuted, distinct-permuted, keep-permuted}
 
@@ -203,11 +203,11 @@ module _ (s t : List ℕ) (same : SameButClassOrder s t) where
   pub content-same : refusal s ≡ 0 → content s ≡ content t
   unfolding content byRisingId cause5
   content-same accepted =
-      let causes = accepted-no-cause s accepted in
+      let causes = no-cause s accepted in
       let ids : distinct (map (λ c. c .id) (classesOf s)) ≡ true
       = not-false _ (or-right (ltb 8 (classesStated s) || not (all classInRange (classesOf s))) _
-      (or-left _ (not (distinct (map (λ c. c .rank) (classesOf s)))) (causes .not5))) in
-      rw (board-same (causes .not3), kinds-got (causes .not3), fun-ext (λ i. keep-permuted (λ c. c .id) i (same .reordered) ids))
+      (or-left _ (not (distinct (map (λ c. c .rank) (classesOf s)))) (causes .no5))) in
+      rw (board-same (causes .no3), kinds-got (causes .no3), fun-ext (λ i. keep-permuted (λ c. c .id) i (same .reordered) ids))
 
   -- ---- The same answers and buffers
   -- What is made of the refusal and, of an accepted job, of its content is the same for both.

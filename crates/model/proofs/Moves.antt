@@ -15,15 +15,11 @@ use lib.Signed.{leZ}
 use Rattle.integers.proofs.Solver.{ring, _⊞_, _⊟_, _⊠_, _≈_}
 use Rattle.model.specs.Candidate.{placedPart}
 use Rattle.model.specs.Content.{Vertex, vertex, Part, Board}
-use Rattle.model.specs.Geometry.{Direction, direction, rotated, moved, vertexAt, following, outwardNormal, normals, directions, along, clearance, separates, separated, piecesConflict}
+use Rattle.model.specs.Geometry.{Direction, direction, rotated, moved, shifted, vertexAt, following, outwardNormal, normals, directions, along, clearance, separates, separated, piecesConflict}
 use Rattle.model.specs.Grid.{Placement}
 use Rattle.model.specs.Lists.{any, rising, below, largestZ, smallestZ}
 use Rattle.model.proofs.Extremes.{leZ-same, largest-through, smallest-through}
 use Rattle.model.proofs.Tests.{any-same}
-
--- the corner moved by (a, b), each of either sign
-abbrev pub shifted : ℤ → ℤ → Vertex → Vertex
-shifted a b v = vertex (v .x +ℤ a) (v .y +ℤ b)
 
 -- ---- what a move does along a direction
 

@@ -136,6 +136,10 @@ leftCorner x = jobOf 30 30 [] 1 (1 ∷ 1 ∷ 0 ∷ 1 ∷ 3 ∷ x ∷ 0 ∷ 0 ∷
 unfoldable pub star : List ℕ
 star = jobOf 20 20 [] 1 (1 ∷ 1 ∷ 0 ∷ 1 ∷ 5 ∷ 0 ∷ 10 ∷ 250 ∷ 248 ∷ 10 ∷ 3 ∷ 246 ∷ 3 ∷ 6 ∷ 248 ∷ [])
 
+-- One piece of two parts, which are the same square twice, on a board as large as the square.
+unfoldable pub squareTwice : List ℕ
+squareTwice = jobOf 2 2 [] 1 (1 ∷ 1 ∷ 0 ∷ 2 ∷ 4 ∷ 0 ∷ 0 ∷ 2 ∷ 0 ∷ 2 ∷ 2 ∷ 0 ∷ 2 ∷ 4 ∷ 0 ∷ 0 ∷ 2 ∷ 0 ∷ 2 ∷ 2 ∷ 0 ∷ 2 ∷ [])
+
 -- What a run leaves where it holds no layout of two pieces: the numbers that were there.
 abbrev untouched : List ℕ
 untouched = 7 ∷ 7 ∷ 7 ∷ 7 ∷ 7 ∷ 7 ∷ 7 ∷ 7 ∷ []
@@ -193,6 +197,8 @@ furtherBoards =
     ∷ (sends (leftCorner 128) ⇒ isRefused 7)
     -- "Accepting a five-pointed star because each corner turns left" loses a nest.
     ∷ (sends star ⇒ isRefused 7)
+    -- "A bound from summed part areas: parts may overlap." The areas sum to twice the board's.
+    ∷ (runs squareTwice 1000000 ⇒ says (Shortest 2 1) true (0 ∷ 0 ∷ 0 ∷ 0 ∷ []))
     -- One candidate for two squares: look-ahead ends the walk before the first step.
     ∷ (runs (squares 2 2) 1000000 ⇒ says (Infeasible 0) true untouched)
     ∷ []

@@ -22,6 +22,10 @@ rotated (suc k) v = quarterTurn (rotated k v)
 unfoldable pub moved : ℕ → ℕ → Vertex → Vertex
 moved dx dy v = vertex (v .x +ℤ pos dx) (v .y +ℤ pos dy)
 
+-- The corner moved by (dx, dy), each of either sign.
+abbrev pub shifted : ℤ → ℤ → Vertex → Vertex
+shifted dx dy v = vertex (v .x +ℤ dx) (v .y +ℤ dy)
+
 -- Corner i of a part.
 unfoldable pub vertexAt : Part → ℕ → Vertex
 vertexAt P i = getD P i origin

@@ -12,7 +12,8 @@ use Rattle.model.specs.Format.{Got, bad, got, content, refusal, cause4, cause6,
 use Rattle.model.specs.Grid.{dots, setWords}
 use Rattle.model.specs.Lists.{all, between, countOf, sum}
 use Rattle.model.specs.Search.{copiesLeft}
-use Rattle.model.proofs.Accepted.{accepted-no-cause, accepted-kinds, accepted-dots, KindInRange}
+use Rattle.model.proofs.Accepted.{accepted-kinds, accepted-dots, KindInRange}
+use Rattle.model.proofs.Causes.{no-cause}
 use Rattle.model.proofs.Lists.{and-left, and-right, or-left, or-right, not-both}
 use Rattle.search.specs.Levels.{piecesFrom}
 use Rattle.search.proofs.Levels.{pieces-left}
@@ -37,7 +38,7 @@ module _ (s : List ℕ) (accepted : refusal s ≡ 0) where
   -- "the demands sum to N, at most 12"
   pub few-pieces : pieceCount (content s) ≤ 12
   unfolding cause6 content pieceCount
-  few-pieces = fit-sum (classesOf s) (kindsLength s) (kindsGot s) (or-right (not (between 1 8 (kindsStated s))) _ (accepted-no-cause s accepted .not6))
+  few-pieces = fit-sum (classesOf s) (kindsLength s) (kindsGot s) (or-right (not (between 1 8 (kindsStated s))) _ (no-cause s accepted .no6))
 
   -- A set has 64 words at most.
   pub few-words : setWords (content s .sheet) ≤ 64
@@ -48,7 +49,7 @@ module _ (s : List ℕ) (accepted : refusal s ≡ 0) where
   pub short-board : content s .sheet .L ≤ 1000
   unfolding cause4 content between
   short-board =
-      let e = accepted-no-cause s accepted .not4 in
+      let e = no-cause s accepted .no4 in
       leb-true _ 1000 (and-right (leb 1 (boardOf s .L)) _ (not-false _ (or-right (not (between 1 1000 (boardOf s .W))) _ (or-left _ _ (or-left _ _ e)))))
 
   -- Each kind is demanded.

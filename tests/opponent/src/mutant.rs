@@ -41,6 +41,7 @@ pub const NAMES: &[&str] = &[
     "negative_as_byte",
     "length_of_last_piece",
     "guard_written",
+    "null_refused",
     "dots_not_limited",
     "first_completed_held",
     // The impostors that document 01 names.

@@ -16,12 +16,28 @@ fn refused(number: u8) -> u64 {
     packed(number, 0, 0, 0)
 }
 
+/// The bytes of a buffer. One of no bytes may have any pointer, which a slice may not.
+unsafe fn lent<'a>(at: *const u8, length: usize) -> &'a [u8] {
+    match length {
+        0 => &[],
+        _ => slice::from_raw_parts(at, length),
+    }
+}
+
+/// The bytes of a buffer that may change.
+unsafe fn lent_mut<'a>(at: *mut u8, length: usize) -> &'a mut [u8] {
+    match length {
+        0 => &mut [],
+        _ => slice::from_raw_parts_mut(at, length),
+    }
+}
+
 /// # Safety
 /// Pointers and lengths name the caller's buffers.
 #[no_mangle]
 pub unsafe extern "C" fn nest_read(job: *const u8, job_len: usize, answer: *mut u8, answer_len: usize) -> u64 {
-    let job = slice::from_raw_parts(job, job_len);
-    let answer = slice::from_raw_parts_mut(answer, answer_len);
+    let job = lent(job, job_len);
+    let answer = lent_mut(answer, answer_len);
     match read(job) {
         Err(number) => refused(number),
         Ok(job) => write_content(&job, answer),
@@ -75,8 +91,8 @@ pub unsafe extern "C" fn nest_row(
     row: *mut u8,
     row_len: usize,
 ) -> u64 {
-    let job = slice::from_raw_parts(job, job_len);
-    let row = slice::from_raw_parts_mut(row, row_len);
+    let job = lent(job, job_len);
+    let row = lent_mut(row, row_len);
     match read(job) {
         Err(number) => refused(number),
         Ok(job) => write_row(&job, kind, number, other, row),
@@ -121,8 +137,8 @@ fn write_row(job: &Job, kind: u64, number: u64, other: u64, row: &mut [u8]) -> u
 /// Pointers and lengths name the caller's buffers.
 #[no_mangle]
 pub unsafe extern "C" fn nest_check(job: *const u8, job_len: usize, layout: *const u8, layout_len: usize) -> u64 {
-    let job = slice::from_raw_parts(job, job_len);
-    let layout = slice::from_raw_parts(layout, layout_len);
+    let job = lent(job, job_len);
+    let layout = lent(layout, layout_len);
     match read(job) {
         Err(number) => refused(number),
         Ok(job) => checked(&job, layout).map_or(refused(11), |length| packed(0, 0, length, 0)),
@@ -172,9 +188,12 @@ pub unsafe extern "C" fn nest_run(
     answer: *mut u8,
     answer_len: usize,
 ) -> u64 {
-    let job = slice::from_raw_parts(job, job_len);
-    let work = slice::from_raw_parts_mut(work, work_len);
-    let answer = slice::from_raw_parts_mut(answer, answer_len);
+    if mutant::is("null_refused") && work.is_null() {
+        return refused(8);
+    }
+    let job = lent(job, job_len);
+    let work = lent_mut(work, work_len);
+    let answer = lent_mut(answer, answer_len);
     if mutant::is("guard_written") && work_len > 0 {
         // The byte past the lent ones.
         work.as_mut_ptr().add(work_len).write(0xA5);

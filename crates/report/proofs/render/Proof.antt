@@ -6,6 +6,7 @@ use native.Mathlib.Omega.{arith}
 use lib.ListN.{length}
 use Rattle.words.specs.Bytes.{AreBytes}
 use Rattle.model.specs.Output.{firstLine}
+use Rattle.report.specs.Placed.{Placed}
 use Rattle.report.specs.Text.{linesIn}
 use Rattle.report.proofs.Placing.{placed-as, placed-then, placed-front, room}
 use Rattle.report.proofs.Range.{answer-range, first-short}
@@ -32,7 +33,9 @@ put-entries-requires c κs =
     let short : length (firstLine a ++ linesIn s k) ≤ 26 + k * 24 =
     text-short a s k (answer-range a (start .good .0)) (λ i. c .before .before .before .before .before .before .before .shared-slice-known .given i .fits) in
     let fits : 0 + length (firstLine a ++ linesIn s k) ≤ length (start .args .dst .now) = omega (arith, start .pre) in
-    (omega (arith, start .pre), room (linesIn s k) fits (c .before .before .before .before .put-first-line .ensures))
+    let first : Placed 0 (firstLine a) (start .args .dst .now) (c .before .before .before .before .put-first-line .last .0) (c .before .before .before .before .put-first-line .result) =
+    c .before .before .before .before .put-first-line .ensures in
+    (omega (arith, start .pre), room (linesIn s k) fits first)
 
 same-length : tie.Need-same-length
 same-length c = search needs

@@ -2,6 +2,7 @@
 //! Case number i of a run has the seed SEED + i, so `compare 1 --seed S` sees the case S alone again.
 //! With `--first` it gives up at the first mismatch.
 
+mod empties;
 mod harness;
 mod lent;
 #[path = "../../nest.rs"]
@@ -29,6 +30,7 @@ fn main() {
     report.first_only = first_only;
     let mut noise = Noise::new(0);
     paper::small_board_cases(&mut Harness { noise: &mut noise, report: &mut report });
+    empties::empty_buffers(&mut noise, &mut report);
     for case_seed in seed..seed + count {
         random_case(case_seed, &mut report);
     }

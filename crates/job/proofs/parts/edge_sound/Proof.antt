@@ -1,6 +1,8 @@
+use mathlib.Core.Bool.{_||_}
 use mathlib.Core.Path.{_≡_}
 use Prim.Native.Nat.{_≤_, _-_}
 use native.Mathlib.Omega.{arith}
+use lib.Dec.{eqb}
 use Rattle.model.specs.Lists.{all, below}
 use Rattle.job.specs.Parts.{cornerSound, edgeSoundFrom}
 use Rattle.job.proofs.PartLaws.{all-none, corner-more}
@@ -30,7 +32,11 @@ loop-less : tie.Need-loop-less Inv-loop μ-loop
 loop-less c = search needs
 
 loop-again : tie.Need-loop-again Inv-loop μ-loop
-loop-again c = (omega arith, cc (corner-more (c .before .before .before .before .before .args .part .now) (c .before .before .before .before .before .args .p) (c .before .before .before .before .before .args .q) (c .before .before .before .loop .k)))
+loop-again c =
+    let start = c .before .before .before .before .before in
+    let k = c .before .before .before .loop .k in
+    let spared : c .before .spared .result ≡ (eqb k (start .args .p) || eqb k (start .args .q)) = c .before .spared .ensures in
+    (omega arith, cc (spared, corner-more (start .args .part .now) (start .args .p) (start .args .q) k))
 
 returns : tie.Need-returns Inv-loop μ-loop
 unfolding edgeSoundFrom

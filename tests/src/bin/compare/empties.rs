@@ -1,0 +1,75 @@
+//! A buffer of length 0 may have any pointer, null too: each service then answers, and leaves the other buffers, as it does with
+//! an empty buffer that stands in memory.
+
+use nest_tests::answer::Answer;
+use nest_tests::noise::Noise;
+use nest_tests::small_boards::PRINTED;
+
+use crate::nest::{check_at, read_at, row_at, run_at, Given};
+use crate::report::Report;
+
+/// Null, and two places where no byte can be read: the second, and the last of all.
+const PLACES: [usize; 3] = [0, 1, usize::MAX];
+
+struct Service {
+    name: &'static str,
+    /// The bytes of each buffer of the call.
+    buffers: Vec<Vec<u8>>,
+    call: fn(&[Given]) -> Answer,
+}
+
+/// The services on the job that document 01 prints, each with buffers that are long enough.
+fn services(noise: &mut Noise) -> [Service; 4] {
+    let job = PRINTED.to_vec();
+    let layout = vec![0, 0, 0, 0, 0, 0, 0, 0, 0, 0, 2, 0, 0, 0, 0, 0];
+    let (numbers, words, answer) = (noise.bytes(100), noise.bytes(64), noise.bytes(16));
+    // SAFETY of the calls: `agrees` gives places in buffers of its own, or a length of 0.
+    [
+        Service { name: "read", buffers: vec![job.clone(), numbers], call: |b| unsafe { read_at(b[0], b[1]) } },
+        Service {
+            name: "row",
+            buffers: vec![job.clone(), words.clone()],
+            call: |b| unsafe { row_at(b[0], 0, 0, 0, b[1]) },
+        },
+        Service { name: "check", buffers: vec![job.clone(), layout], call: |b| unsafe { check_at(b[0], b[1]) } },
+        Service {
+            name: "run",
+            buffers: vec![job, words, answer],
+            call: |b| unsafe { run_at(b[0], 1_000_000, b[1], b[2]) },
+        },
+    ]
+}
+
+/// What a call answers, and the buffers after it: those named by a bit of `empty` are given with length 0, at this place if there is one.
+fn asked(service: &Service, empty: usize, place: Option<usize>) -> (Answer, Vec<Vec<u8>>) {
+    let mut buffers = service.buffers.clone();
+    let given: Vec<Given> = buffers
+        .iter_mut()
+        .enumerate()
+        .map(|(i, buffer)| match (empty >> i & 1, place) {
+            (0, _) => (buffer.as_mut_ptr(), buffer.len()),
+            (_, None) => (buffer.as_mut_ptr(), 0),
+            (_, Some(place)) => (place as *mut u8, 0),
+        })
+        .collect();
+    ((service.call)(&given), buffers)
+}
+
+/// Every service, with every choice of buffers that are empty, at every place.
+pub fn empty_buffers(noise: &mut Noise, report: &mut Report) {
+    report.origin = "empty buffers".to_string();
+    for service in services(noise) {
+        for empty in 1..1 << service.buffers.len() {
+            let (expected, left) = asked(&service, empty, None);
+            for place in PLACES {
+                report.note("calls with an empty buffer at null or where no byte can be read");
+                let (got, now) = asked(&service, empty, Some(place));
+                if got != expected || now != left {
+                    let name = service.name;
+                    let what = format!("{name}, buffers {empty:b} empty at {place:#x}: {got:?}, expected {expected:?}");
+                    report.mismatch(&what, &PRINTED);
+                }
+            }
+        }
+    }
+}
