@@ -65,7 +65,7 @@ fn say_numbers(numbers: &[u8], n: usize)
 // The numbers that read gives, a negative one as 65,536 plus it, or the refusal.
 pub fn read(board: &[u8], job: &[u8]) {
     let mut numbers = [0u8; 2048];
-    let a = job::read(job, &mut numbers);
+    let a = reading::read(job, &mut numbers);
     say(board);
     match a {
         Written::Refused(n) => say_number(b": read refused ", n as u64),
@@ -88,7 +88,7 @@ pub fn row(board: &[u8], job: &[u8], number: usize)
     requires { ⌜ number < 4096 ⌝ }
 {
     let mut row = [0u8; 512];
-    let a = candidates::rows::row(job, 0, 0, 0, &mut row);
+    let a = rows::row(job, 0, 0, 0, &mut row);
     say(board);
     match a {
         Written::Refused(n) => say_number(b": row refused ", n as u64),

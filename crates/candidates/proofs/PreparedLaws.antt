@@ -1,9 +1,9 @@
 -- What a prepared call's view, turned vertices and boxes say of the model: placements, extents, conflicts and rows. Assumes nothing.
 use mathlib.Core.Bool.{Bool, true, false, not, _&&_, _||_, and-assoc}
-use mathlib.Core.List.{List, [], _∷_, _++_, map}
-use mathlib.Core.Logic.{_⊎_, inl, inr, ⊎-elim}
-use mathlib.Core.Path.{_≡_, refl, sym, ap, ap₂, subst, _∙_}
-use Prim.Native.Nat.{ℕ, zero, suc, _+_, _*_, _/_, _%_, _≤_, _<_, max}
+use mathlib.Core.List.{List, [], _∷_, map}
+use mathlib.Core.Logic.{_⊎_, ⊎-elim}
+use mathlib.Core.Path.{_≡_, refl, sym, ap, ap₂, _∙_}
+use Prim.Native.Nat.{ℕ, suc, _+_, _*_, _/_, _%_, _≤_, _<_, max}
 use native.Mathlib.Nat.{div-mul-le-self, div-le-self, mul-le-mul-right, mod-lt, not-suc-le-zero, div-lt-iff-lt-mul}
 use native.Mathlib.Omega.{arith}
 use borrow.Author.Tests.{ltb-true}
@@ -12,21 +12,19 @@ use lib.IntN.{ℤ, pos, negsuc, _+ℤ_, _-ℤ_}
 use lib.ListN.{length, getD, length-append, length-map}
 use lib.Signed.{leZ, _≤ℤ_}
 use Rattle.integers.proofs.Order.{leZ-true, ≤ℤ-pos}
-use Rattle.words.specs.Bits.{testBit, bitsWhere}
-use Rattle.words.proofs.Bit.{testBit-above, bitsWhere-cong}
+use Rattle.words.specs.Bits.{testBit}
+use Rattle.words.proofs.Bit.{testBit-above}
 use Rattle.words.proofs.Cases.{le-or-lt}
 use Rattle.model.specs.Candidate.{placedPart, placedParts, placedVertices, onBoard, admitted, isCandidate, natural, extent}
-use Rattle.model.specs.Content.{Vertex, Part, Kind, Board, Job, kindAt, kindCount}
+use Rattle.model.specs.Content.{Vertex, Part, Board, Job, kindAt, kindCount}
 use Rattle.model.specs.Format.{content, refusal}
-use Rattle.model.specs.Gap.{kindGap, pairGap}
+use Rattle.model.specs.Gap.{pairGap}
 use Rattle.model.specs.Geometry.{rotated, moved, separated, piecesConflict}
 use Rattle.model.specs.Grid.{Placement, placement, rows, columns, dots, numberLimit, placementOf}
 use Rattle.model.specs.Layout.{entry, entryOf, entryKind, conflict}
-use Rattle.model.specs.Lists.{all, any, concat, below, largestZ, smallestZ}
-use Rattle.model.specs.Services.{rowBit, rowWords}
-use Rattle.model.proofs.Accepted.{accepted-kinds, accepted-sensible}
+use Rattle.model.specs.Lists.{all, any, concat}
+use Rattle.model.proofs.Accepted.{accepted-sensible}
 use Rattle.model.proofs.Box.{all-onBoard, placed-vertices, extent-placed, largest-x-moved, largest-y-moved, smallest-x-moved, smallest-y-moved}
-use Rattle.model.proofs.Folds.{map-same}
 use Rattle.model.proofs.Lists.{and-left, and-right, not-both}
 use Rattle.model.proofs.Numbers.{rows-positive}
 use Rattle.model.proofs.Moves.{Vertexed, separated-placed}
@@ -34,18 +32,17 @@ use Rattle.model.proofs.AcceptedKinds.{gap-most}
 use Rattle.model.proofs.Causes.{no-cause, board-fits}
 use Rattle.geometry.specs.Boxes.{extentsOf}
 use Rattle.geometry.specs.Flat.{shifted}
-use Rattle.geometry.specs.declared.extents.Extents.{Extents}
 use Rattle.job.specs.declared.View.{View}
-use Rattle.candidates.specs.Boxes.{boxAt, turnedVertices, BoxesOf}
-use Rattle.candidates.specs.Pieces.{PieceOf, partsIn}
+use Rattle.shapes.specs.Boxes.{boxAt, turnedVertices, BoxesOf}
+use Rattle.shapes.specs.Pieces.{PieceOf}
 use Rattle.candidates.specs.Placements.{Bounded, within, fitsAt, placeable, offered, extentAt}
-use Rattle.candidates.specs.Rows.{Prepared, placed, placedOf, Near, conflictBetween, bitOf, wordOf}
-use Rattle.candidates.specs.Turned.{Viewed, TurnedOf}
-use Rattle.candidates.specs.declared.boxes.Boxes.{Boxes}
+use Rattle.candidates.specs.Conflicts.{placedOf, Near, conflictBetween}
+use Rattle.shapes.specs.Turned.{Viewed, TurnedOf}
+use Rattle.shapes.specs.declared.boxes.Boxes.{Boxes}
 use Rattle.candidates.specs.declared.conflicts.Placed.{Placed}
-use Rattle.candidates.specs.declared.pieces.Piece.{Piece}
-use Rattle.candidates.proofs.PieceLaws.{parts-turned}
-use Rattle.candidates.proofs.ViewLaws.{few-kinds, kind-in, some-part, part-in}
+use Rattle.shapes.specs.declared.pieces.Piece.{Piece}
+use Rattle.shapes.proofs.PieceLaws.{parts-turned}
+use Rattle.shapes.proofs.ViewLaws.{few-kinds, kind-in, some-part, part-in}
 
 -- ---- the ranges of a view's numbers
 
@@ -85,6 +82,12 @@ module _ (s : List ℕ) (v : View) (x : Viewed s v) where
         rotations = λ t h. rw (kind-in s v x t (rw (x .view .kinds) at h) .rotations) (accepted-sensible s (x .accepted) .turned t);
         gaps = λ t h. rw (kind-in s v x t (rw (x .view .kinds) at h) .gap) (gap-most s (x .accepted) (kindAt (content s) t));
       }
+
+  -- The larger of the two gaps in the view is the pair's.
+  pub gap-is : (t u : ℕ) → t < kindCount (content s) → u < kindCount (content s)
+      → max (getD (v .gaps) t 0) (getD (v .gaps) u 0) ≡ pairGap (content s) (kindAt (content s) t) (kindAt (content s) u)
+  unfolding pairGap
+  gap-is t u ht hu = ap₂ max (kind-in s v x t ht .gap) (kind-in s v x u hu .gap)
 
   -- the vertices of a kind
   module _ (t : ℕ) (h : t < kindCount (content s)) where
@@ -207,29 +210,6 @@ module _ (s : List ℕ) (v : View) (table : List ℤ) (x : Viewed s v) (z : Turn
       ≡ conflict (content s) (entryOf (content s) t n) (entryOf (content s) u m)
   numbers-conflict n m =
       conflict-is (placedOf (v .rows) n) (placedOf (v .rows) m) (omega arith) (omega arith) ∙ ap₂ (conflict (content s)) (place-is n) (place-is-2 m)
-
-  module _ (b : Boxes) (y : BoxesOf s b) (gap n : ℕ) (eg : gap ≡ pairGap (content s) (kindAt (content s) t) (kindAt (content s) u)) where
-    -- A bit of the row is what the model says.
-    pub bit-is : (m : ℕ) → bitOf v b table p (placedOf (v .rows) n) q u gap m ≡ rowBit (content s) t n u m
-    unfolding bitOf rowBit
-    bit-is m = go (isCandidate (content s) u m) refl
-      where
-        test : Bool
-        test = conflictBetween table (v .step) p (placedOf (v .rows) n) q (placedOf (v .rows) m) gap
-
-        same : test ≡ conflict (content s) (entryOf (content s) t n) (entryOf (content s) u m)
-        same =
-            ap (λ g. conflictBetween table (v .step) p (placedOf (v .rows) n) q (placedOf (v .rows) m) g) eg
-            ∙ numbers-conflict n m
-
-        go : (w : Bool) → isCandidate (content s) u m ≡ w → (offered v b u m && test) ≡ rowBit (content s) t n u m
-        go true e = ap (λ w. w && test) (offered-is s v b x y u hu m ∙ e) ∙ same ∙ rw (e, rowBit)
-        go false e = ap (λ w. w && test) (offered-is s v b x y u hu m ∙ e) ∙ rw (e, rowBit)
-
-    -- The words of the row are what the model says.
-    pub words-are : (k : ℕ) → map (wordOf v b table p (placedOf (v .rows) n) q u gap) (below k) ≡ map (λ w. bitsWhere 64 (λ i. rowBit (content s) t n u (w * 64 + i))) (below k)
-    unfolding wordOf
-    words-are k = map-same _ _ (below k) (λ w. bitsWhere-cong 64 _ _ (λ i l. bit-is (w * 64 + i)))
 
 -- ---- what every candidate keeps
 

@@ -10,8 +10,8 @@ use Rattle.words.specs.Bits.{testBit}
 use Rattle.model.specs.Candidate.{natural}
 use Rattle.geometry.specs.declared.extents.Extents.{Extents}
 use Rattle.job.specs.declared.View.{View}
-use Rattle.candidates.specs.Boxes.{boxAt}
-use Rattle.candidates.specs.declared.boxes.Boxes.{Boxes}
+use Rattle.shapes.specs.Boxes.{boxAt}
+use Rattle.shapes.specs.declared.boxes.Boxes.{Boxes}
 
 -- The ranges of a view's numbers.
 pub record Bounded (v : View) : Type 0 where

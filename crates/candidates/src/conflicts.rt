@@ -6,13 +6,13 @@ ghost use lib.ListN.{length, getD};
 ghost use Rattle.model.specs.Format.{content};
 ghost use Rattle.model.specs.Layout;
 ghost use Rattle.model.specs.Layout.{entryOf};
-ghost use Rattle.candidates.specs.Pieces.{Fitting};
+ghost use Rattle.shapes.specs.Pieces.{Fitting};
 ghost use Rattle.candidates.specs.Placements.{Bounded};
-ghost use Rattle.candidates.specs.Rows.{Near, Numbered, placedOf, conflictBetween};
-ghost use Rattle.candidates.specs.Turned.{Viewed, TurnedOf};
-use crate::pieces::Piece;
-use crate::pieces::piece_of;
-use crate::pieces::pieces_conflict;
+ghost use Rattle.candidates.specs.Conflicts.{Near, Numbered, placedOf, conflictBetween};
+ghost use Rattle.shapes.specs.Turned.{Viewed, TurnedOf};
+use shapes::pieces::Piece;
+use shapes::pieces::piece_of;
+use shapes::pieces::pieces_conflict;
 use job::View;
 
 // A dot and a rotation.

@@ -1,9 +1,3 @@
-// Candidates of an accepted job, conflict of two placed pieces, and the row service.
-pub mod boxes;
+// Candidates of an accepted job, and conflict of two placed pieces.
 pub mod conflicts;
-pub mod offsets;
-pub mod pieces;
 pub mod placements;
-pub mod rows;
-pub mod turned;
-pub mod windows;

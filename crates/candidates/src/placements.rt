@@ -4,7 +4,7 @@ ghost use Prim.Native.Nat.{_+_, _*_, _≤_, _<_};
 ghost use lib.IntN.{pos, _+ℤ_};
 ghost use Rattle.model.specs.Candidate.{natural};
 ghost use Rattle.candidates.specs.Placements.{Bounded, within, fitsAt, placeable, offered, extentAt};
-use crate::boxes::Boxes;
+use shapes::boxes::Boxes;
 use geometry::extents::Extents;
 use job::View;
 

@@ -10,9 +10,9 @@ use lib.Seq.{length-take-le}
 use Rattle.model.specs.Format.{byteAt, boardAt, classesAt, classesStated, kindsAt, kindsLength, kindsStated, boardOf, classAt, classesOf, distinct, kindBytes, kindsGot, kindsUnfit, cause1, cause2, cause3, cause4, cause5, cause6}
 use Rattle.model.specs.Lists.{between, below}
 use Rattle.model.proofs.Folds.{map-same}
-use Rattle.job.specs.Board.{boardFrom, unfitBoard}
-use Rattle.job.specs.Classes.{classFrom, classesFrom, entryAt, allInRange, distinctColumn, classesUnfit}
-use Rattle.job.specs.Kinds.{listUnfit}
+use Rattle.frame.specs.Board.{boardFrom, unfitBoard}
+use Rattle.records.specs.Classes.{classFrom, classesFrom, entryAt, allInRange, distinctColumn, classesUnfit}
+use Rattle.records.specs.Kinds.{listUnfit}
 use Rattle.job.specs.Refusal.{refusalTo6}
 
 pub board-cause : (s : List ℕ) (o : ℕ) → o ≡ boardAt s → unfitBoard (boardFrom s o) ≡ cause4 s

@@ -16,10 +16,10 @@ use Rattle.model.specs.Gap.{names, better, bestFrom, bestRanked, gapOr0}
 use Rattle.model.specs.Lists.{all, any, keep, concat, rising, below}
 use Rattle.model.proofs.Folds.{keep-append, keep-none}
 use Rattle.model.proofs.Lists.{and-left, and-right}
-use Rattle.job.specs.Classes.{classFrom, classesFrom, entryAt, firstFrom, hasId, indexOf, distinctColumn}
+use Rattle.records.specs.Classes.{classFrom, classesFrom, entryAt, firstFrom, hasId, indexOf, distinctColumn}
 use Rattle.job.specs.Gaps.{bestOf, offered, offeredId, bestBelow}
 use Rattle.job.specs.declared.gaps.Best.{Best}
-use Rattle.job.proofs.ClassLaws.{risen-more}
+use Rattle.records.proofs.ClassLaws.{risen-more}
 
 pub eqb-swap : (a b : ℕ) → eqb a b ≡ eqb b a
 eqb-swap a b = go (eqb b a) refl

@@ -1,15 +1,5 @@
-pub mod Bools
 pub mod CauseLaws
-pub mod ClassLaws
-pub mod ContentLaws
 pub mod GapLaws
-pub mod KindLaws
-pub mod ListingLaws
-pub mod PartLaws
 pub mod PlaceLaws
-pub mod Ranges
-pub mod RecordLaws
-pub mod RisingLaws
 pub mod TableLaws
 pub mod ViewLaws
-pub mod WriteLaws

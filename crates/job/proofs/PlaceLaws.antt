@@ -12,8 +12,8 @@ use Rattle.model.specs.Content.{Part}
 use Rattle.model.specs.Format.{Got, bad, got, many, readPart}
 use Rattle.model.proofs.Readers.{many-length}
 use Rattle.job.specs.Places.{FoundAt, Placed}
-use Rattle.job.specs.Records.{sizeOf, valueOf, valuesOf, Reads}
-use Rattle.job.proofs.RecordLaws.{tail, size-is, reads-bad, reads-more, values-more}
+use Rattle.records.specs.Records.{sizeOf, valueOf, valuesOf, Reads}
+use Rattle.records.proofs.RecordLaws.{tail, size-is, reads-bad, reads-more, values-more}
 
 -- One more at the end, seen from each index.
 pub at-more : {A : Type 0} (P : ℕ → A → Type 0) (d : A) (xs ys : List A) (x : A) (n : ℕ) → ys ≡ xs ++ (x ∷ []) → length xs ≡ n

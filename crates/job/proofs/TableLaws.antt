@@ -12,14 +12,14 @@ use Rattle.model.specs.Lists.{sum}
 use Rattle.model.proofs.Folds.{sum-more, map-append}
 use Rattle.model.proofs.Readers.{many-length}
 use Rattle.model.proofs.Records.{byte-first, byte-behind, KindRead, kind-read}
-use Rattle.job.specs.Classes.{classesFrom, distinctColumn}
+use Rattle.records.specs.Classes.{classesFrom, distinctColumn}
 use Rattle.job.specs.Gaps.{bestBelow}
 use Rattle.job.specs.Places.{FoundAt, Placed}
-use Rattle.job.specs.Records.{sizeOf, valueOf, valuesOf, Reads}
+use Rattle.records.specs.Records.{sizeOf, valueOf, valuesOf, Reads}
 use Rattle.job.specs.Table.{gapIn, Stored, Built}
 use Rattle.job.proofs.GapLaws.{gap-is}
 use Rattle.job.proofs.PlaceLaws.{at-more, got-next, reads-on}
-use Rattle.job.proofs.RecordLaws.{tail, reads-none, values-none, values-more, reads-from, values-from, size-is}
+use Rattle.records.proofs.RecordLaws.{tail, reads-none, values-none, values-more, reads-from, values-from, size-is}
 
 -- A place found behind the first h bytes is one of the whole.
 found-behind : (list : List ℕ) (base h o : ℕ) (P : Part) → FoundAt (drop h list) (base + h) o P → FoundAt list base o P

@@ -15,20 +15,20 @@ use Rattle.model.proofs.Causes.{NoCause, none-before, refusal-is, Sections, sec
 use Rattle.model.proofs.Folds.{any-take-more}
 use Rattle.model.proofs.Readers.{many-length}
 use Rattle.model.proofs.Records.{byte-behind, byte-first, length-vertices, vertices-same, PartRead, part-read}
-use Rattle.job.specs.Board.{BoardIn}
-use Rattle.job.specs.declared.board.Board.{Board}
-use Rattle.job.specs.Classes.{classesFrom, distinctColumn}
+use Rattle.frame.specs.Board.{BoardIn}
+use Rattle.frame.specs.declared.board.Board.{Board}
+use Rattle.records.specs.Classes.{classesFrom, distinctColumn}
 use Rattle.job.specs.Places.{FoundAt}
-use Rattle.job.specs.Records.{Reads, valuesOf}
+use Rattle.records.specs.Records.{Reads, valuesOf}
 use Rattle.job.specs.Refusal.{refusalTo6}
 use Rattle.job.specs.Soundness.{badPart, badAt, badKind}
 use Rattle.job.specs.Table.{gapIn, Stored, Built}
 use Rattle.job.specs.declared.View.{View}
 use Rattle.job.specs.View.{PartAt, KindIn, ViewOf}
-use Rattle.job.specs.Parts.{unfitFrom}
-use Rattle.job.proofs.PartLaws.{unfit-same}
+use Rattle.records.specs.Parts.{unfitFrom}
+use Rattle.records.proofs.PartLaws.{unfit-same}
 use Rattle.job.proofs.CauseLaws.{classes-are, ids-distinct, list-is, list-length}
-use Rattle.job.proofs.RecordLaws.{tail, reads-from, values-from}
+use Rattle.records.proofs.RecordLaws.{tail, reads-from, values-from}
 
 -- A byte of the type list is one of the job.
 byte-in-list : (s : List ℕ) (q i : ℕ) → i < length (drop q (kindBytes s)) → byteAt (drop q (kindBytes s)) i ≡ byteAt s (kindsAt s + q + i)

@@ -5,7 +5,7 @@ use Prim.Native.Nat.{ℕ, zero, suc, _+_, _*_}
 use lib.Dec.{ltb}
 use Rattle.words.specs.Bits.{testBit}
 use Rattle.model.specs.Format.{byteAt}
-use Rattle.job.specs.Classes.{indexOf}
+use Rattle.records.specs.Classes.{indexOf}
 use Rattle.job.specs.declared.gaps.Best.{Best}
 
 abbrev pub bestOf : Bool → ℕ → ℕ → Best

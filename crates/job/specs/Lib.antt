@@ -1,13 +1,6 @@
-pub mod Trailer
-pub mod Board
-pub mod Classes
-pub mod Records
-pub mod Kinds
-pub mod Parts
 pub mod Gaps
 pub mod Places
 pub mod Table
 pub mod Refusal
 pub mod Soundness
 pub mod View
-pub mod Write

@@ -5,7 +5,7 @@ use Prim.Native.Nat.{ℕ, _+_, _<_, _≤_}
 use lib.ListN.{length, getD, drop}
 use Rattle.model.specs.Content.{Part}
 use Rattle.model.specs.Format.{Got, got, many, readPart}
-use Rattle.job.specs.Records.{sizeOf, valueOf, valuesOf}
+use Rattle.records.specs.Records.{sizeOf, valueOf, valuesOf}
 
 -- The part P stands o bytes behind a place at which the bytes s begin, base bytes from the front.
 pub record FoundAt (s : List ℕ) (base o : ℕ) (P : Part) : Type 0 where

@@ -8,7 +8,7 @@ use Rattle.model.specs.Format.{many, readKind, byRisingId}
 use Rattle.model.specs.Gap.{names, bestRanked, gapOr0}
 use Rattle.model.specs.Lists.{keep, sum}
 use Rattle.job.specs.Places.{FoundAt}
-use Rattle.job.specs.Records.{Reads, valuesOf}
+use Rattle.records.specs.Records.{Reads, valuesOf}
 
 -- The gap of a kind, of the classes in the order of the file.
 unfoldable pub gapIn : List SpacingClass → Kind → ℕ

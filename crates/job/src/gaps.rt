@@ -1,7 +1,7 @@
 // The gap of a type: that of its class with the smallest rank number.
-use crate::classes;
-use crate::fields;
-use crate::kinds;
+use records::classes;
+use frame::fields;
+use records::kinds;
 ghost use mathlib.Core.Path.{_≡_};
 ghost use Prim.Native.Nat.{_+_, _*_, _≤_, _<_};
 ghost use lib.ListN.{length};

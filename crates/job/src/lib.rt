@@ -1,28 +1,14 @@
-// Reading a job: the sender's refusals 1 to 7, what the layers above use of an accepted job, and the read service.
+// An accepted job: the first of the sender's causes of refusal, 1 to 7, and the view that the layers above use.
 
 ghost use mathlib.Core.Path.{_≡_};
-use model::Written;
 ghost use Rattle.model.specs.Format.{refusal};
-ghost use Rattle.model.specs.Services as Services;
 ghost use Rattle.job.specs.View.{ViewOf};
 
 mod accepted;
-mod answer;
-mod board;
 mod causes;
-mod classes;
-mod content;
-mod fields;
 mod gaps;
-mod kinds;
-mod listing;
-mod parts;
 mod places;
-mod records;
-mod rising;
-mod sections;
 mod table;
-mod trailer;
 
 // What the layers above use of an accepted job: numbers, and where each part's bytes begin. Of each array the first
 // `kinds` entries count; of `part_at` the entries t * 6 + i for part i of kind t.
@@ -83,18 +69,4 @@ pub fn open(job: &[u8]) -> Opened
         return Opened { refusal: 7, view };
     }
     Opened { refusal: 0, view }
-}
-
-// The read service: W, L, g, the classes by rising id, the types and the number of pieces, as numbers. A refusal changes no byte of the answer.
-pub fn read(job: &[u8], answer: &mut [u8]) -> Written
-    ensures { λ r. ⌜ r ≡ Services.read (now (job .entry)) (now (answer .entry)) .answer ⌝ }
-    ensures { λ _. ⌜ now (answer .exit) ≡ Services.read (now (job .entry)) (now (answer .entry)) .buffer ⌝ }
-{
-    let opened = open(job);
-    let refusal = opened.refusal;
-    if refusal != 0 {
-        return Written::Refused(refusal);
-    }
-    let view = opened.view;
-    content::read_content(job, view.pieces, answer)
 }

@@ -1,11 +1,11 @@
 // Where the parts of an accepted type record begin.
-use crate::records;
+use records::sizes;
 ghost use mathlib.Core.Path.{_≡_};
 ghost use Prim.Native.Nat.{_+_, _≤_, _<_};
 ghost use lib.ListN.{length};
 ghost use Rattle.model.specs.Format.{many, readPart};
 ghost use Rattle.job.specs.Places.{Placed};
-ghost use Rattle.job.specs.Records.{Reads, sizeOf};
+ghost use Rattle.records.specs.Records.{Reads, sizeOf};
 
 // The places of the n parts at the front of a piece of the job that begins at byte `base`: into entries `first` on of the table.
 pub fn place_parts(parts: &[u8], n: usize, base: usize, first: usize, table: &mut [usize; 48])
@@ -16,7 +16,7 @@ pub fn place_parts(parts: &[u8], n: usize, base: usize, first: usize, table: &mu
     let mut i = 0;
     while i < n {
         table[first + i] = base + here;
-        here += records::part_size(&parts[here..]);
+        here += sizes::part_size(&parts[here..]);
         i += 1;
     }
 }

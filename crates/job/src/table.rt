@@ -1,15 +1,15 @@
 // What the type records of an accepted job say, in tables of one entry a type.
-use crate::fields;
+use frame::fields;
 use crate::gaps;
 use crate::places;
-use crate::records;
+use records::sizes;
 ghost use mathlib.Core.Bool.{true};
 ghost use mathlib.Core.Path.{_≡_};
 ghost use Prim.Native.Nat.{_+_, _*_, _≤_, _<_};
 ghost use lib.ListN.{length};
 ghost use Rattle.model.specs.Format.{many, readKind};
-ghost use Rattle.job.specs.Classes.{classesFrom, distinctColumn};
-ghost use Rattle.job.specs.Records.{Reads};
+ghost use Rattle.records.specs.Classes.{classesFrom, distinctColumn};
+ghost use Rattle.records.specs.Records.{Reads};
 ghost use Rattle.job.specs.Table.{Built};
 
 pub struct Table {
@@ -49,7 +49,7 @@ pub fn read_kinds(job: &[u8], at: usize, n: usize, list: &[u8], base: usize, kin
             &mut part_at,
         );
         pieces += demand;
-        here += records::kind_size(&list[here..]);
+        here += sizes::kind_size(&list[here..]);
         t += 1;
     }
     Table {

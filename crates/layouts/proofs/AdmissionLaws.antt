@@ -22,9 +22,9 @@ use Rattle.model.specs.Services.{entryIn}
 use Rattle.model.proofs.Folds.{map-append}
 use Rattle.model.proofs.Lists.{and-left, and-right, not-both, all-at, length-below, getD-map-below}
 use Rattle.job.specs.declared.View.{View}
-use Rattle.candidates.specs.Boxes.{boxAt}
+use Rattle.shapes.specs.Boxes.{boxAt}
 use Rattle.candidates.specs.Placements.{Bounded, within, fitsAt, placeable, extentAt}
-use Rattle.candidates.specs.declared.boxes.Boxes.{Boxes}
+use Rattle.shapes.specs.declared.boxes.Boxes.{Boxes}
 use Rattle.layouts.specs.Entries.{entriesIn}
 use Rattle.layouts.specs.Passing.{admittedBy, extentBy}
 use Rattle.layouts.proofs.EntryLaws.{entries-more}

@@ -22,12 +22,12 @@ use Rattle.model.proofs.Causes.{no-cause}
 use Rattle.model.proofs.Lists.{and-left, and-right, or-left, or-right, not-both, below-all, all-below}
 use Rattle.model.proofs.Search.Pieces.{entry-kind}
 use Rattle.job.specs.declared.View.{View}
-use Rattle.candidates.specs.Boxes.{BoxesOf}
+use Rattle.shapes.specs.Boxes.{BoxesOf}
 use Rattle.candidates.specs.Placements.{placeable}
-use Rattle.candidates.specs.Turned.{Viewed}
-use Rattle.candidates.specs.declared.boxes.Boxes.{Boxes}
+use Rattle.shapes.specs.Turned.{Viewed}
+use Rattle.shapes.specs.declared.boxes.Boxes.{Boxes}
 use Rattle.candidates.proofs.PreparedLaws.{placeable-is, extent-is}
-use Rattle.candidates.proofs.ViewLaws.{kind-in}
+use Rattle.shapes.proofs.ViewLaws.{kind-in}
 use Rattle.layouts.specs.Entries.{entriesIn}
 use Rattle.layouts.specs.Passing.{inOrderBy, orderedBy, demandedBy, demandMetBy, admittedBy, extentBy, checkedAs}
 use Rattle.layouts.proofs.ClearanceLaws.{of-kind, turned-once}

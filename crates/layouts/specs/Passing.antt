@@ -15,7 +15,7 @@ use Rattle.model.specs.declared.Checked.{Checked}
 use Rattle.model.specs.declared.Checked.the-variants as C
 use Rattle.job.specs.declared.View.{View}
 use Rattle.candidates.specs.Placements.{placeable, extentAt}
-use Rattle.candidates.specs.declared.boxes.Boxes.{Boxes}
+use Rattle.shapes.specs.declared.boxes.Boxes.{Boxes}
 use Rattle.layouts.specs.Entries.{entriesIn}
 
 -- "Its number is (c × R + r) × 4 + turn", on a board of so many rows.

@@ -8,7 +8,7 @@ ghost use Rattle.layouts.specs.Entries.{asEntry, entriesIn};
 ghost use Rattle.layouts.specs.Passing.{admittedBy};
 use crate::entries::Entry;
 use crate::entries::entry_at;
-use candidates::boxes::Boxes;
+use shapes::boxes::Boxes;
 use candidates::placements::is_placement;
 use job::View;
 

@@ -7,8 +7,8 @@ ghost use Rattle.model.specs.Format.{content};
 ghost use Rattle.model.specs.Layout.{isEntry, conflict, apart};
 ghost use Rattle.model.specs.Lists.{all};
 ghost use Rattle.model.specs.Services.{entryIn};
-ghost use Rattle.candidates.specs.Rows.{placed};
-ghost use Rattle.candidates.specs.Turned.{Viewed, TurnedOf};
+ghost use Rattle.candidates.specs.Conflicts.{placed};
+ghost use Rattle.shapes.specs.Turned.{Viewed, TurnedOf};
 ghost use Rattle.layouts.specs.Entries.{asEntry, entriesIn};
 ghost use Rattle.layouts.specs.Passing.{Offered};
 use crate::entries::Entry;
@@ -16,7 +16,7 @@ use crate::entries::entry_at;
 use candidates::conflicts::Placed;
 use candidates::conflicts::conflict_between;
 use candidates::conflicts::pair_gap;
-use candidates::pieces::piece_of;
+use shapes::pieces::piece_of;
 use job::View;
 
 // Where an entry stands.

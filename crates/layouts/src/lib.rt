@@ -1,8 +1,8 @@
 // Layouts that are handed in: which of them pass, how long they are, and the check service.
 ghost use mathlib.Core.Path.{_≡_};
 ghost use Rattle.model.specs.Services;
-use candidates::boxes::boxes_of;
-use candidates::turned::turn_all;
+use shapes::boxes::boxes_of;
+use shapes::turned::turn_all;
 use model::Checked;
 
 mod admission;

@@ -3,14 +3,14 @@ ghost use mathlib.Core.Path.{_≡_};
 ghost use Rattle.model.specs.Format.{content};
 ghost use Rattle.model.specs.Layout;
 ghost use Rattle.model.specs.Services.{layoutIn};
-ghost use Rattle.candidates.specs.Rows.{Prepared};
+ghost use Rattle.candidates.specs.Conflicts.{Prepared};
 ghost use Rattle.layouts.specs.Passing.{Handed, checkedAs};
 use crate::admission::all_admitted;
 use crate::clearance::all_apart;
 use crate::demands::demand_met;
 use crate::extents::length_of;
 use crate::ordering::entries_in_order;
-use candidates::boxes::Boxes;
+use shapes::boxes::Boxes;
 use job::View;
 use model::Checked;
 

@@ -9,7 +9,7 @@ ghost use Rattle.model.specs.Services;
 pub extern "C" fn nest_read(job: &[u8], answer: &mut [u8]) -> u64
     ensures { λ r. ⌜ (r ≡ writtenWord (Services.read (now (job .entry)) (now (answer .entry)) .answer)) × (now (answer .exit) ≡ Services.read (now (job .entry)) (now (answer .entry)) .buffer) ⌝ }
 {
-    model::written_word(job::read(job, answer))
+    answers::written_word(reading::read(job, answer))
 }
 
 // "Conflict row takes a candidate, given as its type and its number, and a second type."
@@ -23,7 +23,7 @@ pub extern "C" fn nest_row(
 ) -> u64
     ensures { λ r. ⌜ (r ≡ writtenWord (Services.conflictRow (now (job .entry)) kind number other (now (row .entry)) .answer)) × (now (row .exit) ≡ Services.conflictRow (now (job .entry)) kind number other (now (row .entry)) .buffer) ⌝ }
 {
-    model::written_word(candidates::rows::row(job, kind, number, other, row))
+    answers::written_word(rows::row(job, kind, number, other, row))
 }
 
 // "Check gives a layout's length."
@@ -31,7 +31,7 @@ pub extern "C" fn nest_row(
 pub extern "C" fn nest_check(job: &[u8], layout: &[u8]) -> u64
     ensures { λ r. ⌜ r ≡ checkWord (Services.check (now (job .entry)) (now (layout .entry))) ⌝ }
 {
-    model::check_word(layouts::check(job, layout))
+    answers::check_word(layouts::check(job, layout))
 }
 
 // The walk under a step budget.
@@ -41,5 +41,5 @@ pub extern "C" fn nest_run(job: &[u8], budget: u32, work: &mut [u8], answer: &mu
     ensures { λ _. ⌜ now (work .exit) ≡ Services.run (now (job .entry)) budget (now (work .entry)) (now (answer .entry)) .work ⌝ }
     ensures { λ _. ⌜ now (answer .exit) ≡ Services.run (now (job .entry)) budget (now (work .entry)) (now (answer .entry)) .out ⌝ }
 {
-    model::run_word(search::run::run(job, budget, work, answer))
+    answers::run_word(search::run::run(job, budget, work, answer))
 }

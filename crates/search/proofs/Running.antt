@@ -20,16 +20,17 @@ use Rattle.model.specs.Services.{RunOutcome, runOutcome, wordsIn, numbersIn, wo
 use Rattle.model.specs.declared.RunAnswer.{RunAnswer}
 use Rattle.model.specs.declared.RunAnswer.the-variants as R
 use Rattle.model.proofs.Accepted.{accepted-kinds, accepted-sensible}
-use Rattle.search.specs.Levels.{placedBelow, goOnLevel, walkSpent}
-use Rattle.search.specs.LiveSets.{boundOf}
+use Rattle.stepping.specs.Levels.{placedBelow, goOnLevel, walkSpent}
+use Rattle.stepping.specs.LiveSets.{boundOf}
 use Rattle.search.specs.Run.{told, RoomFor, Walked}
-use Rattle.search.specs.Spending.{Spent, answerOf}
-use Rattle.search.specs.Walk.{numbersAt, heldOf, Ready, Taken, Left}
-use Rattle.search.specs.declared.walk.Progress.{Progress}
-use Rattle.search.proofs.Answer.{layout-none}
-use Rattle.search.proofs.Levels.{start-admitted, start-below, walk-level, run-walk}
-use Rattle.search.proofs.Limits.{few-pieces, few-words, short-board}
-use Rattle.search.proofs.Steps.{goOn-left-le}
+use Rattle.stepping.specs.Spending.{Spent, answerOf}
+use Rattle.live_sets.specs.Settled.{numbersAt}
+use Rattle.walks.specs.Walk.{heldOf, Ready, Taken, Left}
+use Rattle.walks.specs.declared.walk.Progress.{Progress}
+use Rattle.stepping.proofs.Answer.{layout-none}
+use Rattle.stepping.proofs.Levels.{start-admitted, start-below, walk-level, run-walk}
+use Rattle.stepping.proofs.Limits.{few-pieces, few-words, short-board}
+use Rattle.stepping.proofs.Steps.{goOn-left-le}
 
 -- ---- The work words
 

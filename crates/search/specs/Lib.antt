@@ -1,9 +1,1 @@
-pub mod Spending
-pub mod LiveSets
-pub mod Steps
-pub mod Levels
-pub mod Slots
-pub mod Narrowing
-pub mod Known
-pub mod Walk
 pub mod Run

@@ -9,10 +9,10 @@ use Rattle.model.specs.Services.{workWords, numbersIn, withLayout}
 use Rattle.model.specs.declared.Held.the-variants as HV
 use Rattle.model.specs.declared.RunAnswer.{RunAnswer}
 use Rattle.model.specs.declared.RunAnswer.the-variants as R
-use Rattle.search.specs.Levels.{walkSpent}
-use Rattle.search.specs.LiveSets.{boundOf}
-use Rattle.search.specs.Walk.{heldOf}
-use Rattle.search.specs.declared.walk.Progress.{Progress}
+use Rattle.stepping.specs.Levels.{walkSpent}
+use Rattle.stepping.specs.LiveSets.{boundOf}
+use Rattle.walks.specs.Walk.{heldOf}
+use Rattle.walks.specs.declared.walk.Progress.{Progress}
 
 -- The answer by whether the walk stopped, whether a layout is held, that layout's length and the steps.
 abbrev pub told : Bool → Bool → ℕ → ℕ → RunAnswer

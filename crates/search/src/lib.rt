@@ -1,9 +1,2 @@
-// The run service: the walk over the pieces under a step budget, with live sets kept in the lent work words.
-mod beginning;
-mod board;
-mod lookahead;
-mod narrowing;
-mod plan;
-mod recording;
+// The run service: the walk of an accepted job under a step budget.
 pub mod run;
-mod walk;

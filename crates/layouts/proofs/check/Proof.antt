@@ -2,7 +2,7 @@
 use mathlib.Core.Path.{refl, sym, ap, _∙_}
 use denote.Ref.{now}
 use Rattle.model.specs.declared.Checked.the-variants as C
-use Rattle.candidates.specs.Turned.{Viewed}
+use Rattle.shapes.specs.Turned.{Viewed}
 use Rattle.layouts.proofs.PassingLaws.{check-refused, check-accepted}
 use borrow.Author.Needs.{needs}
 use Rattle.layouts.proofs.check.Statement.{statement}

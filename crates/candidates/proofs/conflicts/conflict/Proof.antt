@@ -1,8 +1,8 @@
 -- `candidates::conflicts::conflict` meets its contract. Assumes nothing.
 use mathlib.Core.Path.{_≡_, sym, ap, ap₂, subst, _∙_}
 use denote.Ref.{now}
-use Rattle.candidates.specs.Rows.{Near, placedOf, conflictBetween}
-use Rattle.candidates.proofs.AnswerLaws.{gap-is}
+use Rattle.candidates.specs.Conflicts.{Near, placedOf, conflictBetween}
+use Rattle.candidates.proofs.PreparedLaws.{gap-is}
 use Rattle.candidates.proofs.PreparedLaws.{bounded, number-near, numbers-conflict}
 use borrow.Author.Needs.{needs}
 use Rattle.candidates.proofs.conflicts.conflict.Statement.{statement}

@@ -7,8 +7,8 @@ use mir.Syntax.{w16}
 use mir.ValLaws.{toZ-ofZ}
 use Rattle.model.specs.Geometry.{piecesConflict}
 use Rattle.geometry.specs.Flat.{shifted}
-use Rattle.candidates.specs.Pieces.{partsIn}
-use Rattle.candidates.specs.Rows.{conflictBetween}
+use Rattle.shapes.specs.Pieces.{partsIn}
+use Rattle.candidates.specs.Conflicts.{conflictBetween}
 use borrow.Author.Needs.{needs}
 use Rattle.candidates.proofs.conflicts.conflict_between.Statement.{statement}
 use Rattle.candidates.proofs.conflicts.conflict_between.Tie as tie

@@ -2,7 +2,7 @@
 use mathlib.Core.Path.{_∙_}
 use mir.Syntax.{w16}
 use mir.ValLaws.{toZ-ofZ}
-use Rattle.candidates.proofs.RowLaws.{way-fits, way-value}
+use Rattle.candidates.proofs.ConflictLaws.{way-fits, way-value}
 use borrow.Author.Needs.{needs}
 use Rattle.candidates.proofs.conflicts.way.Statement.{statement}
 use Rattle.candidates.proofs.conflicts.way.Tie as tie

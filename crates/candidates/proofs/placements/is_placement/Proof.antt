@@ -8,7 +8,7 @@ use lib.Dec.{ltb}
 use lib.ListN.{getD}
 use Rattle.words.specs.Bits.{testBit}
 use Rattle.candidates.specs.Placements.{fitsAt, placeable}
-use Rattle.candidates.specs.Boxes.{boxAt}
+use Rattle.shapes.specs.Boxes.{boxAt}
 use Rattle.candidates.proofs.PlacementLaws.{past-board, on-dots, turn-refused, turn-allowed, refused-turn, allowed}
 use borrow.Author.Needs.{needs}
 use Rattle.candidates.proofs.placements.is_placement.Statement.{statement}

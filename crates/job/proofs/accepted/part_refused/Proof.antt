@@ -1,6 +1,6 @@
 use mathlib.Core.Path.{_≡_, sym, ap, _∙_}
 use native.Mathlib.Omega.{arith}
-use Rattle.job.proofs.RecordLaws.{tail-length}
+use Rattle.records.proofs.RecordLaws.{tail-length}
 use Rattle.job.proofs.ViewLaws.{part-judged}
 use borrow.Author.Needs.{needs}
 use Rattle.job.proofs.accepted.part_refused.Statement.{statement}

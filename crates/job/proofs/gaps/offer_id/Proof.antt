@@ -7,7 +7,7 @@ use borrow.Author.Tests.{ltb-true}
 use lib.Dec.{ltb}
 use Rattle.words.specs.Bits.{testBit}
 use Rattle.model.proofs.Lists.{and-left}
-use Rattle.job.specs.Classes.{indexOf}
+use Rattle.records.specs.Classes.{indexOf}
 use Rattle.job.specs.Gaps.{offered, offeredId}
 use Rattle.job.proofs.GapLaws.{offered-yes, offered-no}
 use borrow.Author.Needs.{needs}

@@ -4,9 +4,9 @@ use native.Mathlib.Omega.{arith}
 use lib.ListN.{length, length-set}
 use Rattle.model.specs.Format.{many, readPart}
 use Rattle.job.specs.Places.{Placed}
-use Rattle.job.specs.Records.{Reads, sizeOf}
+use Rattle.records.specs.Records.{Reads, sizeOf}
 use Rattle.job.proofs.PlaceLaws.{placed-none, placed-more, reads-next}
-use Rattle.job.proofs.RecordLaws.{reads-none, tail-length}
+use Rattle.records.proofs.RecordLaws.{reads-none, tail-length}
 use borrow.Author.Needs.{needs}
 use Rattle.job.proofs.places.place_parts.Statement.{statement}
 use Rattle.job.proofs.places.place_parts.Tie as tie

@@ -3,10 +3,10 @@ use Prim.Native.Nat.{_≤_, _+_, _*_, _-_}
 use native.Mathlib.Omega.{arith}
 use lib.ListN.{length, length-set}
 use Rattle.model.specs.Format.{byteAt}
-use Rattle.job.specs.Classes.{classesFrom}
+use Rattle.records.specs.Classes.{classesFrom}
 use Rattle.job.specs.Gaps.{bestBelow}
 use Rattle.job.specs.Table.{gapIn, Built}
-use Rattle.job.proofs.RecordLaws.{tail-length}
+use Rattle.records.proofs.RecordLaws.{tail-length}
 use Rattle.job.proofs.TableLaws.{next-room, next-parts, built-none, built-more, built-end, gap-of}
 use borrow.Author.Needs.{needs}
 use Rattle.job.proofs.table.read_kinds.Statement.{statement}

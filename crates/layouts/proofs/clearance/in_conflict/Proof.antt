@@ -1,8 +1,8 @@
 -- `layouts::clearance::in_conflict` meets its contract. Assumes nothing.
 use mathlib.Core.Path.{sym, ap, ap₂, subst, _∙_}
 use denote.Ref.{now}
-use Rattle.candidates.specs.Rows.{Near, placed, conflictBetween}
-use Rattle.candidates.proofs.AnswerLaws.{gap-is}
+use Rattle.candidates.specs.Conflicts.{Near, placed, conflictBetween}
+use Rattle.candidates.proofs.PreparedLaws.{gap-is}
 use Rattle.candidates.proofs.PreparedLaws.{bounded, conflict-is}
 use Rattle.layouts.specs.Entries.{asEntry}
 use Rattle.layouts.proofs.ClearanceLaws.{of-kind, of-view, turned-once, near}

@@ -7,7 +7,7 @@ use Rattle.words.specs.Number.{count}
 use Rattle.model.specs.Content.{pieceCount}
 use Rattle.model.specs.Format.{content}
 use Rattle.model.specs.Services.{workWords, numbersIn}
-use Rattle.search.proofs.Limits.{few-pieces, short-board}
+use Rattle.stepping.proofs.Limits.{few-pieces, short-board}
 use Rattle.search.proofs.Running.{run-few-words, run-few-numbers, run-done, left-within}
 use borrow.Author.Needs.{needs}
 use Rattle.search.proofs.run.run_accepted.Statement.{statement}

@@ -6,9 +6,10 @@ use lib.ListN.{replicate}
 use Rattle.model.specs.Content.{pieceCount}
 use Rattle.model.specs.Format.{content}
 use Rattle.model.proofs.Accepted.{accepted-sensible}
-use Rattle.search.specs.Walk.{Settled, Ready, Taken}
-use Rattle.search.proofs.GoingOn.{go-back, deep-ready, go-deep}
-use Rattle.search.proofs.Limits.{short-board}
+use Rattle.live_sets.specs.Settled.{Settled}
+use Rattle.walks.specs.Walk.{Ready, Taken}
+use Rattle.walks.proofs.GoingOn.{go-back, deep-ready, go-deep}
+use Rattle.stepping.proofs.Limits.{short-board}
 use Rattle.search.proofs.Running.{beginning, begin-ready, begin-taken, walked}
 use borrow.Author.Needs.{needs}
 use Rattle.search.proofs.run.walk.Statement.{statement}

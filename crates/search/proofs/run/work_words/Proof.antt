@@ -8,7 +8,7 @@ use Rattle.model.specs.Format.{content}
 use Rattle.model.specs.Grid.{dots, setWords}
 use Rattle.model.specs.Services.{workWords}
 use Rattle.model.proofs.Accepted.{accepted-kinds, accepted-dots}
-use Rattle.search.proofs.Limits.{few-pieces}
+use Rattle.stepping.proofs.Limits.{few-pieces}
 use Rattle.search.proofs.Running.{few-work}
 use borrow.Author.Needs.{needs}
 use Rattle.search.proofs.run.work_words.Statement.{statement}

@@ -1,0 +1,48 @@
+-- Two pieces on their dots, and their conflict, as the code computes it. The laws say that it is the model's `conflict`.
+use mathlib.Core.Bool.{Bool}
+use mathlib.Core.List.{List, map}
+use Prim.Native.Nat.{ℕ, _*_, _/_, _%_, _≤_, _<_}
+use lib.IntN.{ℤ, pos, _-ℤ_}
+use Rattle.model.specs.Content.{kindCount}
+use Rattle.model.specs.Format.{content}
+use Rattle.model.specs.Geometry.{piecesConflict}
+use Rattle.model.specs.Grid.{numberLimit}
+use Rattle.geometry.specs.Flat.{shifted}
+use Rattle.job.specs.declared.View.{View}
+use Rattle.shapes.specs.Boxes.{BoxesOf}
+use Rattle.shapes.specs.Pieces.{partsIn}
+use Rattle.shapes.specs.Turned.{Viewed, TurnedOf}
+use Rattle.shapes.specs.declared.boxes.Boxes.{Boxes}
+use Rattle.candidates.specs.declared.conflicts.Placed.{Placed}
+use Rattle.shapes.specs.declared.pieces.Piece.{Piece}
+
+-- All that is computed once for a call on an accepted job: its view, the turned vertices and the boxes.
+pub record Prepared (s : List ℕ) (v : View) (table : List ℤ) (b : Boxes) : Type 0 where
+  pub viewed : Viewed s v
+  pub turned : TurnedOf s table
+  pub boxes : BoxesOf s b
+
+-- A place on the dots, by column, row and rotation.
+abbrev pub placed : ℕ → ℕ → ℕ → Placed
+placed c r k = record { column = c; row = r; rotation = k }
+
+-- The place of this candidate number, on a board of so many rows.
+abbrev pub placedOf : ℕ → ℕ → Placed
+placedOf rows n = placed (n / 4 / rows) (n / 4 % rows) (n % 4)
+
+-- The place lies within 1000 of the first dot, and its rotation is one of four.
+pub record Near (step : ℕ) (a : Placed) : Type 0 where
+  pub across : a .column * step ≤ 1000
+  pub up : a .row * step ≤ 1000
+  pub turn : a .rotation < 4
+
+-- The kind exists, and the number is one of those that candidates have.
+pub record Numbered (s : List ℕ) (t n : ℕ) : Type 0 where
+  pub kind : t < kindCount (content s)
+  pub number : n < numberLimit (content s .sheet)
+
+-- The piece p at the place a is in conflict with the piece q at the place c.
+unfoldable pub conflictBetween : List ℤ → ℕ → Piece → Placed → Piece → Placed → ℕ → Bool
+conflictBetween table step p a q c gap =
+    piecesConflict gap (partsIn table p (a .rotation))
+    (map (map (shifted (pos (c .column * step) -ℤ pos (a .column * step)) (pos (c .row * step) -ℤ pos (a .row * step)))) (partsIn table q (c .rotation)))

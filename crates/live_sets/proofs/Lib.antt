@@ -1,0 +1,4 @@
+pub mod Meeting
+pub mod Sifting
+pub mod Filling
+pub mod Making

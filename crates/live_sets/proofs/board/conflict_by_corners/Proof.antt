@@ -1,0 +1,48 @@
+-- `search::board::conflict_by_corners` meets its contract.
+use mathlib.Core.Path.{_≡_, sym, ap, _∙_, subst}
+use Prim.Native.Nat.{ℕ, _<_}
+use Rattle.model.specs.Content.{kindCount}
+use Rattle.model.specs.Format.{content}
+use Rattle.candidates.specs.Conflicts.{Near, placedOf, conflictBetween}
+use Rattle.candidates.specs.declared.conflicts.Placed.{Placed}
+use Rattle.live_sets.proofs.Meeting.{candidate-kind, near, corners-conflict}
+use borrow.Author.Needs.{needs}
+use Rattle.live_sets.proofs.board.conflict_by_corners.Statement.{statement}
+use Rattle.live_sets.proofs.board.conflict_by_corners.Tie as tie
+
+-- Both kinds exist.
+first : (c : tie.Start) → c .args .t < kindCount (content (c .args .job .now))
+first c = candidate-kind (content (c .args .job .now)) (c .args .t) (c .args .n) (c .pre .1 .0 .0)
+
+second : (c : tie.Start) → c .args .u < kindCount (content (c .args .job .now))
+second c = candidate-kind (content (c .args .job .now)) (c .args .u) (c .args .m) (c .pre .1 .0 .1)
+
+piece-in-requires : tie.Need-piece-in-requires
+piece-in-requires c κs = (c .before .before .pre .0 .plan, first (c .before .before))
+
+piece-in-requires-2 : tie.Need-piece-in-requires-2
+piece-in-requires-2 c κs = (c .before .before .before .pre .0 .plan, second (c .before .before .before))
+
+pair-gap-requires : tie.Need-pair-gap-requires
+pair-gap-requires c κs = (c .before .before .before .before .pre .0, first (c .before .before .before .before), second (c .before .before .before .before))
+
+conflict-between-requires : tie.Need-conflict-between-requires
+conflict-between-requires c κs = (
+  (
+    (c .before .before .piece-in .ensures .fitting, subst (Near (c .before .before .before .before .before .args .plan .step)) (sym (c .before .before .before .before .before .pre .1 .1 .0)) (near (c .before .before .before .before .before .args .job .now) (c .before .before .before .before .before .args .plan) (c .before .before .before .before .before .args .window) (c .before .before .before .before .before .args .turned .now) (c .before .before .before .before .before .args .conflicts .now) (c .before .before .before .before .before .pre .0) (c .before .before .before .before .before .args .t) (c .before .before .before .before .before .args .n) (c .before .before .before .before .before .pre .1 .0 .0))),
+    (c .before .piece-in2 .ensures .fitting, subst (Near (c .before .before .before .before .before .args .plan .step)) (sym (c .before .before .before .before .before .pre .1 .1 .1)) (near (c .before .before .before .before .before .args .job .now) (c .before .before .before .before .before .args .plan) (c .before .before .before .before .before .args .window) (c .before .before .before .before .before .args .turned .now) (c .before .before .before .before .before .args .conflicts .now) (c .before .before .before .before .before .pre .0) (c .before .before .before .before .before .args .u) (c .before .before .before .before .before .args .m) (c .before .before .before .before .before .pre .1 .0 .1))),
+  ),
+  c .before .before .before .before .before .pre .0 .table .size,
+)
+
+returns : tie.Need-returns
+returns c =
+    c .conflict-between .ensures
+    ∙ ap (λ (a : Placed). conflictBetween (c .before .before .before .before .before .before .args .turned .now) (c .before .before .before .before .before .before .args .plan .step) (c .before .before .before .piece-in .result) a (c .before .before .piece-in2 .result) (c .before .before .before .before .before .before .args .place) (c .before .pair-gap .result)) (c .before .before .before .before .before .before .pre .1 .1 .0)
+    ∙ ap (λ (a : Placed). conflictBetween (c .before .before .before .before .before .before .args .turned .now) (c .before .before .before .before .before .before .args .plan .step) (c .before .before .before .piece-in .result) (placedOf (c .before .before .before .before .before .before .args .plan .rows) (c .before .before .before .before .before .before .args .n)) (c .before .before .piece-in2 .result) a (c .before .pair-gap .result)) (c .before .before .before .before .before .before .pre .1 .1 .1)
+    ∙ corners-conflict (c .before .before .before .before .before .before .args .job .now) (c .before .before .before .before .before .before .args .plan) (c .before .before .before .before .before .before .args .window) (c .before .before .before .before .before .before .args .turned .now) (c .before .before .before .before .before .before .args .conflicts .now) (c .before .before .before .before .before .before .pre .0) (c .before .before .before .before .before .before .args .t) (c .before .before .before .before .before .before .args .n) (c .before .before .before .before .before .before .args .u) (c .before .before .before .before .before .before .args .m) (c .before .before .before .piece-in .result) (c .before .before .piece-in2 .result) (c .before .pair-gap .result) (first (c .before .before .before .before .before .before)) (second (c .before .before .before .before .before .before)) (c .before .before .before .piece-in .ensures) (c .before .before .piece-in2 .ensures) (c .before .pair-gap .ensures)
+
+pub conflict-by-corners-spec : {M : Type 1} → statement M
+conflict-by-corners-spec =
+    tie.close
+    (tie.spec piece-in-requires piece-in-requires-2 pair-gap-requires conflict-between-requires returns)

@@ -1,0 +1,89 @@
+// The live sets of the first level: all candidates of each kind, and look-ahead before the first step.
+ghost use mathlib.Core.Path.{_≡_};
+ghost use Prim.Native.Nat.{ℕ, _+_, _*_, _≤_, _<_};
+ghost use lib.ListN.{length, replicate};
+ghost use Rattle.words.specs.Bits.{bitsWhere};
+ghost use Rattle.model.specs.Candidate.{isCandidate};
+ghost use Rattle.model.specs.Content.{kindCount};
+ghost use Rattle.model.specs.Format.{content};
+ghost use Rattle.model.specs.Services.{workWords};
+ghost use Rattle.shapes.specs.Boxes.{BoxesOf};
+ghost use Rattle.shapes.specs.Turned.{Viewed};
+ghost use Rattle.plans.specs.Known.{PlanOf};
+ghost use Rattle.live_sets.specs.Narrowing.{Filled, Fillable};
+ghost use Rattle.live_sets.specs.Settled.{KindSettled, Settled};
+use plans::plan::Plan;
+use shapes::boxes::Boxes;
+use candidates::placements::is_candidate;
+use job::View;
+use words::bits;
+use words::numbers;
+use words::sets;
+
+// The bits of a word whose candidates exist.
+fn fill_word(job: &[u8], view: View, boxes: Boxes, u: usize, first: usize) -> u64
+    requires { ⌜ Viewed (now job) view × BoxesOf (now job) boxes ⌝ }
+    requires { ⌜ (u < kindCount (content (now job))) × (first < 65536) ⌝ }
+    ensures { λ r. ⌜ r ≡ bitsWhere 64 (λ i. isCandidate (content (now (job .entry))) u (first + i)) ⌝ }
+{
+    let mut r = 0;
+    let mut b: usize = 0;
+    while b < 64 {
+        r = bits::assign_bit(r, b as u64, is_candidate(view, boxes, u, first + b));
+        b += 1;
+    }
+    r
+}
+
+// The set at word `to`: all candidates of kind u.
+fn fill(job: &[u8], view: View, boxes: Boxes, u: usize, work: &mut [u8], to: usize, words: usize)
+    requires { ⌜ Viewed (now job) view × BoxesOf (now job) boxes ⌝ }
+    requires { ⌜ Fillable (content (now job)) u to words (now work) ⌝ }
+    ensures { λ _. ⌜ Filled to words (isCandidate (content (now (job .entry))) u) (now (work .entry)) (now (work .exit)) ⌝ }
+{
+    let mut k = 0;
+    while k < words {
+        let w = fill_word(job, view, boxes, u, k * 64);
+        numbers::put_u64(work, (to + k) * 8, w);
+        k += 1;
+    }
+}
+
+// The first set of a kind, and whether it has members for its copies.
+fn settle_first_kind(
+    job: &[u8],
+    view: View,
+    boxes: Boxes,
+    plan: Plan,
+    u: usize,
+    work: &mut [u8],
+) -> bool
+    requires { ⌜ Viewed (now job) view × BoxesOf (now job) boxes × PlanOf (now job) plan ⌝ }
+    requires { ⌜ (u < kindCount (content (now job))) × (workWords (content (now job)) * 8 ≤ length (now work)) ⌝ }
+    ensures { λ r. ⌜ KindSettled (content (now (job .entry))) (replicate 12 0) 0 (content (now (job .entry)) .sheet .L + 1) u (now (work .entry)) (now (work .exit)) r ⌝ }
+{
+    let words = plan.words;
+    let to = u * words;
+    fill(job, view, boxes, u, work, to, words);
+    let members = sets::count(&work[to * 8..], words as u32);
+    let table = plan.copies;
+    let copies = table[u];
+    copies as u64 <= members
+}
+
+// The sets of the first level, and look-ahead. It ends at the first kind with too few members.
+pub fn settle_first(job: &[u8], view: View, boxes: Boxes, plan: Plan, work: &mut [u8]) -> bool
+    requires { ⌜ Viewed (now job) view × BoxesOf (now job) boxes × PlanOf (now job) plan ⌝ }
+    requires { ⌜ workWords (content (now job)) * 8 ≤ length (now work) ⌝ }
+    ensures { λ r. ⌜ Settled (content (now (job .entry))) (replicate 12 0) 0 (content (now (job .entry)) .sheet .L + 1) (now (work .entry)) (now (work .exit)) r ⌝ }
+{
+    let kinds = view.kinds;
+    let mut u = 0;
+    while u < kinds {
+        if !settle_first_kind(job, view, boxes, plan, u, work) {
+            return false;
+        }
+        u += 1;
+    }
+    true
+}

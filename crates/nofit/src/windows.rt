@@ -1,0 +1,133 @@
+// How large a window of offsets is worth a table. Only the speed of a run turns on this.
+ghost use mathlib.Core.Bool.{true};
+ghost use mathlib.Core.Path.{_≡_};
+ghost use Prim.Native.Nat.{_≤_};
+ghost use Rattle.nofit.specs.Offsets.{cells, Roomy, Growing};
+ghost use Rattle.candidates.specs.Placements.{Bounded};
+use shapes::boxes::Boxes;
+use crate::offsets::Window;
+use geometry::extents::Extents;
+use geometry::extents::join;
+use job::View;
+
+// How many cells a window has.
+fn cells_of(window: Window) -> usize
+    requires { ⌜ ((window .kinds ≤ 8) × (window .across ≤ 1000)) × (window .up ≤ 1000) ⌝ }
+    ensures { λ r. ⌜ r ≡ cells window ⌝ }
+{
+    let turns = window.kinds * 4;
+    turns * turns * ((window.across * 2 + 1) * (window.up * 2 + 1))
+}
+
+// The box around all kinds at all rotations that they may have.
+fn common_box(view: View, boxes: Boxes) -> Extents
+    requires { ⌜ Bounded view ⌝ }
+{
+    let masks = view.rotations;
+    let of = boxes.of;
+    let n = view.kinds * 4;
+    let mut e = of[0];
+    let mut i: usize = 0;
+    while i < n {
+        if words::bits::test_bit(masks[i / 4] as u64, (i % 4) as u64) {
+            e = join(e, of[i]);
+        }
+        i += 1;
+    }
+    e
+}
+
+// The largest gap of a kind.
+fn largest_gap(view: View) -> usize
+    requires { ⌜ Bounded view ⌝ }
+    ensures { λ r. ⌜ r ≤ 63 ⌝ }
+{
+    let gaps = view.gaps;
+    let n = view.kinds;
+    let mut r: usize = 0;
+    let mut t: usize = 0;
+    while t < n {
+        let gap = gaps[t];
+        if r < gap {
+            r = gap;
+        }
+        t += 1;
+    }
+    r
+}
+
+// Whether pieces that lie from low to high can be in conflict if they stand so far apart. (Only the speed turns on this.)
+fn can_matter(low: i16, high: i16, gap: usize, by: usize) -> bool
+    requires { ⌜ (gap ≤ 63) × (by ≤ 1000) ⌝ }
+{
+    (by as i64) < (high as i64) - (low as i64) + (gap as i64)
+}
+
+// Whether a larger window still has its place on the board and in the table, and whether what it has more can matter.
+fn is_useful(view: View, all: Extents, gap: usize, limit: usize, window: Window) -> bool
+    requires { ⌜ (Bounded view × (window .kinds ≡ view .kinds)) × ((gap ≤ 63) × (limit ≤ 196608)) ⌝ }
+    ensures { λ r. ⌜ (r ≡ true → Roomy view window) ⌝ }
+{
+    if (window.across >= view.columns) | (window.up >= view.rows) {
+        return false;
+    }
+    (cells_of(window) <= limit)
+        & can_matter(all.min_x, all.max_x, gap, window.across * view.step)
+        & can_matter(all.min_y, all.max_y, gap, window.up * view.step)
+}
+
+// The window with a column more each way, if that is useful.
+fn wider(view: View, all: Extents, gap: usize, limit: usize, window: Window) -> Window
+    requires { ⌜ Growing view gap limit window ⌝ }
+    ensures { λ r. ⌜ Roomy view r ⌝ }
+{
+    let more = Window {
+        kinds: window.kinds,
+        across: window.across + 1,
+        up: window.up,
+    };
+    if is_useful(view, all, gap, limit, more) {
+        return more;
+    }
+    window
+}
+
+// The window with a row more each way, if that is useful.
+fn taller(view: View, all: Extents, gap: usize, limit: usize, window: Window) -> Window
+    requires { ⌜ Growing view gap limit window ⌝ }
+    ensures { λ r. ⌜ Roomy view r ⌝ }
+{
+    let more = Window {
+        kinds: window.kinds,
+        across: window.across,
+        up: window.up + 1,
+    };
+    if is_useful(view, all, gap, limit, more) {
+        return more;
+    }
+    window
+}
+
+// A window for this board whose table has at most `limit` cells, or one cell for each section. It grows in turn across and up.
+pub fn window_of(view: View, boxes: Boxes, limit: usize) -> Window
+    requires { ⌜ Bounded view × (limit ≤ 196608) ⌝ }
+    ensures { λ r. ⌜ Roomy view r ⌝ }
+{
+    let all = common_box(view, boxes);
+    let gap = largest_gap(view);
+    let mut w = Window {
+        kinds: view.kinds,
+        across: 0,
+        up: 0,
+    };
+    let mut left = view.columns + view.rows;
+    while left > 0 {
+        let next = taller(view, all, gap, limit, wider(view, all, gap, limit, w));
+        if next.across + next.up == w.across + w.up {
+            return w;
+        }
+        w = next;
+        left -= 1;
+    }
+    w
+}

@@ -1,0 +1,70 @@
+-- What holds for a whole run: the plan of the job and the tables, which are computed once.
+use mathlib.Core.List.{List, []}
+use mathlib.Core.Path.{_≡_}
+use Prim.Native.Nat.{ℕ, _+_, _*_, _<_}
+use lib.IntN.{ℤ, pos}
+use lib.ListN.{length, getD}
+use Rattle.model.specs.Content.{Job, kindAt, kindCount, pieceCount}
+use Rattle.model.specs.Format.{content, refusal}
+use Rattle.model.specs.Gap.{kindGap}
+use Rattle.model.specs.Grid.{setWords}
+use Rattle.model.specs.Search.{copiesLeft}
+use Rattle.job.specs.View.{ViewOf}
+use Rattle.job.specs.declared.View.{View}
+use Rattle.shapes.specs.Boxes.{BoxesOf, boxAt}
+use Rattle.nofit.specs.Offsets.{OffsetsOf}
+use Rattle.shapes.specs.Turned.{TurnedOf}
+use Rattle.shapes.specs.declared.boxes.Boxes.{Boxes}
+use Rattle.nofit.specs.declared.offsets.Window.{Window}
+use Rattle.stepping.specs.Levels.{pieceKind, piecesFrom}
+use Rattle.plans.specs.declared.plan.Plan.{Plan}
+
+-- These are the kinds of the pieces.
+abbrev pub KindsOf : Job → List ℕ → Type 0
+KindsOf j kinds = (l : ℕ) → l < pieceCount j → getD kinds l 0 ≡ pieceKind j l
+
+-- These are the copies left of each kind at each level.
+abbrev pub CopiesOf : Job → List ℕ → Type 0
+CopiesOf j copies = (l u : ℕ) → l < pieceCount j → u < 8 → getD copies (l * 8 + u) 0 ≡ copiesLeft u (piecesFrom j l)
+
+-- These are the largest x of the boxes.
+abbrev pub EndsOf : List ℕ → Boxes → List ℤ → Type 0
+EndsOf s b ends = (t k : ℕ) → t < kindCount (content s) → k < 4 → getD ends (t * 4 + k) (pos 0) ≡ boxAt b t k .«max_x»
+
+-- These are the gaps of the kinds.
+abbrev pub GapsOf : List ℕ → List ℕ → Type 0
+GapsOf s gaps = (t : ℕ) → t < kindCount (content s) → getD gaps t 0 ≡ kindGap (content s) (kindAt (content s) t)
+
+-- These are the numbers of their parts.
+abbrev pub PartsOf : List ℕ → List ℕ → Type 0
+PartsOf s parts = (t : ℕ) → t < kindCount (content s) → getD parts t 0 ≡ length (kindAt (content s) t .parts)
+
+-- These are the numbers of the parts' vertices.
+abbrev pub SizesOf : List ℕ → List ℕ → Type 0
+SizesOf s sizes = (t i : ℕ) → t < kindCount (content s) → i < length (kindAt (content s) t .parts)
+    → getD sizes (t * 6 + i) 0 ≡ length (getD (kindAt (content s) t .parts) i [])
+
+-- The plan is that of the job. The view and the boxes are those that it was taken from.
+pub record PlanOf (s : List ℕ) (p : Plan) : Type 0 where
+  pub accepted : refusal s ≡ 0
+  pub view : View
+  pub viewed : ViewOf s view
+  pub boxes : Boxes
+  pub boxed : BoxesOf s boxes
+  pub rows : p .rows ≡ view .rows
+  pub step : p .step ≡ view .step
+  pub types : p .types ≡ kindCount (content s)
+  pub pieces : p .pieces ≡ pieceCount (content s)
+  pub words : p .words ≡ setWords (content s .sheet)
+  pub kinds : KindsOf (content s) (p .kinds)
+  pub copies : CopiesOf (content s) (p .copies)
+  pub ends : EndsOf s boxes (p .ends)
+  pub gaps : GapsOf s (p .gaps)
+  pub parts : PartsOf s (p .parts)
+  pub sizes : SizesOf s (p .sizes)
+
+-- The job is accepted, and the plan and the tables are its own.
+pub record Known (s : List ℕ) (p : Plan) (w : Window) (turned : List ℤ) (conflicts : List ℕ) : Type 0 where
+  pub plan : PlanOf s p
+  pub table : TurnedOf s turned
+  pub offsets : OffsetsOf s w conflicts

@@ -1,0 +1,187 @@
+// What follows from the job alone and is computed once for a run. It goes through the walk by value, so its numbers are small.
+ghost use mathlib.Core.Path.{_≡_};
+ghost use Prim.Native.Nat.{ℕ, _≤_, _<_};
+ghost use lib.ListN.{getD};
+ghost use Rattle.model.specs.Content.{kindCount, pieceCount};
+ghost use Rattle.model.specs.Format.{content};
+ghost use Rattle.model.specs.Search.{copiesLeft};
+ghost use Rattle.shapes.specs.Boxes.{BoxesOf};
+ghost use Rattle.shapes.specs.Pieces.{Fitting, PieceOf};
+ghost use Rattle.shapes.specs.Turned.{Viewed};
+ghost use Rattle.stepping.specs.Levels.{piecesFrom};
+ghost use Rattle.plans.specs.Known.{KindsOf, CopiesOf, EndsOf, SizesOf, PlanOf};
+use shapes::boxes::Boxes;
+use shapes::pieces::Piece;
+use shapes::pieces::piece_of;
+use job::View;
+
+// The board's rows and step; how many kinds and pieces there are, and words in a set; the kind of each piece; the copies of each kind left at
+// each level, those of kind u at level l under l * 8 + u; where each kind ends at the first column, turned k quarter turns under t * 4 + k; its
+// gap, how many parts it has, and how many vertices each part has, part i of kind t under t * 6 + i.
+pub struct Plan {
+    pub rows: usize,
+    pub step: usize,
+    pub types: usize,
+    pub pieces: usize,
+    pub words: usize,
+    pub kinds: [u8; 12],
+    pub copies: [u8; 96],
+    pub ends: [i16; 32],
+    pub gaps: [u8; 8],
+    pub parts: [u8; 8],
+    pub sizes: [u8; 48],
+}
+
+// The kind of each piece: the kinds in their order, each as often as it is demanded.
+fn piece_kinds(job: &[u8], view: View) -> [u8; 12]
+    requires { ⌜ Viewed (now job) view ⌝ }
+    ensures { λ r. ⌜ KindsOf (content (now (job .entry))) r ⌝ }
+{
+    let demands = view.demands;
+    let pieces = view.pieces;
+    let mut kinds = [0u8; 12];
+    let mut t: usize = 0;
+    let mut left = demands[0];
+    let mut l = 0;
+    while l < pieces {
+        if left == 0 {
+            t += 1;
+            left = demands[t];
+        }
+        kinds[l] = t as u8;
+        left -= 1;
+        l += 1;
+    }
+    kinds
+}
+
+// The copies of kind u among the pieces from piece l on.
+fn count_copies(job: &[u8], view: View, kinds: [u8; 12], l: usize, u: usize) -> u8
+    requires { ⌜ Viewed (now job) view × KindsOf (content (now job)) kinds × (l ≤ pieceCount (content (now job))) ⌝ }
+    ensures { λ r. ⌜ r ≡ copiesLeft u (piecesFrom (content (now (job .entry))) l) ⌝ }
+{
+    let pieces = view.pieces;
+    let mut count = 0;
+    let mut i = l;
+    while i < pieces {
+        if kinds[i] as usize == u {
+            count += 1;
+        }
+        i += 1;
+    }
+    count
+}
+
+// The copies of each kind left at each level.
+fn copies_table(job: &[u8], view: View, kinds: [u8; 12]) -> [u8; 96]
+    requires { ⌜ Viewed (now job) view × KindsOf (content (now job)) kinds ⌝ }
+    ensures { λ r. ⌜ CopiesOf (content (now (job .entry))) r ⌝ }
+{
+    let pieces = view.pieces;
+    let mut copies = [0u8; 96];
+    let mut x = 0;
+    while x < pieces * 8 {
+        copies[x] = count_copies(job, view, kinds, x / 8, x % 8);
+        x += 1;
+    }
+    copies
+}
+
+// The largest x of each kind at each rotation, on the first column.
+fn ends_of(job: &[u8], view: View, boxes: Boxes) -> [i16; 32]
+    requires { ⌜ Viewed (now job) view ⌝ }
+    ensures { λ r. ⌜ EndsOf (now (job .entry)) boxes r ⌝ }
+{
+    let of = boxes.of;
+    let mut ends = [0i16; 32];
+    let mut x: usize = 0;
+    while x < 32 {
+        let e = of[x];
+        let end = e.max_x;
+        ends[x] = end;
+        x += 1;
+    }
+    ends
+}
+
+// The first n numbers of a table of the view, a byte each.
+fn bytes_of(all: [usize; 8], n: usize) -> [u8; 8]
+    requires { ⌜ (n ≤ 8) × ((i : ℕ) → i < n → getD all i 0 < 256) ⌝ }
+    ensures { λ r. ⌜ ((i : ℕ) → i < n → getD r i 0 ≡ getD all i 0) ⌝ }
+{
+    let mut small = [0u8; 8];
+    let mut i: usize = 0;
+    while i < n {
+        small[i] = all[i] as u8;
+        i += 1;
+    }
+    small
+}
+
+// How many vertices part i of a piece has; 0 where it has no such part.
+fn size_of(piece: Piece, i: usize) -> u8
+    requires { ⌜ (i < 6) × Fitting piece ⌝ }
+    ensures { λ r. ⌜ (i < piece .count → r ≡ getD (piece .sizes) i 0) ⌝ }
+{
+    let sizes = piece.sizes;
+    if i < piece.count { sizes[i] as u8 } else { 0 }
+}
+
+// How many vertices each part has.
+fn sizes_of(job: &[u8], view: View) -> [u8; 48]
+    requires { ⌜ Viewed (now job) view ⌝ }
+    ensures { λ r. ⌜ SizesOf (now (job .entry)) r ⌝ }
+{
+    let kinds = view.kinds;
+    let mut sizes = [0u8; 48];
+    let mut x = 0;
+    while x < kinds * 6 {
+        sizes[x] = size_of(piece_of(job, view, x / 6), x % 6);
+        x += 1;
+    }
+    sizes
+}
+
+// The plan of a job.
+pub fn make_plan(job: &[u8], view: View, boxes: Boxes) -> Plan
+    requires { ⌜ Viewed (now job) view × BoxesOf (now job) boxes ⌝ }
+    ensures { λ r. ⌜ PlanOf (now (job .entry)) r ⌝ }
+{
+    let kinds = piece_kinds(job, view);
+    let gaps = view.gaps;
+    let parts = view.parts;
+    Plan {
+        rows: view.rows,
+        step: view.step,
+        types: view.kinds,
+        pieces: view.pieces,
+        words: (view.columns * view.rows + 15) / 16,
+        kinds,
+        copies: copies_table(job, view, kinds),
+        ends: ends_of(job, view, boxes),
+        gaps: bytes_of(gaps, view.kinds),
+        parts: bytes_of(parts, view.kinds),
+        sizes: sizes_of(job, view),
+    }
+}
+
+// The piece of a kind.
+pub fn piece_in(job: &[u8], plan: Plan, kind: usize) -> Piece
+    requires { ⌜ PlanOf (now job) plan × (kind < kindCount (content (now job))) ⌝ }
+    ensures { λ r. ⌜ PieceOf (now (job .entry)) kind r ⌝ }
+{
+    let counts = plan.parts;
+    let all = plan.sizes;
+    let n = counts[kind] as usize;
+    let mut sizes = [0usize; 6];
+    let mut i: usize = 0;
+    while i < n {
+        sizes[i] = all[kind * 6 + i] as usize;
+        i += 1;
+    }
+    Piece {
+        first: kind * 96,
+        count: n,
+        sizes,
+    }
+}

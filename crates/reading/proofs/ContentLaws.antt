@@ -1,0 +1,144 @@
+-- Laws of the numbers of an accepted job's content: how many they are, and that those written in parts are all of them.
+use mathlib.Core.List.{List, [], _∷_, _++_, map, append-assoc}
+use mathlib.Core.Path.{_≡_, refl, sym, ap, ap₂, _∙_}
+use Prim.Native.Nat.{ℕ, _+_, _*_, _-_, _/_, _<_, _≤_}
+use native.Mathlib.Omega.{arith}
+use borrow.Author.Tests.{lt-ltb, le-ltb, eq-eqb, ne-eqb}
+use lib.ListN.{length, length-append, take, drop}
+use Rattle.words.specs.Number.{count}
+use Rattle.model.specs.Content.{kindCount, pieceCount}
+use Rattle.model.specs.Format.{wordAt, boardAt, boardOf, classesAt, classesStated, classesOf, byRisingId, kindsAt, kindsLength, kindsStated, kindBytes, kindsGot, many, readKind, content, refusal}
+use Rattle.model.specs.Lists.{concat}
+use Rattle.model.specs.Services.{writeOutcome, numbersIn, withNumbers, kindNumbers, contentNumbers, readContent}
+use Rattle.model.specs.Services as Services
+use Rattle.model.specs.declared.Written.the-variants as W
+use Rattle.model.proofs.Causes.{no-cause, classes-in-range}
+use Rattle.model.proofs.Readers.{many-sum, many-least}
+use Rattle.model.proofs.Records.{kind-read}
+use Rattle.records.specs.Classes.{classesFrom}
+use Rattle.job.specs.Refusal.{refusalTo6}
+use Rattle.reading.specs.Write.{written, boardNumbers, frontNumbers, backNumbers, classesNumbers, kindsNumbers}
+use Rattle.job.proofs.CauseLaws.{classes-are}
+use Rattle.reading.proofs.ListingLaws.{kind-each}
+use Rattle.records.proofs.RecordLaws.{values-from}
+use Rattle.reading.proofs.RisingLaws.{risen-length, length-from, length-classes}
+use Rattle.job.proofs.ViewLaws.{kinds-in, got-list, kind-count, length-list, list-reads}
+use Rattle.reading.proofs.WriteLaws.{written-then, written-all, records-length}
+
+-- The three numbers of the board.
+pub board-written : (s : List ℕ) (o x y z : ℕ) (a u v w : List ℕ) → 6 ≤ length a → x ≡ wordAt s o → y ≡ wordAt s (o + 2) → z ≡ wordAt s (o + 4)
+    → u ≡ written 0 (x ∷ []) a → v ≡ written 1 (y ∷ []) u → w ≡ written 2 (z ∷ []) v → w ≡ written 0 (boardNumbers o s) a
+board-written s o x y z a u v w h ex ey ez eu ev ew =
+    written-then 0 2 (x ∷ y ∷ []) (z ∷ []) a v w refl (omega arith) (written-then 0 1 (x ∷ []) (y ∷ []) a u v refl (omega arith) eu ev) ew
+    ∙ rw (ex, ey, ez)
+
+pub six-none : (s : List ℕ) → refusal s ≡ 0 → refusalTo6 s ≡ 0
+unfolding refusalTo6
+six-none s e = let n = no-cause s e in rw (n .no1, n .no2, n .no3, n .no4, n .no5, n .no6)
+
+module _ (s : List ℕ) (e : refusal s ≡ 0) where
+  pub class-count : length (content s .classes) ≡ classesStated s
+  unfolding content
+  class-count =
+      risen-length (classesOf s) (classes-in-range s (no-cause s e .no5)) ∙ ap length (classes-are s)
+      ∙ length-from s (classesAt s) (classesStated s)
+
+  -- ---- In front
+
+  front-is : (o m n : ℕ) → o ≡ boardAt s → m ≡ classesAt s → n ≡ classesStated s
+      → boardNumbers o s ++ (n ∷ []) ++ classesNumbers (byRisingId (classesFrom s m n)) ≡ frontNumbers (content s)
+  unfolding content boardOf
+  front-is o m n eo em en =
+      ap (λ x. boardNumbers x s ++ (n ∷ []) ++ classesNumbers (byRisingId (classesFrom s m n))) eo
+      ∙ ap₂ (λ y cs. boardNumbers (boardAt s) s ++ (y ∷ []) ++ classesNumbers (byRisingId cs)) (en ∙ sym class-count)
+      (ap₂ (classesFrom s) em en ∙ sym (classes-are s))
+
+  pub front-written : (o m n : ℕ) (a u v w : List ℕ) → 8 ≤ length a → o ≡ boardAt s → m ≡ classesAt s → n ≡ classesStated s
+      → u ≡ written 0 (boardNumbers o s) a → v ≡ written 3 (n ∷ []) u → w ≡ written 4 (classesNumbers (byRisingId (classesFrom s m n))) v
+      → w ≡ written 0 (frontNumbers (content s)) a
+  front-written o m n a u v w h eo em en eu ev ew =
+      written-then 0 4 (boardNumbers o s ++ (n ∷ [])) (classesNumbers (byRisingId (classesFrom s m n))) a v w refl (omega arith)
+      (written-then 0 3 (boardNumbers o s) (n ∷ []) a u v refl (omega arith) eu ev) ew
+      ∙ ap (λ r. written 0 r a) (front-is o m n eo em en)
+
+  pub front-length : length (frontNumbers (content s)) ≡ 4 + classesStated s * 3
+  front-length = let c = class-count in let l = length-classes (content s .classes) in omega arith
+
+  -- ---- Behind
+
+  kinds-length : length (concat (map kindNumbers (content s .kinds))) ≡ kindsLength s
+  unfolding kindsGot
+  kinds-length = many-sum readKind kindNumbers kind-each (kindsStated s) (kindBytes s) _ _ (kinds-in s (six-none s e) .reads)
+
+  pub back-length : length (backNumbers (content s)) ≡ 2 + kindsLength s
+  back-length =
+      let l = kinds-length in
+      length-append (kindCount (content s) ∷ concat (map kindNumbers (content s .kinds))) (pieceCount (content s) ∷ []) ∙ (omega arith)
+
+  -- A type takes some bytes.
+  pub kinds-some : 1 ≤ kindsLength s
+  unfolding kindsGot
+  kinds-some =
+      let k = kinds-in s (six-none s e) in
+      let l = k .least in
+      let m = many-least readKind 4 (λ t a j q. kind-read t a j q .head) (kindsStated s) (kindBytes s) _ _ (k .reads) in
+      omega arith
+
+  module _ (base size n : ℕ) (eb : base ≡ kindsAt s) (es : size ≡ kindsLength s) (en : n ≡ kindsStated s) where
+    abbrev list : List ℕ
+    list = take (base + size - base) (drop base s)
+
+    back-is : (p : ℕ) → p ≡ pieceCount (content s) → (n ∷ []) ++ kindsNumbers n list ++ (p ∷ []) ≡ backNumbers (content s)
+    back-is p ep =
+        ap (λ l. (n ∷ []) ++ concat (map kindNumbers l) ++ (p ∷ [])) (values-from _ _ _ (got-list s (six-none s e) base size n eb es en))
+        ∙ ap₂ (λ i q. (i ∷ []) ++ concat (map kindNumbers (content s .kinds)) ++ (q ∷ [])) (sym (kind-count s (six-none s e) base size n eb es en)) ep
+
+    pub back-written : (at p : ℕ) (a u v w : List ℕ) → (at + 2 + kindsLength s) * 2 ≤ length a → p ≡ pieceCount (content s)
+        → u ≡ written at (n ∷ []) a → v ≡ written (at + 1) (kindsNumbers n list) u → w ≡ written (at + 1 + size) (p ∷ []) v
+        → w ≡ written at (backNumbers (content s)) a
+    back-written at p a u v w h ep eu ev ew =
+        let r = list-reads s (six-none s e) base size n eb es en in
+        let l : length (kindsNumbers n list) ≡ length list = records-length readKind kindNumbers kind-each n (length list) list r in
+        let z = length-list s (six-none s e) base size n eb es en in
+        written-then at (at + 1 + size) ((n ∷ []) ++ kindsNumbers n list) (p ∷ []) a v w (omega arith) (omega arith)
+        (written-then at (at + 1) (n ∷ []) (kindsNumbers n list) a u v refl (omega arith) eu ev) ew
+        ∙ ap (λ r. written at r a) (back-is p ep)
+
+  -- ---- All
+
+  content-is : contentNumbers (content s) ≡ frontNumbers (content s) ++ backNumbers (content s)
+  unfolding contentNumbers
+  content-is =
+      append-assoc (frontNumbers (content s)) (kindCount (content s) ∷ concat (map kindNumbers (content s .kinds))) (pieceCount (content s) ∷ [])
+
+  pub content-length : length (contentNumbers (content s)) ≡ 4 + classesStated s * 3 + 2 + kindsLength s
+  content-length =
+      let f = front-length in
+      let b = back-length in
+      ap length content-is ∙ length-append (frontNumbers (content s)) (backNumbers (content s)) ∙ (omega arith)
+
+  pub content-few : (out : List ℕ) → length out / 2 < length (contentNumbers (content s)) → readContent (content s) out ≡ writeOutcome (W.Refused 9) out
+  unfolding readContent numbersIn count
+  content-few out h = rw (lt-ltb _ _ h)
+
+  pub content-fits : (out : List ℕ) → length (contentNumbers (content s)) ≤ length out / 2
+      → readContent (content s) out ≡ writeOutcome (W.Count (length (contentNumbers (content s)))) (withNumbers (contentNumbers (content s)) out)
+  unfolding readContent numbersIn count
+  content-fits out h = rw (le-ltb _ _ h)
+
+  pub content-written : (at : ℕ) (a u v : List ℕ) → at ≡ 4 + classesStated s * 3 → at * 2 ≤ length a → u ≡ written 0 (frontNumbers (content s)) a
+      → v ≡ written at (backNumbers (content s)) u → v ≡ withNumbers (contentNumbers (content s)) a
+  unfolding withNumbers
+  content-written at a u v ea h eu ev =
+      let f = front-length in
+      written-then 0 at (frontNumbers (content s)) (backNumbers (content s)) a u v (omega arith) h eu ev
+      ∙ ap (λ r. written 0 r a) (sym content-is) ∙ written-all (contentNumbers (content s)) a
+
+module _ (s out : List ℕ) where
+  pub read-refused : (refusal s ≡ 0 → ⊥) → Services.read s out ≡ writeOutcome (W.Refused (refusal s)) out
+  unfolding Services.read
+  read-refused h = rw (ne-eqb (refusal s) 0 h, Services.read)
+
+  pub read-accepted : refusal s ≡ 0 → Services.read s out ≡ readContent (content s) out
+  unfolding Services.read
+  read-accepted h = rw (eq-eqb (refusal s) 0 h, Services.read)

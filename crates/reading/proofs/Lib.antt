@@ -1,0 +1,4 @@
+pub mod ContentLaws
+pub mod ListingLaws
+pub mod RisingLaws
+pub mod WriteLaws

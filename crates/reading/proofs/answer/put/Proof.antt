@@ -1,0 +1,23 @@
+use mathlib.Core.Path.{_≡_, _∙_}
+use Rattle.reading.proofs.WriteLaws.{written-one}
+use borrow.Author.Needs.{needs}
+use Rattle.reading.proofs.answer.put.Statement.{statement}
+use Rattle.reading.proofs.answer.put.Tie as tie
+
+mul-put-u16 : tie.Need-mul-put-u16
+mul-put-u16 c = search needs
+
+cast-put-u16 : tie.Need-cast-put-u16
+cast-put-u16 c = search needs
+
+put-u16-requires : tie.Need-put-u16-requires
+put-u16-requires c κs = search needs
+
+same-length : tie.Need-same-length
+same-length c = search needs
+
+returns : tie.Need-returns
+returns c = c .before .before .put-u16 .ensures ∙ written-one (c .before .before .before .before .before .args .at) (c .before .before .before .before .before .args .n) (c .before .before .before .before .before .args .answer .now)
+
+pub put-spec : {M : Type 1} → statement M
+put-spec = tie.close (tie.spec mul-put-u16 cast-put-u16 put-u16-requires same-length returns)

@@ -1,0 +1,58 @@
+use mathlib.Core.Path.{sym, ap, _∙_}
+use native.Mathlib.Omega.{arith}
+use Rattle.model.specs.declared.Written.the-variants as W
+use Rattle.reading.proofs.ContentLaws.{six-none, kinds-some, content-length, content-few, content-fits, content-written}
+use Rattle.job.proofs.ViewLaws.{inside}
+use borrow.Author.Needs.{needs}
+use Rattle.reading.proofs.content.read_content.Statement.{statement}
+use Rattle.reading.proofs.content.read_content.Tie as tie
+
+read-trailer-requires : tie.Need-read-trailer-requires
+read-trailer-requires c κs = inside _ (six-none _ (c .before .before .pre .0)) .least
+
+mul-at : tie.Need-mul-at
+mul-at c = search needs
+
+add-at : tie.Need-add-at
+add-at c = search needs
+
+add-count : tie.Need-add-count
+add-count c = search needs
+
+add-count-2 : tie.Need-add-count-2
+add-count-2 c = search needs
+
+returns : tie.Need-returns
+returns c =
+    let t = c .before .before .before .read-trailer .ensures in
+    let l = content-length (c .before .before .before .before .before .before .args .job .now) (c .before .before .before .before .before .before .pre .0) in
+    let q = content-few (c .before .before .before .before .before .before .args .job .now) (c .before .before .before .before .before .before .pre .0) (c .before .before .before .before .before .before .args .answer .now) (omega arith) in
+    (sym (ap (λ o. o .answer) q), sym (ap (λ o. o .buffer) q))
+
+put-front-requires : tie.Need-put-front-requires
+put-front-requires c κs =
+    let t = c .before .before .before .before .read-trailer .ensures in
+    let k = kinds-some (c .before .before .before .before .before .before .before .args .job .now) (c .before .before .before .before .before .before .before .pre .0) in
+    (c .before .before .before .before .before .before .before .pre .0, omega arith)
+
+put-back-requires : tie.Need-put-back-requires
+put-back-requires c κs = search needs
+
+cast-t15 : tie.Need-cast-t15
+cast-t15 c =
+    let t = c .before .before .before .before .before .before .before .before .before .before .before .read-trailer .ensures in
+    omega (arith, inside (c .before .before .before .before .before .before .before .before .before .before .before .before .before .before .args .job .now) (six-none (c .before .before .before .before .before .before .before .before .before .before .before .before .before .before .args .job .now) (c .before .before .before .before .before .before .before .before .before .before .before .before .before .before .pre .0)))
+
+same-length : tie.Need-same-length
+same-length c = search needs
+
+returns-2 : tie.Need-returns-2
+returns-2 c =
+    let t = c .before .before .before .before .before .before .before .before .before .before .before .read-trailer .ensures in
+    let l = content-length (c .before .before .before .before .before .before .before .before .before .before .before .before .before .before .args .job .now) (c .before .before .before .before .before .before .before .before .before .before .before .before .before .before .pre .0) in
+    let q = content-fits (c .before .before .before .before .before .before .before .before .before .before .before .before .before .before .args .job .now) (c .before .before .before .before .before .before .before .before .before .before .before .before .before .before .pre .0) (c .before .before .before .before .before .before .before .before .before .before .before .before .before .before .args .answer .now) (omega arith) in
+    let w = content-written (c .before .before .before .before .before .before .before .before .before .before .before .before .before .before .args .job .now) (c .before .before .before .before .before .before .before .before .before .before .before .before .before .before .pre .0) _ (c .before .before .before .before .before .before .before .before .before .before .before .before .before .before .args .answer .now) _ _ (omega arith) (omega arith) (c .before .before .before .before .before .before .put-front .ensures) (c .before .before .put-back .ensures) in
+    (ap W.Count (omega arith) ∙ sym (ap (λ o. o .answer) q), w ∙ sym (ap (λ o. o .buffer) q))
+
+pub read-content-spec : {M : Type 1} → statement M
+read-content-spec = tie.close (tie.spec read-trailer-requires mul-at add-at add-count add-count-2 returns put-front-requires put-back-requires cast-t15 same-length returns-2)

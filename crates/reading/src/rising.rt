@@ -1,0 +1,38 @@
+// The numbers of an accepted job's classes, by rising id, in whatever order the file has them.
+use crate::answer;
+use records::classes;
+ghost use mathlib.Core.Bool.{true};
+ghost use mathlib.Core.Path.{_≡_};
+ghost use Prim.Native.Nat.{_+_, _*_, _≤_, _<_};
+ghost use lib.ListN.{length};
+ghost use Rattle.model.specs.Format.{byRisingId};
+ghost use Rattle.records.specs.Classes.{classesFrom, classesOfId, distinctColumn};
+ghost use Rattle.reading.specs.Write.{written, classesNumbers};
+
+// The class of this id, where there is one, of the n classes from byte `from` on. The result is how many there are, 0 or 1.
+fn put_class(job: &[u8], from: usize, n: usize, id: usize, answer: &mut [u8], at: usize) -> usize
+    requires { ⌜ ((n < 256) × (from + n * 3 ≤ length (now job)) × ((at + 3) * 2 ≤ length (now answer))) × (distinctColumn (now job) from n ≡ true) ⌝ }
+    ensures { λ r. ⌜ (r ≡ length (classesOfId id (classesFrom (now (job .entry)) from n))) × (r ≤ 1) ⌝ }
+    ensures { λ r. ⌜ now (answer .exit) ≡ written at (classesNumbers (classesOfId id (classesFrom (now (job .entry)) from n))) (now (answer .entry)) ⌝ }
+{
+    let j = classes::find(job, from, n, id);
+    if j < n {
+        let o = from + j * 3;
+        answer::put_bytes(&job[o..], 3, answer, at);
+        return 1;
+    }
+    0
+}
+
+// The n classes from byte `from` on. (Room for one class more is asked for, since an id is looked up before it is known to be there.)
+pub fn put_classes(job: &[u8], from: usize, n: usize, answer: &mut [u8], at: usize)
+    requires { ⌜ ((n < 256) × (from + n * 3 ≤ length (now job)) × ((at + n * 3 + 3) * 2 ≤ length (now answer))) × (distinctColumn (now job) from n ≡ true) ⌝ }
+    ensures { λ _. ⌜ now (answer .exit) ≡ written at (classesNumbers (byRisingId (classesFrom (now (job .entry)) from n))) (now (answer .entry)) ⌝ }
+{
+    let mut done = 0;
+    let mut id = 0;
+    while id < 8 {
+        done += put_class(job, from, n, id, answer, at + done * 3);
+        id += 1;
+    }
+}

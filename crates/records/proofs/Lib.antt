@@ -1,0 +1,4 @@
+pub mod ClassLaws
+pub mod KindLaws
+pub mod PartLaws
+pub mod RecordLaws

@@ -1,0 +1,27 @@
+use Rattle.model.specs.Format.{classInRange}
+use borrow.Author.Needs.{needs}
+use Rattle.records.proofs.classes.in_range.Statement.{statement}
+use Rattle.records.proofs.classes.in_range.Tie as tie
+
+byte-requires : tie.Need-byte-requires
+byte-requires c κs = search needs
+
+add-byte : tie.Need-add-byte
+add-byte c = search needs
+
+byte-requires-2 : tie.Need-byte-requires-2
+byte-requires-2 c κs = search needs
+
+add-byte-2 : tie.Need-add-byte-2
+add-byte-2 c = search needs
+
+byte-requires-3 : tie.Need-byte-requires-3
+byte-requires-3 c κs = search needs
+
+returns : tie.Need-returns
+unfolding classInRange
+returns c = cc
+
+pub in-range-spec : {M : Type 1} → statement M
+in-range-spec =
+    tie.close (tie.spec byte-requires add-byte byte-requires-2 add-byte-2 byte-requires-3 returns)

@@ -1,0 +1,4 @@
+pub mod Classes
+pub mod Records
+pub mod Kinds
+pub mod Parts

@@ -1,0 +1,83 @@
+// The class list: cause 5 of refusal, and where the class of an id stands.
+use frame::fields;
+ghost use mathlib.Core.Path.{_≡_};
+ghost use Prim.Native.Nat.{_+_, _*_, _≤_, _<_};
+ghost use lib.ListN.{length};
+ghost use Rattle.records.specs.Classes.{classFrom, allInRange, occursLater, distinctColumn, classesUnfit, indexOf};
+ghost use Rattle.model.specs.Format.{classInRange};
+
+// The record at byte o has its id, rank and gap in range.
+fn in_range(job: &[u8], o: usize) -> bool
+    requires { ⌜ o + 3 ≤ length (now job) ⌝ }
+    ensures { λ r. ⌜ r ≡ classInRange (classFrom (now (job .entry)) o) ⌝ }
+{
+    (fields::byte(job, o) <= 7)
+        & (fields::byte(job, o + 1) <= 255)
+        & (fields::byte(job, o + 2) <= 63)
+}
+
+// Each of the n records from byte `at` on is in range.
+fn all_in_range(job: &[u8], at: usize, n: usize) -> bool
+    requires { ⌜ (n < 256) × (at + n * 3 ≤ length (now job)) ⌝ }
+    ensures { λ r. ⌜ r ≡ allInRange (now (job .entry)) at n ⌝ }
+{
+    let mut ok = true;
+    let mut j = 0;
+    while j < n {
+        ok = ok & in_range(job, at + j * 3);
+        j += 1;
+    }
+    ok
+}
+
+// A column is one field of every record: bytes at, at + 3, at + 6 and so on. Entry j stands again behind it, among n entries.
+fn occurs_later(job: &[u8], at: usize, n: usize, j: usize) -> bool
+    requires { ⌜ ((j < n) × (n < 256)) × (at + n * 3 ≤ length (now job) + 2) ⌝ }
+    ensures { λ r. ⌜ r ≡ occursLater (now (job .entry)) at n j ⌝ }
+{
+    let b = fields::byte(job, at + j * 3);
+    let mut found = false;
+    let mut i = n;
+    while j + 1 < i {
+        i -= 1;
+        found = (b == fields::byte(job, at + i * 3)) | found;
+    }
+    found
+}
+
+// No entry of the column occurs twice.
+fn distinct(job: &[u8], at: usize, n: usize) -> bool
+    requires { ⌜ (n < 256) × (at + n * 3 ≤ length (now job) + 2) ⌝ }
+    ensures { λ r. ⌜ r ≡ distinctColumn (now (job .entry)) at n ⌝ }
+{
+    let mut ok = true;
+    let mut j = n;
+    while 0 < j {
+        j -= 1;
+        ok = !occurs_later(job, at, n, j) & ok;
+    }
+    ok
+}
+
+// Cause 5: too many classes, a field out of range, an id or a rank that occurs twice.
+pub fn unfit(job: &[u8], at: usize, n: usize) -> bool
+    requires { ⌜ (n < 256) × (at + n * 3 ≤ length (now job)) ⌝ }
+    ensures { λ r. ⌜ r ≡ classesUnfit (now (job .entry)) at n ⌝ }
+{
+    (8 < n) | !all_in_range(job, at, n) | !distinct(job, at, n) | !distinct(job, at + 1, n)
+}
+
+// The index of the first class of this id, and n where there is none.
+pub fn find(job: &[u8], at: usize, n: usize, id: usize) -> usize
+    requires { ⌜ (n < 256) × (at + n * 3 ≤ length (now job)) ⌝ }
+    ensures { λ r. ⌜ (r ≡ indexOf (now (job .entry)) at n id) × (r ≤ n) ⌝ }
+{
+    let mut j = 0;
+    while j < n {
+        if fields::byte(job, at + j * 3) == id {
+            return j;
+        }
+        j += 1;
+    }
+    n
+}

@@ -1,0 +1,90 @@
+-- The row of a candidate, bit by bit and word by word. Assumes nothing.
+use mathlib.Core.Bool.{Bool, true, false, cond, _&&_}
+use mathlib.Core.List.{List, map}
+use mathlib.Core.Path.{_≡_, refl, sym, ap, _∙_}
+use Prim.Native.Nat.{ℕ, suc, _+_, _*_, _%_, _^_, _<_}
+use native.Mathlib.Nat.{zero-add}
+use native.Mathlib.Numerals.{add-one}
+use native.Mathlib.Omega.{arith}
+use lib.Bits.{bitOr}
+use lib.IntN.{ℤ}
+use lib.ListN.{length-map}
+use Rattle.words.specs.Bits.{bitsWhere, withBit}
+use Rattle.words.specs.Number.{withNumber, filled}
+use Rattle.words.proofs.Bit.{bitsWhere-cong, bitsWhere-more, or-pow}
+use Rattle.words.proofs.Row.{filled-none, filled-more}
+use Rattle.model.specs.Candidate.{isCandidate}
+use Rattle.model.specs.Content.{kindAt, kindCount}
+use Rattle.model.specs.Format.{content}
+use Rattle.model.specs.Gap.{pairGap}
+use Rattle.model.specs.Layout.{entryOf, conflict}
+use Rattle.model.specs.Lists.{below, rising}
+use Rattle.model.specs.Services.{rowBit}
+use Rattle.model.proofs.Folds.{map-same, map-below-more}
+use Rattle.model.proofs.Lists.{length-below}
+use Rattle.job.specs.declared.View.{View}
+use Rattle.shapes.specs.Boxes.{BoxesOf}
+use Rattle.candidates.specs.Conflicts.{placedOf, conflictBetween}
+use Rattle.shapes.specs.Pieces.{PieceOf}
+use Rattle.candidates.specs.Placements.{offered}
+use Rattle.rows.specs.Rows.{bitOf, wordOf}
+use Rattle.shapes.specs.Turned.{Viewed, TurnedOf}
+use Rattle.shapes.specs.declared.boxes.Boxes.{Boxes}
+use Rattle.shapes.specs.declared.pieces.Piece.{Piece}
+use Rattle.candidates.proofs.PreparedLaws.{offered-is, numbers-conflict}
+
+-- ---- a word, bit by bit
+
+pub word-none : (p : ℕ → Bool) → 0 ≡ bitsWhere 0 p
+unfolding bitsWhere
+word-none p = refl
+
+pub word-more : (p : ℕ → Bool) (i word r : ℕ) (t : Bool) → i < 64 → word ≡ bitsWhere i p → t ≡ p i → r ≡ cond t (withBit word (i % 64)) word → r ≡ bitsWhere (i + 1) p
+unfolding bitsWhere
+word-more p i word r t h e q g =
+    g ∙ ap (λ s. cond s (withBit word (i % 64)) word) q ∙ ap (λ n. cond (p i) (withBit word n) word) (omega arith)
+    ∙ ap (λ w. cond (p i) (withBit w i) w) e
+    ∙ step (p i) refl
+    ∙ ap (λ n. bitsWhere n p) (sym (add-one i))
+  where
+    step : (s : Bool) → p i ≡ s → cond s (withBit (bitsWhere i p) i) (bitsWhere i p) ≡ bitsWhere (suc i) p
+    step true d = sym (bitsWhere-more i p ∙ ap (λ s. bitOr (bitsWhere i p) (cond s (2 ^ i) 0)) d ∙ or-pow (bitsWhere i p) i)
+    step false d = sym (ap (λ s. cond s (2 ^ i) 0 + bitsWhere i p) d ∙ zero-add (bitsWhere i p))
+
+-- ---- the words of a row, one after the other
+
+pub fill-none : (f : ℕ → ℕ) (s : List ℕ) → s ≡ filled 8 (map f (below 0)) s
+unfolding below rising
+fill-none f s = sym (filled-none 8 s)
+
+pub fill-more : (f : ℕ → ℕ) (s : List ℕ) (w : ℕ) → filled 8 (map f (below (w + 1))) s ≡ withNumber 8 (filled 8 (map f (below w)) s) (w * 8) (f w)
+fill-more f s w =
+    ap (λ (ns : List ℕ). filled 8 ns s) (map-below-more f w)
+    ∙ filled-more 8 (map f (below w)) s (f w)
+    ∙ ap (λ n. withNumber 8 (filled 8 (map f (below w)) s) (n * 8) (f w)) (length-map (below w) f ∙ length-below w)
+
+-- ---- what the row has is what the model says
+
+module _ (s : List ℕ) (v : View) (table : List ℤ) (x : Viewed s v) (z : TurnedOf s table) (t u : ℕ) (ht : t < kindCount (content s)) (hu : u < kindCount (content s))
+    (p q : Piece) (ep : PieceOf s t p) (eq : PieceOf s u q) (b : Boxes) (y : BoxesOf s b) (gap n : ℕ) (eg : gap ≡ pairGap (content s) (kindAt (content s) t) (kindAt (content s) u)) where
+  -- A bit of the row is what the model says.
+  pub bit-is : (m : ℕ) → bitOf v b table p (placedOf (v .rows) n) q u gap m ≡ rowBit (content s) t n u m
+  unfolding bitOf rowBit
+  bit-is m = go (isCandidate (content s) u m) refl
+    where
+      test : Bool
+      test = conflictBetween table (v .step) p (placedOf (v .rows) n) q (placedOf (v .rows) m) gap
+
+      same : test ≡ conflict (content s) (entryOf (content s) t n) (entryOf (content s) u m)
+      same =
+          ap (λ g. conflictBetween table (v .step) p (placedOf (v .rows) n) q (placedOf (v .rows) m) g) eg
+          ∙ numbers-conflict s v table x z t u ht hu p q ep eq n m
+
+      go : (w : Bool) → isCandidate (content s) u m ≡ w → (offered v b u m && test) ≡ rowBit (content s) t n u m
+      go true e = ap (λ w. w && test) (offered-is s v b x y u hu m ∙ e) ∙ same ∙ rw (e, rowBit)
+      go false e = ap (λ w. w && test) (offered-is s v b x y u hu m ∙ e) ∙ rw (e, rowBit)
+
+  -- The words of the row are what the model says.
+  pub words-are : (k : ℕ) → map (wordOf v b table p (placedOf (v .rows) n) q u gap) (below k) ≡ map (λ w. bitsWhere 64 (λ i. rowBit (content s) t n u (w * 64 + i))) (below k)
+  unfolding wordOf
+  words-are k = map-same _ _ (below k) (λ w. bitsWhere-cong 64 _ _ (λ i l. bit-is (w * 64 + i)))

@@ -1,0 +1,42 @@
+-- The box of a piece, part by part. Assumes nothing.
+use mathlib.Core.List.{List, [], _∷_, _++_, map}
+use mathlib.Core.Path.{_≡_, refl, sym, ap, _∙_}
+use Prim.Native.Nat.{ℕ, zero, suc, _+_, _*_, _≤_, _<_}
+use native.Mathlib.Omega.{arith}
+use lib.IntN.{ℤ}
+use lib.ListN.{length, getD, take, drop, length-take, length-drop, length-append}
+use Rattle.model.specs.Content.{Vertex, Part}
+use Rattle.model.specs.Lists.{concat, rising, below}
+use Rattle.model.proofs.Box.{concat-one}
+use Rattle.model.proofs.Folds.{concat-more, map-below-more}
+use Rattle.geometry.specs.Boxes.{extentsOf, joined}
+use Rattle.geometry.specs.Flat.{partOf}
+use Rattle.geometry.specs.declared.extents.Extents.{Extents}
+use Rattle.geometry.proofs.BoxLaws.{extents-append}
+use Rattle.geometry.proofs.Flat.{part-length}
+use Rattle.shapes.specs.Pieces.{Fitting, partIn, partsIn}
+use Rattle.shapes.specs.declared.pieces.Piece.{Piece}
+
+-- of parts that each have a vertex
+module _ (f : ℕ → Part) (n : ℕ) (some : (i : ℕ) → i < n → 0 < length (f i)) where
+  concat-some : (i : ℕ) → 0 < i → i ≤ n → 0 < length (concat (map f (below i)))
+  unfolding concat below rising
+  concat-some zero h g = absurd (omega arith)
+  concat-some (suc i) h g = rw (length-append (f 0) (concat (map f (rising 1 i)))) (omega (arith, some 0 (omega arith)))
+
+  pub box-first : extentsOf (f 0) ≡ extentsOf (concat (map f (below 1)))
+  unfolding below rising
+  box-first = ap extentsOf (sym (concat-one (f 0)))
+
+  pub box-more : (i : ℕ) → 0 < i → i < n → extentsOf (concat (map f (below (i + 1)))) ≡ joined (extentsOf (concat (map f (below i)))) (extentsOf (f i))
+  box-more i h g =
+      ap (λ (Ps : List Part). extentsOf (concat Ps)) (map-below-more f i)
+      ∙ ap extentsOf (concat-more (map f (below i)) (f i))
+      ∙ extents-append (concat (map f (below i))) (f i) (concat-some i h (omega arith)) (some i g)
+
+-- every part of a piece in the table has a vertex
+pub part-some : (table : List ℤ) (p : Piece) (k : ℕ) → Fitting p → k < 4 → length table ≡ 4096 → (i : ℕ) → i < p .count → 0 < length (partIn table p k i)
+unfolding partIn
+part-some table p k f h size i l =
+    let a : ℕ = k * 1024 + p .first + i * 16 in
+    omega (arith, f .least i l, f .short i l, f .few, f .within, part-length (take (getD (p .sizes) i 0 * 2) (drop a table)), length-take (getD (p .sizes) i 0 * 2) (drop a table), length-drop a table)

@@ -1,0 +1,4 @@
+pub mod TurnLaws
+pub mod ViewLaws
+pub mod PieceLaws
+pub mod BoxLaws

@@ -1,0 +1,290 @@
+-- Turned vertices: what the quarter turns do to the coordinates, and the table of turned vertices as it is written. Assumes nothing.
+use mathlib.Core.List.{List, [], _∷_, _++_, map, map-append}
+use mathlib.Core.Logic.{_⊎_, inl, inr, ⊎-elim}
+use mathlib.Core.Path.{_≡_, refl, sym, ap, subst, _∙_}
+use Prim.Native.Nat.{ℕ, zero, suc, _+_, _-_, _*_, _≤_, _<_}
+use native.Mathlib.Nat.{add-zero, add-suc, suc-add}
+use native.Mathlib.Numerals.{add-one}
+use native.Mathlib.Omega.{arith}
+use borrow.Author.Count.{below-none, below-more}
+use lib.IntN.{ℤ, pos, negℤ, _-ℤ_}
+use lib.ListN.{length, getD, take, drop, set, length-append, length-map}
+use lib.Seq.{sets, sets-eq, take-at, drop-at, drop-append-le, length-take-le, drop-set-lt, drop-set-add, take-set-le, take-take}
+use mir.Syntax.{w8, w16}
+use mir.Val.{Fits, SFits, toZ, ofZ}
+use mir.ValLaws.{toZ-ofZ}
+use Rattle.integers.specs.Byte.{signed}
+use Rattle.integers.proofs.Bytes.{signed-fits}
+use Rattle.integers.proofs.Sizes.{sized}
+use Rattle.integers.proofs.Solver.{ring, #, _⊞_, _⊟_, _⊠_, ⊖_, _≈_}
+use Rattle.model.specs.Content.{Vertex, vertex, Part, kindAt, kindCount}
+use Rattle.model.specs.Format.{byteAt, vertices, content}
+use Rattle.model.specs.Geometry.{rotated, quarterTurn}
+use Rattle.model.proofs.Records.{length-vertices, byte-behind}
+use Rattle.words.proofs.Cases.{le-or-lt, eq-or-ne}
+use Rattle.geometry.specs.Flat.{partOf}
+use Rattle.shapes.specs.Turned.{numbersOf, vertexIn, withVertex, withPart, slot, Holds, Kept, PartTurned, KindTurned, TurnedOf}
+
+-- ---- coordinates
+
+-- a number read from the bits of a local
+pub as-is : {z w : ℤ} → SFits w16 z → z ≡ w → toZ w16 (ofZ w16 z) ≡ w
+as-is {z} f e = toZ-ofZ w16 z f ∙ e
+
+pub opposite-fits : (z : ℤ) → SFits w8 z → SFits w16 (pos 0 -ℤ z)
+opposite-fits = sized w8 w16 1 (λ z. # (pos 0) ⊟ z) tt
+
+pub opposite-fits-read : (z : ℤ) → SFits w8 z → SFits w16 z → SFits w16 (pos 0 -ℤ toZ w16 (ofZ w16 z))
+opposite-fits-read z f g = rw (toZ-ofZ w16 z g) (opposite-fits z f)
+
+pub opposite : {z w : ℤ} → SFits w8 z → SFits w16 z → negℤ z ≡ w → toZ w16 (ofZ w16 (pos 0 -ℤ toZ w16 (ofZ w16 z))) ≡ w
+opposite {z} f g e =
+    ap (λ u. toZ w16 (ofZ w16 (pos 0 -ℤ u))) (toZ-ofZ w16 z g)
+    ∙ toZ-ofZ w16 (pos 0 -ℤ z) (opposite-fits z f)
+    ∙ ring 1 (λ z. # (pos 0) ⊟ z ≈ ⊖ z) tt z
+    ∙ e
+
+module _ (k : ℕ) (x y : ℤ) where
+  pub turn-0 : k ≡ 0 → vertex x y ≡ rotated k (vertex x y)
+  unfolding rotated
+  turn-0 e = sym (ap (λ n. rotated n (vertex x y)) e)
+
+  pub turn-1 : k ≡ 1 → vertex (negℤ y) x ≡ rotated k (vertex x y)
+  unfolding rotated quarterTurn
+  turn-1 e = sym (ap (λ n. rotated n (vertex x y)) e)
+
+  pub turn-2 : k ≡ 2 → vertex (negℤ x) (negℤ y) ≡ rotated k (vertex x y)
+  unfolding rotated quarterTurn
+  turn-2 e = sym (ap (λ n. rotated n (vertex x y)) e)
+
+  pub turn-3 : k ≡ 3 → vertex y (negℤ x) ≡ rotated k (vertex x y)
+  unfolding rotated quarterTurn
+  turn-3 e = ap (λ u. vertex u (negℤ x)) (ring 1 (λ y. y ≈ ⊖ (⊖ y)) tt y) ∙ sym (ap (λ n. rotated n (vertex x y)) e)
+
+-- ---- a part written vertex by vertex
+
+pub length-numbers : (P : Part) → length (numbersOf P) ≡ length P * 2
+unfolding numbersOf
+length-numbers [] = refl
+length-numbers (v ∷ P) = let h = length-numbers P in omega arith
+
+numbers-append : (P Q : Part) → numbersOf (P ++ Q) ≡ numbersOf P ++ numbersOf Q
+unfolding numbersOf
+numbers-append [] Q = refl
+numbers-append (v ∷ P) Q = ap (λ (ns : List ℤ). v .x ∷ v .y ∷ ns) (numbers-append P Q)
+
+pub part-of-numbers : (P : Part) → partOf (numbersOf P) ≡ P
+unfolding numbersOf partOf
+part-of-numbers [] = refl
+part-of-numbers (v ∷ P) = ap (λ (Q : Part). v ∷ Q) (part-of-numbers P)
+
+sets-append : (l : List ℤ) (i : ℕ) (xs ys : List ℤ) → sets l i (xs ++ ys) ≡ sets (sets l i xs) (i + length xs) ys
+sets-append l i [] ys = ap (λ n. sets l n ys) (sym (add-zero i))
+sets-append l i (x ∷ xs) ys =
+    sets-append (set l i x) (suc i) xs ys ∙ ap (λ n. sets (sets (set l i x) (suc i) xs) n ys) (suc-add i (length xs) ∙ sym (add-suc i (length xs)))
+
+-- one vertex more behind the others
+pub part-more : (l : List ℤ) (to : ℕ) (P : Part) (v : Vertex) → withPart l to (P ++ v ∷ []) ≡ withVertex (withPart l to P) (to + length P * 2) v
+unfolding numbersOf
+part-more l to P v =
+    ap (λ (ns : List ℤ). sets l to ns) (numbers-append P (v ∷ []))
+    ∙ sets-append l to (numbersOf P) (v .x ∷ v .y ∷ [])
+    ∙ ap (λ n. set (set (withPart l to P) n (v .x)) (suc n) (v .y)) (ap (λ n. to + n) (length-numbers P))
+    ∙ ap (λ n. set (set (withPart l to P) (to + length P * 2) (v .x)) n (v .y)) (sym (add-one (to + length P * 2)))
+
+vertices-more : (m : ℕ) (s : List ℕ) → vertices (suc m) s ≡ vertices m s ++ vertexIn s (m * 2) ∷ []
+unfolding vertices
+vertices-more zero s = refl
+vertices-more (suc m) s =
+    ap (λ (P : Part). vertex (signed (byteAt s 0)) (signed (byteAt s 1)) ∷ P)
+    (vertices-more m (drop 2 s) ∙ ap (λ v. vertices m (drop 2 s) ++ v ∷ []) (in-tail s 2 (m * 2) (suc m * 2) (omega arith)))
+  where
+    in-tail : (s : List ℕ) (o i n : ℕ) → o + i ≡ n → vertexIn (drop o s) i ≡ vertexIn s n
+    in-tail s o i n e =
+        ap (λ b. vertex (signed b) (signed (byteAt (drop o s) (i + 1)))) (byte-behind s o i ∙ ap (byteAt s) e)
+        ∙ ap (λ b. vertex (signed (byteAt s n)) (signed b)) (byte-behind s o (i + 1) ∙ ap (byteAt s) (omega arith))
+
+-- a vertex of the bytes behind the first o
+pub vertex-behind : (s : List ℕ) (o i : ℕ) → vertexIn (drop o s) i ≡ vertexIn s (o + i)
+vertex-behind s o i =
+    ap (λ b. vertex (signed b) (signed (byteAt (drop o s) (i + 1)))) (byte-behind s o i)
+    ∙ ap (λ b. vertex (signed (byteAt s (o + i))) (signed b)) (byte-behind s o (i + 1) ∙ ap (byteAt s) (omega arith))
+
+pub written-none : (f : Vertex → Vertex) (l : List ℤ) (to : ℕ) (s : List ℕ) → l ≡ withPart l to (map f (vertices 0 s))
+unfolding vertices numbersOf
+written-none f l to s = refl
+
+pub written-more : (f : Vertex → Vertex) (l : List ℤ) (to m : ℕ) (s : List ℕ) (from : ℕ)
+    → withPart l to (map f (vertices (m + 1) (drop from s))) ≡ withVertex (withPart l to (map f (vertices m (drop from s)))) (to + m * 2) (f (vertexIn s (from + m * 2)))
+written-more f l to m s from =
+    ap (λ n. withPart l to (map f (vertices n (drop from s)))) (add-one m)
+    ∙ ap (λ (P : Part). withPart l to (map f P)) (vertices-more m (drop from s))
+    ∙ ap (withPart l to) (map-append f (vertices m (drop from s)) (vertexIn (drop from s) (m * 2) ∷ []))
+    ∙ part-more l to (map f (vertices m (drop from s))) (f (vertexIn (drop from s) (m * 2)))
+    ∙ ap (λ n. withVertex (withPart l to (map f (vertices m (drop from s)))) (to + n * 2) (f (vertexIn (drop from s) (m * 2))))
+    (length-map (vertices m (drop from s)) f ∙ length-vertices m (drop from s))
+    ∙ ap (λ v. withVertex (withPart l to (map f (vertices m (drop from s)))) (to + m * 2) (f v)) (vertex-behind s from (m * 2))
+
+-- ---- a vertex read, turned and written
+
+pub byte-fits : (b : ℕ) (r : ℤ) → Fits w8 b → SFits w16 r → r ≡ signed b → SFits w8 (toZ w16 (ofZ w16 r))
+byte-fits b r f g e = rw (toZ-ofZ w16 r g ∙ e) (signed-fits b f)
+
+pub vertex-written : (l : List ℤ) (to k b c : ℕ) (x y u w : ℤ) → SFits w16 x → x ≡ signed b → SFits w16 y → y ≡ signed c → SFits w16 u
+    → u ≡ rotated k (vertex (toZ w16 (ofZ w16 x)) (toZ w16 (ofZ w16 y))) .x → SFits w16 w
+    → w ≡ rotated k (vertex (toZ w16 (ofZ w16 x)) (toZ w16 (ofZ w16 y))) .y
+    → set (set l to (toZ w16 (ofZ w16 u))) (to + 1) (toZ w16 (ofZ w16 w)) ≡ withVertex l to (rotated k (vertex (signed b) (signed c)))
+vertex-written l to k b c x y u w fx ex fy ey fu eu fw ew =
+    let v : vertex (toZ w16 (ofZ w16 x)) (toZ w16 (ofZ w16 y)) ≡ vertex (signed b) (signed c) =
+    ap (λ z. vertex z (toZ w16 (ofZ w16 y))) (as-is fx ex) ∙ ap (λ z. vertex (signed b) z) (as-is fy ey) in
+    ap (λ z. set (set l to z) (to + 1) (toZ w16 (ofZ w16 w))) (as-is fu (eu ∙ ap (λ p. rotated k p .x) v))
+    ∙ ap (λ z. set (set l to (rotated k (vertex (signed b) (signed c)) .x)) (to + 1) z) (as-is fw (ew ∙ ap (λ p. rotated k p .y) v))
+
+-- ---- slots of the table
+
+-- what stands outside the place that is written
+one-kept : (l : List ℤ) (i : ℕ) (a : ℤ) (b m : ℕ) → (i < b) ⊎ (b + m ≤ i) → take m (drop b (set l i a)) ≡ take m (drop b l)
+one-kept l i a b m (inl h) = ap (take m) (drop-set-lt b l i a h)
+one-kept l i a b m (inr h) =
+    let e : i ≡ b + (i - b) = omega arith in
+    ap (λ n. take m (drop b (set l n a))) e ∙ ap (take m) (drop-set-add b l (i - b) a) ∙ take-set-le m (drop b l) (i - b) a (omega arith)
+
+run-kept : (l : List ℤ) (i : ℕ) (vs : List ℤ) (b m : ℕ) → (i + length vs ≤ b) ⊎ (b + m ≤ i) → take m (drop b (sets l i vs)) ≡ take m (drop b l)
+run-kept l i [] b m h = refl
+run-kept l i (v ∷ vs) b m (inl h) = run-kept (set l i v) (suc i) vs b m (inl (omega arith)) ∙ one-kept l i v b m (inl (omega arith))
+run-kept l i (v ∷ vs) b m (inr h) = run-kept (set l i v) (suc i) vs b m (inr (omega arith)) ∙ one-kept l i v b m (inr (omega arith))
+
+-- what stands where it is written
+run-written : (l : List ℤ) (i : ℕ) (vs : List ℤ) → i + length vs ≤ length l → take (length vs) (drop i (sets l i vs)) ≡ vs
+run-written l i vs h =
+    let n : length (take i l) ≡ i = length-take-le i l (omega arith) in
+    ap (λ (r : List ℤ). take (length vs) (drop i r)) (sets-eq vs l i h)
+    ∙ ap (take (length vs)) (drop-append-le i (take i l ++ vs) (drop (i + length vs) l) (rw (length-append (take i l) vs, n) (omega arith)))
+    ∙ ap (λ (r : List ℤ). take (length vs) (r ++ drop (i + length vs) l)) (drop-at (take i l) vs i n)
+    ∙ take-at vs (drop (i + length vs) l) (length vs) refl
+
+pub held-written : (l : List ℤ) (k q : ℕ) (P : Part) → slot k q + length P * 2 ≤ length l → Holds (withPart l (slot k q) P) k q P
+held-written l k q P h =
+    ap (λ n. take n (drop (slot k q) (withPart l (slot k q) P))) (sym (length-numbers P))
+    ∙ run-written l (slot k q) (numbersOf P) (rw (length-numbers P) h)
+
+-- two slots share no number, unless they are the same one
+slots-apart : (k q i r : ℕ) → q < 48 → r < 48 → ((k ≡ i) → (q ≡ r) → ⊥) → (slot k q + 16 ≤ slot i r) ⊎ (slot i r + 16 ≤ slot k q)
+slots-apart k q i r hq hr ne = ⊎-elim (λ h. side (eq-or-ne k i) h) (λ h. inr (omega arith)) (le-or-lt k i)
+  where
+    side : (k ≡ i) ⊎ (k ≡ i → ⊥) → k ≤ i → (slot k q + 16 ≤ slot i r) ⊎ (slot i r + 16 ≤ slot k q)
+    side (inr d) h = inl (omega arith)
+    side (inl e) h = ⊎-elim (λ g. below (eq-or-ne q r) g) (λ g. inr (omega arith)) (le-or-lt q r)
+      where
+        below : (q ≡ r) ⊎ (q ≡ r → ⊥) → q ≤ r → (slot k q + 16 ≤ slot i r) ⊎ (slot i r + 16 ≤ slot k q)
+        below (inl f) g = absurd (ne e f)
+        below (inr d) g = inl (omega arith)
+
+-- a part written into one slot leaves the others as they were
+pub slot-kept : (l : List ℤ) (k q i r m : ℕ) (P : Part) → q < 48 → r < 48 → ((k ≡ i) → (q ≡ r) → ⊥) → length P ≤ 8 → m ≤ 16
+    → take m (drop (slot k q) (withPart l (slot i r) P)) ≡ take m (drop (slot k q) l)
+slot-kept l k q i r m P hq hr ne hp hm = run-kept l (slot i r) (numbersOf P) (slot k q) m (side (slots-apart k q i r hq hr ne))
+  where
+    side : (slot k q + 16 ≤ slot i r) ⊎ (slot i r + 16 ≤ slot k q) → (slot i r + length (numbersOf P) ≤ slot k q) ⊎ (slot k q + m ≤ slot i r)
+    side (inl h) = inr (omega arith)
+    side (inr h) = inl (omega (arith, length-numbers P))
+
+-- ---- a part turned into its slots, one plane after the other
+
+pub record TurnedTo (P : Part) (q : ℕ) (old new : List ℤ) (k : ℕ) : Type 0 where
+  pub held : (i : ℕ) → i < k → Holds new i q (map (rotated i) P)
+  pub kept : (r : ℕ) → r < 48 → (r ≡ q → ⊥) → Kept old new r
+
+pub turned-none : (P : Part) (q : ℕ) (old : List ℤ) → TurnedTo P q old old 0
+turned-none P q old = record { held = below-none _; kept = λ r h d k l. refl }
+
+module _ (P : Part) (q : ℕ) (few : length P ≤ 8) (small : q < 48) where
+  rotated-length : (i : ℕ) → length (map (rotated i) P) ≡ length P
+  rotated-length i = length-map P (rotated i)
+
+  pub turned-more : (old mid new : List ℤ) (k : ℕ) → length mid ≡ 4096 → k < 4 → TurnedTo P q old mid k → new ≡ withPart mid (slot k q) (map (rotated k) P)
+      → TurnedTo P q old new (k + 1)
+  turned-more old mid new k size h t e =
+      let few-k : length (map (rotated k) P) ≤ 8 = rw (rotated-length k) few in
+      record {
+        held =
+            below-more _ k
+            (λ i l.
+            ap (λ (w : List ℤ). take (length (map (rotated i) P) * 2) (drop (slot i q) w)) e
+            ∙ slot-kept mid i q k q (length (map (rotated i) P) * 2) (map (rotated k) P) small small (λ p _. omega arith) few-k
+            (omega (arith, rotated-length i))
+            ∙ t .held i l)
+            (ap (λ (w : List ℤ). take (length (map (rotated k) P) * 2) (drop (slot k q) w)) e
+            ∙ held-written mid k q (map (rotated k) P) (omega (arith, rotated-length k)));
+        kept =
+            λ r l d i g.
+            ap (λ (w : List ℤ). take 16 (drop (slot i r) w)) e
+            ∙ slot-kept mid i r k q 16 (map (rotated k) P) l small (λ _ p. d p) few-k (omega arith)
+            ∙ t .kept r l d i g;
+      }
+
+pub turned-all : (P : Part) (q : ℕ) (old new : List ℤ) (k : ℕ) → 4 ≤ k → TurnedTo P q old new k → PartTurned P q old new
+turned-all P q old new k h t = record { held = λ i l. t .held i (omega arith); kept = t .kept }
+
+-- ---- all parts of a kind, one after the other
+
+-- what a slot holds it holds as long as it is kept
+pub holds-kept : (old new : List ℤ) (k q : ℕ) (P : Part) → length P ≤ 8 → k < 4 → Kept old new q → Holds old k q P → Holds new k q P
+holds-kept old new k q P few h e held =
+    let narrow : (w : List ℤ) → take (length P * 2) (drop (slot k q) w) ≡ take (length P * 2) (take 16 (drop (slot k q) w)) =
+    λ w. sym (take-take (length P * 2) 16 (drop (slot k q) w) (omega arith)) in
+    narrow new ∙ ap (take (length P * 2)) (e k h) ∙ sym (narrow old) ∙ held
+
+module _ (s : List ℕ) (t : ℕ) where
+  -- part i of the kind
+  abbrev pub partAt : ℕ → Part
+  partAt i = getD (kindAt (content s) t .parts) i []
+
+  pub record KindTurnedTo (old new : List ℤ) (n : ℕ) : Type 0 where
+    pub held : (i : ℕ) → i < n → (k : ℕ) → k < 4 → Holds new k (t * 6 + i) (map (rotated k) (partAt i))
+    pub kept : (r : ℕ) → r < t * 6 → Kept old new r
+
+  pub kind-none : (old : List ℤ) → KindTurnedTo old old 0
+  kind-none old = record { held = below-none _; kept = λ r h k l. refl }
+
+  pub kind-more : (old mid new : List ℤ) (n : ℕ) (P : Part) → t < 8 → n < 6 → ((i : ℕ) → i < n → length (partAt i) ≤ 8) → P ≡ partAt n → KindTurnedTo old mid n
+      → PartTurned P (t * 6 + n) mid new → KindTurnedTo old new (n + 1)
+  kind-more old mid new n P ht hn few e b p =
+      record {
+        held =
+            below-more _ n
+            (λ i h k l.
+            holds-kept mid new k (t * 6 + i) (map (rotated k) (partAt i)) (rw (length-map (partAt i) (rotated k)) (few i h)) l
+            (p .kept (t * 6 + i) (omega arith) (λ d. omega arith)) (b .held i h k l))
+            (λ k l. subst (λ (Q : Part). Holds new k (t * 6 + n) (map (rotated k) Q)) e (p .held k l));
+        kept = λ r h k l. p .kept r (omega arith) (λ d. omega arith) k l ∙ b .kept r h k l;
+      }
+
+  pub kind-all : (old new : List ℤ) (n : ℕ) → length (kindAt (content s) t .parts) ≤ n → KindTurnedTo old new n → KindTurned s t old new
+  kind-all old new n h b = record { held = λ i k l g. b .held i (omega arith) k g; kept = b .kept }
+
+-- ---- all kinds, one after the other
+
+module _ (s : List ℕ) where
+  pub record KindsTurned (table : List ℤ) (n : ℕ) : Type 0 where
+    pub held : (t : ℕ) → t < n → (i k : ℕ) → i < length (kindAt (content s) t .parts) → k < 4 → Holds table k (t * 6 + i) (map (rotated k) (partAt s t i))
+
+  pub kinds-none : (table : List ℤ) → KindsTurned table 0
+  kinds-none table = record { held = below-none _ }
+
+  -- every part of the kinds before n is short, and so few that they end before the slots of the next kind
+  pub kinds-more : (old new : List ℤ) (n : ℕ)
+      → ((t : ℕ) → t < n → length (kindAt (content s) t .parts) ≤ 6) → ((t : ℕ) → t < n → (i : ℕ) → i < length (kindAt (content s) t .parts) → length (partAt s t i) ≤ 8)
+      → KindsTurned old n → KindTurned s n old new → KindsTurned new (n + 1)
+  kinds-more old new n few short b p =
+      record {
+        held =
+            below-more _ n
+            (λ t h i k l g.
+            holds-kept old new k (t * 6 + i) (map (rotated k) (partAt s t i)) (rw (length-map (partAt s t i) (rotated k)) (short t h i l)) g
+            (p .kept (t * 6 + i) (omega (arith, few t h))) (b .held t h i k l g))
+            (p .held);
+      }
+
+  pub kinds-all : (table : List ℤ) (n : ℕ) → kindCount (content s) ≤ n → length table ≡ 4096 → KindsTurned table n → TurnedOf s table
+  kinds-all table n h size b = record { size = size; held = λ t i k l g. b .held t (omega arith) i k g }

@@ -1,0 +1,214 @@
+-- The levels of the search, and the whole walk as what follows once nothing is placed.
+use mathlib.Core.Bool.{true, false, cond}
+use mathlib.Core.List.{List, [], _∷_, _++_, map, reverse, reverse-cons, map-append, List·Memᴰ, List·Memᴰ·head, List·Memᴰ·tail}
+use mathlib.Core.Option.{Option, none, some}
+use mathlib.Core.Path.{_≡_, refl, sym, ap, _∙_}
+use Prim.Native.Nat.{ℕ, zero, suc, _+_, _*_, _-_, _≤_, _<_}
+use native.Mathlib.Omega.{arith}
+use lib.Dec.{ltb, eqb}
+use lib.ListN.{length, getD, length-drop, drop-of-length-le}
+use lib.Seq.{drop-cons}
+use Rattle.words.specs.Sets.{nextMember}
+use Rattle.model.specs.Content.{Job, kindAt, kindCount, pieceCount}
+use Rattle.model.specs.Grid.{numberLimit, setWords}
+use Rattle.model.specs.Layout.{Layout, entryOf, isEntry, layoutLength}
+use Rattle.model.specs.Lists.{all, countOf, largest, rising, below}
+use Rattle.model.specs.Search.{pieces, completed, latest, searchFrom, stepsFrom, held, copiesLeft}
+use Rattle.model.specs.Services.{runOutcome, runContent, verdict, wordsIn, numbersIn, workWords, cleared, withLayout}
+use Rattle.model.proofs.Search.Pieces.{length-pieces, mem-pieces, count-pieces}
+use Rattle.stepping.specs.LiveSets.{setOf, boundOf, enough, Keeps}
+use Rattle.stepping.specs.Levels.{pieceKind, piecesFrom, placedBelow, tryLevel, goOnLevel, walkSpent}
+use Rattle.stepping.specs.Spending.{Spent, spent, spend, answerOf}
+use Rattle.stepping.specs.Steps.{goOn, goOnSpent, Entries}
+use Rattle.stepping.proofs.Counting.{below-suc}
+use Rattle.stepping.proofs.Held.{try-entries, goOn-entries}
+use Rattle.stepping.proofs.Kept.{keeps-next}
+use Rattle.stepping.proofs.Steps.{spent-over, spent-past, take-stops, take-ends, take-goes, goOn-last, goOn-back, goOn-deep}
+use Rattle.stepping.proofs.Spending.{held-spent, verdict-spent}
+
+-- An element is in its list.
+getD-mem : (ns : List ℕ) (i d : ℕ) → i < length ns → List·Memᴰ (getD ns i d) ns
+getD-mem [] i d h = absurd (omega arith)
+getD-mem (n ∷ ns) zero d h = List·Memᴰ·head refl
+getD-mem (n ∷ ns) (suc i) d h = List·Memᴰ·tail (getD-mem ns i d (omega arith))
+
+module _ (j : Job) where
+  -- ---- The pieces from a level on
+
+  -- The first of them and the others; none past the last; how many.
+  pub pieces-next : (l : ℕ) → l < pieceCount j → piecesFrom j l ≡ pieceKind j l ∷ piecesFrom j (suc l)
+  unfolding piecesFrom pieceKind
+  pieces-next l h = drop-cons (pieces j) l 0 (rw (length-pieces j) h)
+
+  pub pieces-end : (l : ℕ) → pieceCount j ≤ l → piecesFrom j l ≡ []
+  unfolding piecesFrom
+  pieces-end l h = drop-of-length-le (pieces j) {i = l} (rw (length-pieces j) h)
+
+  pub pieces-left : (l : ℕ) → length (piecesFrom j l) ≡ pieceCount j - l
+  unfolding piecesFrom
+  pieces-left l = rw (length-drop, length-pieces j)
+
+  -- The kind of a piece is one of the kinds.
+  pub piece-kind : (l : ℕ) → l < pieceCount j → pieceKind j l < kindCount j
+  unfolding pieceKind
+  piece-kind l h = mem-pieces j (getD (pieces j) l 0) (getD-mem (pieces j) l 0 (rw (length-pieces j) h))
+
+  -- The copies left of a kind: all that are demanded at the start, none at the end, one less after each piece of the kind.
+  pub copies-start : (u : ℕ) → u < kindCount j → copiesLeft u (piecesFrom j 0) ≡ kindAt j u .demand
+  unfolding piecesFrom copiesLeft
+  copies-start u h = count-pieces j u h
+
+  pub copies-next : (u l : ℕ) → l < pieceCount j → copiesLeft u (piecesFrom j l) ≡ cond (eqb u (pieceKind j l)) 1 0 + copiesLeft u (piecesFrom j (suc l))
+  unfolding copiesLeft countOf
+  copies-next u l h = rw (pieces-next l h)
+
+  -- ---- The pieces placed
+
+  -- One piece more.
+  pub placed-next : (numbers : ℕ → ℕ) (l : ℕ) → placedBelow j numbers (suc l) ≡ entryOf j (pieceKind j l) (numbers l) ∷ placedBelow j numbers l
+  unfolding placedBelow
+  placed-next numbers l = refl
+
+  -- As many as the level says.
+  pub placed-count : (numbers : ℕ → ℕ) (l : ℕ) → length (placedBelow j numbers l) ≡ l
+  unfolding placedBelow
+  placed-count numbers zero = refl
+  placed-count numbers (suc l) = ap suc (placed-count numbers l)
+
+  -- They depend on the numbers of their own levels only.
+  pub placed-same : (f g : ℕ → ℕ) (l : ℕ) → ((i : ℕ) → i < l → f i ≡ g i) → placedBelow j f l ≡ placedBelow j g l
+  unfolding placedBelow
+  placed-same f g zero e = refl
+  placed-same f g (suc l) e = rw (e l (omega arith), placed-same f g l (λ i h. e i (omega arith)))
+
+  -- In the order of the layout.
+  pub placed-layout : (numbers : ℕ → ℕ) (l : ℕ) → reverse (placedBelow j numbers l) ≡ map (λ i. entryOf j (pieceKind j i) (numbers i)) (below l)
+  unfolding placedBelow below rising
+  placed-layout numbers zero = refl
+  placed-layout numbers (suc l) =
+      reverse-cons (entryOf j (pieceKind j l) (numbers l)) (placedBelow j numbers l)
+      ∙ ap (λ (es : Layout). es ++ entryOf j (pieceKind j l) (numbers l) ∷ []) (placed-layout numbers l)
+      ∙ sym (ap (map (λ i. entryOf j (pieceKind j i) (numbers i))) (below-suc l) ∙ map-append (λ i. entryOf j (pieceKind j i) (numbers i)) (below l) (l ∷ []))
+
+  -- ---- The walk, level by level
+
+  -- It depends on the numbers of the levels below only.
+  pub level-same : (f g : ℕ → ℕ) (l n k : ℕ) (h : Option Layout) → ((i : ℕ) → i < l → f i ≡ g i) → tryLevel j f l n k h ≡ tryLevel j g l n k h
+  unfolding tryLevel
+  level-same f g l n k h e = rw (placed-same f g l e)
+
+  -- All pieces are placed: the layout is complete, and held.
+  pub level-last : (numbers : ℕ → ℕ) (k : ℕ) (h : Option Layout)
+      → goOnLevel j numbers (pieceCount j) k h ≡ spent k (some (reverse (placedBelow j numbers (pieceCount j)))) false
+  unfolding goOnLevel
+  level-last numbers k h = rw (pieces-end (pieceCount j) (omega arith)) (goOn-last j (placedBelow j numbers (pieceCount j)) k h)
+
+  -- The layout held has N entries, if the one at the start has.
+  pub level-entries : (numbers : ℕ → ℕ) (l n k : ℕ) (h : Option Layout) → l < pieceCount j → Entries (pieceCount j) h
+      → Entries (pieceCount j) (tryLevel j numbers l n k h .held)
+  unfolding tryLevel
+  level-entries numbers l n k h c p =
+      try-entries j (pieceKind j l) (piecesFrom j (suc l)) (placedBelow j numbers l) n k h (pieceCount j)
+      (omega (arith, pieces-left (suc l), placed-count numbers l)) p
+
+  pub placed-entries : (numbers : ℕ → ℕ) (l k : ℕ) (h : Option Layout) → l ≤ pieceCount j → Entries (pieceCount j) h
+      → Entries (pieceCount j) (goOnLevel j numbers l k h .held)
+  unfolding goOnLevel
+  placed-entries numbers l k h c p =
+      goOn-entries j (piecesFrom j l) (placedBelow j numbers l) k h (pieceCount j) (omega (arith, pieces-left l, placed-count numbers l)) p
+
+  module _ (numbers : ℕ → ℕ) (l : ℕ) (h : Option Layout) (a : all (isEntry j) (placedBelow j numbers l) ≡ true) where
+    -- Where the pieces placed do not end below the bound, nothing is done; nor past the limit of the numbers.
+    pub level-over : (n k : ℕ) → boundOf j h ≤ layoutLength j (placedBelow j numbers l) → tryLevel j numbers l n k h ≡ spent k h false
+    unfolding tryLevel
+    level-over n k c = spent-over j (pieceKind j l) (piecesFrom j (suc l)) (placedBelow j numbers l) h a n k c
+
+    pub level-past : (n k : ℕ) → numberLimit (j .sheet) ≤ n → tryLevel j numbers l n k h ≡ spent k h false
+    unfolding tryLevel
+    level-past n k c = spent-past j (pieceKind j l) (piecesFrom j (suc l)) (placedBelow j numbers l) n k h c
+
+    -- The walk goes straight to the next member of the set that these bytes keep.
+    pub level-next : (n k : ℕ) (s : List ℕ) → Keeps j (placedBelow j numbers l) (boundOf j h) (pieceKind j l) s
+        → tryLevel j numbers l n k h ≡ tryLevel j numbers l (nextMember (setWords (j .sheet) * 64) s n) k h
+    unfolding tryLevel
+    level-next n k s f = keeps-next j (pieceKind j l) (piecesFrom j (suc l)) (placedBelow j numbers l) h n k s a f
+
+    module _ (b : layoutLength j (placedBelow j numbers l) < boundOf j h) where
+      -- With a piece left, look-ahead gives the latest candidate back, or the next piece tries its candidates.
+      pub level-back : (k : ℕ) → l < pieceCount j → enough j (piecesFrom j l) (placedBelow j numbers l) (boundOf j h) ≡ false
+          → goOnLevel j numbers l k h ≡ spent k h false
+      unfolding goOnLevel
+      level-back k c e =
+          rw (pieces-next l c)
+          (goOn-back j (placedBelow j numbers l) k h (pieceKind j l) (piecesFrom j (suc l)) a b (rw (pieces-next l c) at e))
+
+      pub level-deep : (k : ℕ) → l < pieceCount j → enough j (piecesFrom j l) (placedBelow j numbers l) (boundOf j h) ≡ true
+          → goOnLevel j numbers l k h ≡ tryLevel j numbers l 0 k h
+      unfolding goOnLevel tryLevel
+      level-deep k c e =
+          rw (pieces-next l c)
+          (goOn-deep j (placedBelow j numbers l) k h (pieceKind j l) (piecesFrom j (suc l)) a b (piece-kind l c) (rw (pieces-next l c) at e))
+
+      module _ (e : setOf j (placedBelow j numbers l) (boundOf j h) (pieceKind j l) (numbers l) ≡ true) where
+        -- A member is tried with the budget spent: the walk stops.
+        pub level-stops : tryLevel j numbers l (numbers l) 0 h ≡ spent 0 h true
+        unfolding tryLevel
+        level-stops = take-stops j (pieceKind j l) (piecesFrom j (suc l)) (placedBelow j numbers l) h a b (numbers l) e
+
+        -- Else it is placed and counted and the walk goes on; if that stops, it is all.
+        pub level-ends : (k : ℕ) → 0 < k → goOnLevel j numbers (suc l) (k - 1) h .stopped ≡ true
+            → tryLevel j numbers l (numbers l) k h ≡ goOnLevel j numbers (suc l) (k - 1) h
+        unfolding tryLevel goOnLevel placedBelow
+        level-ends k p d = take-ends j (pieceKind j l) (piecesFrom j (suc l)) (placedBelow j numbers l) h a b (numbers l) e k p d
+
+        -- If not, the numbers after it are tried, with what is left and held.
+        pub level-goes : (k : ℕ) → 0 < k → goOnLevel j numbers (suc l) (k - 1) h .stopped ≡ false
+            → tryLevel j numbers l (numbers l) k h
+            ≡ tryLevel j numbers l (suc (numbers l)) (goOnLevel j numbers (suc l) (k - 1) h .left) (goOnLevel j numbers (suc l) (k - 1) h .held)
+        unfolding tryLevel goOnLevel placedBelow
+        level-goes k p d = take-goes j (pieceKind j l) (piecesFrom j (suc l)) (placedBelow j numbers l) h a b (numbers l) e k p d
+
+  -- ---- The start
+
+  -- Nothing is placed, and it ends below the bound.
+  pub start-admitted : all (isEntry j) [] ≡ true
+  unfolding all
+  start-admitted = refl
+
+  pub start-below : layoutLength j [] < boundOf j none
+  unfolding layoutLength largest boundOf
+  start-below = omega arith
+
+  -- ---- The whole walk
+
+  -- Nothing is complete before the first step, as long as there is a piece.
+  start-none : 0 < pieceCount j → latest none (completed (piecesFrom j 0) []) ≡ none
+  unfolding completed latest
+  start-none h = rw (pieces-next 0 h)
+
+  -- The walk of the definition is what follows once nothing is placed, at level 0.
+  pub walk-spent : 0 < pieceCount j → (budget : ℕ) → spend budget none (stepsFrom j none) ≡ walkSpent j budget
+  unfolding walkSpent stepsFrom searchFrom goOn goOnSpent piecesFrom
+  walk-spent h budget = ap (λ (g : Option Layout). spend budget g (stepsFrom j none)) (sym (start-none h))
+
+  pub walk-level : (numbers : ℕ → ℕ) (budget : ℕ) → walkSpent j budget ≡ goOnLevel j numbers 0 budget none
+  unfolding walkSpent goOnLevel placedBelow
+  walk-level numbers budget = refl
+
+  -- What a run answers, and the layout that it holds.
+  pub verdict-walk : 0 < pieceCount j → (budget : ℕ) → verdict j budget ≡ answerOf j budget (walkSpent j budget)
+  verdict-walk h budget = verdict-spent j budget ∙ ap (answerOf j budget) (walk-spent h budget)
+
+  pub held-walk : 0 < pieceCount j → (budget : ℕ) → held j none budget ≡ walkSpent j budget .held
+  held-walk h budget = held-spent j none budget ∙ ap (λ (w : Spent). w .held) (walk-spent h budget)
+
+  -- It has N entries.
+  pub walk-entries : (budget : ℕ) → Entries (pieceCount j) (walkSpent j budget .held)
+  unfolding walkSpent
+  walk-entries budget = goOn-entries j (piecesFrom j 0) [] budget none (pieceCount j) (omega (arith, pieces-left 0)) tt
+
+  -- All that a run answers and leaves, where its buffers are large enough.
+  pub run-walk : 0 < pieceCount j → (budget : ℕ) (work out : List ℕ) → ltb (wordsIn work) (workWords j) ≡ false → ltb (numbersIn out) (4 * pieceCount j) ≡ false
+      → runContent j budget work out ≡ runOutcome (answerOf j budget (walkSpent j budget)) (cleared j work) (withLayout (walkSpent j budget .held) out)
+  unfolding runContent
+  run-walk h budget work out p q = rw (p, q, runContent, verdict-walk h budget, held-walk h budget)

@@ -1,0 +1,13 @@
+pub mod Spending
+pub mod Tests
+pub mod Counting
+pub mod Extents
+pub mod LiveSets
+pub mod Steps
+pub mod Kept
+pub mod Held
+pub mod Answer
+pub mod Levels
+pub mod Slots
+pub mod Limits
+pub mod PieceOrder

@@ -1,0 +1,161 @@
+-- What follows a candidate taken: a complete layout, look-ahead that fails, or the next piece.
+use mathlib.Core.Bool.{Bool, true, false}
+use mathlib.Core.List.{List, [], _∷_, map, reverse}
+use mathlib.Core.Logic.{_⊎_, inl, inr}
+use mathlib.Core.Option.{Option, none, some}
+use mathlib.Core.Path.{_≡_, refl, sym, ap, _∙_, subst}
+use Prim.Native.Nat.{ℕ, zero, suc, _+_, _*_, _-_, _≤_, _<_}
+use native.Mathlib.Numerals.{add-one}
+use native.Mathlib.Omega.{arith}
+use lib.ListN.{length, getD, length-map}
+use Rattle.words.proofs.Cases.{eq-or-ne}
+use Rattle.model.specs.Candidate.{isCandidate}
+use Rattle.model.specs.Content.{Job, kindCount, pieceCount}
+use Rattle.model.specs.Grid.{dots, numberLimit}
+use Rattle.model.specs.Layout.{Entry, Layout, entryOf, entryAt, noEntry, isEntry, layoutLength}
+use Rattle.model.specs.Lists.{all, below}
+use Rattle.model.specs.Search.{copiesLeft}
+use Rattle.model.specs.Services.{layoutIn, withLayout, numbersIn}
+use Rattle.model.proofs.Lists.{and-left, and-right, length-below, getD-map-below}
+use Rattle.model.proofs.ReadBack.{Small, read-layout}
+use Rattle.stepping.specs.LiveSets.{setOf, boundOf, enough}
+use Rattle.stepping.specs.Levels.{pieceKind, piecesFrom, placedBelow, tryLevel, goOnLevel}
+use Rattle.stepping.specs.Slots.{slotOf, KeepsSince, Frame}
+use Rattle.stepping.specs.Spending.{Spent, spent}
+use Rattle.live_sets.specs.Settled.{numbersAt, placedOf, Placeable, Settled}
+use Rattle.walks.specs.Walk.{heldOf, layoutOf, Recordable, Ready, Taken, Left}
+use Rattle.walks.specs.declared.walk.Progress.{Progress}
+use Rattle.stepping.proofs.Extents.{candidate-entry, candidate-below, candidate-bounds, bounds-small}
+use Rattle.stepping.proofs.Levels.{placed-layout, level-last, level-back, level-deep}
+use Rattle.stepping.proofs.Slots.{keeps-frame, frame-same, frame-then, frame-lower}
+use Rattle.stepping.proofs.Steps.{bound-complete}
+
+module _ (j : Job) (ns : List ℕ) where
+  -- ---- The pieces placed are candidates
+
+  pub placed-candidates : (l : ℕ) → all (isEntry j) (placedOf j ns l) ≡ true → (i : ℕ) → i < l → isCandidate j (pieceKind j i) (numbersAt ns i) ≡ true
+  unfolding placedBelow all
+  placed-candidates zero a i h = absurd (omega arith)
+  placed-candidates (suc l) a i h = go (eq-or-ne i l) (placed-candidates l (and-right (isEntry j (entryOf j (pieceKind j l) (numbersAt ns l))) _ a) i)
+    where
+      go : (i ≡ l) ⊎ (i ≡ l → ⊥) → (i < l → isCandidate j (pieceKind j i) (numbersAt ns i) ≡ true) → isCandidate j (pieceKind j i) (numbersAt ns i) ≡ true
+      go (inl e) r = rw e (sym (candidate-entry j (pieceKind j l) (numbersAt ns l)) ∙ and-left (isEntry j (entryOf j (pieceKind j l) (numbersAt ns l))) _ a)
+      go (inr e) r = r (omega arith)
+
+  -- The layout of all pieces, in its order.
+  pub layout-placed : reverse (placedOf j ns (pieceCount j)) ≡ layoutOf j ns
+  unfolding layoutOf
+  layout-placed = placed-layout j (numbersAt ns) (pieceCount j)
+
+  module _ (few-dots : dots (j .sheet) ≤ 1024) (few-kinds : kindCount j ≤ 8) (a : all (isEntry j) (placedOf j ns (pieceCount j)) ≡ true) where
+    -- Its numbers are small, so that it is read back as it was written.
+    pub numbers-small : (l : ℕ) → l < pieceCount j → numbersAt ns l < 4096
+    unfolding numberLimit
+    numbers-small l h = omega (arith, candidate-below j (pieceKind j l) (numbersAt ns l) (placed-candidates (pieceCount j) a l h))
+
+    pub layout-back : (out : List ℕ) → layoutIn j (withLayout (some (layoutOf j ns)) out) ≡ layoutOf j ns
+    unfolding layoutOf
+    layout-back out = read-layout j (layoutOf j ns) out count small
+      where
+        count : length (layoutOf j ns) ≡ pieceCount j
+        count = length-map (below (pieceCount j)) _ ∙ length-below (pieceCount j)
+
+        small : (i : ℕ) → i < length (layoutOf j ns) → Small (entryAt (layoutOf j ns) i)
+        small i h =
+            let k : i < pieceCount j = rw (← count) h in
+            let e : entryAt (layoutOf j ns) i ≡ entryOf j (pieceKind j i) (numbersAt ns i) = getD-map-below _ (pieceCount j) i noEntry k in
+            rw e (bounds-small j _ (omega arith) (candidate-bounds j (pieceKind j i) (numbersAt ns i) few-dots (placed-candidates (pieceCount j) a i k)))
+
+  module _ (level len : ℕ) (work out : List ℕ) (st : Progress) (r : Ready j work out ns level level len st) (t : Taken j ns level len st) where
+    -- What follows.
+    abbrev follows : Spent
+    follows = goOnLevel j (numbersAt ns) level (st .left) (heldOf j (st .found) out)
+
+    -- ---- The last piece was placed
+
+    pub record-ready : dots (j .sheet) ≤ 1024 → kindCount j ≤ 8 → level ≡ pieceCount j → Recordable j ns out
+    record-ready d k e =
+        record { small = numbers-small d k (subst (λ (l : ℕ). all (isEntry j) (placedOf j ns l) ≡ true) e (r .admitted)); fits = r .out-fits }
+
+    pub go-last : (out′ : List ℕ) → dots (j .sheet) ≤ 1024 → kindCount j ≤ 8 → level ≡ pieceCount j → out′ ≡ withLayout (some (layoutOf j ns)) out
+        → Left j work out work out′ level st (record { left = st .left; bound = len; found = true; stopped = false }) (goOnLevel j (numbersAt ns) level (st .left) (heldOf j (st .found) out))
+    go-last out′ d k e o =
+        let w : goOnLevel j (numbersAt ns) level (st .left) (heldOf j (st .found) out) ≡ spent (st .left) (some (layoutOf j ns)) false =
+        ap (λ (l : ℕ). goOnLevel j (numbersAt ns) l (st .left) (heldOf j (st .found) out)) e
+        ∙ level-last j (numbersAt ns) (st .left) (heldOf j (st .found) out)
+        ∙ ap (λ (es : Layout). spent (st .left) (some es) false) layout-placed in
+        let a : all (isEntry j) (placedOf j ns (pieceCount j)) ≡ true = subst (λ (l : ℕ). all (isEntry j) (placedOf j ns l) ≡ true) e (r .admitted) in
+        rw w (record {
+          left = refl;
+          stopped = refl;
+          held = ap some (ap (layoutIn j) o ∙ layout-back d k a out);
+          bound-is = r .len-is ∙ ap (λ (l : ℕ). layoutLength j (placedOf j ns l)) e ∙ sym (bound-complete j (placedOf j ns (pieceCount j))) ∙ ap (λ (es : Layout). boundOf j (some es)) layout-placed;
+          lowered = omega (arith, t .below);
+          written = o;
+          frame = frame-same j level work;
+        })
+
+    -- ---- Look-ahead
+
+    pub settle-ready : level < pieceCount j → 0 < level → Placeable j ns level (st .bound) work
+    settle-ready h p = record { within = h; fits = r .work-fits; later = p; latest = t .latest p; sets = r .sets }
+
+    short : layoutLength j (placedOf j ns level) < boundOf j (heldOf j (st .found) out)
+    short = rw (← (r .len-is), ← (r .bound-is)) (t .below)
+
+    -- It fails: the candidate is given back.
+    pub go-back : (work′ : List ℕ) (told : Bool) → level < pieceCount j → told ≡ false → Settled j ns level (st .bound) work work′ told
+        → Left j work out work′ out level st st (goOnLevel j (numbersAt ns) level (st .left) (heldOf j (st .found) out))
+    go-back work′ told h e s =
+        let w : goOnLevel j (numbersAt ns) level (st .left) (heldOf j (st .found) out) ≡ spent (st .left) (heldOf j (st .found) out) false =
+        level-back j (numbersAt ns) level (heldOf j (st .found) out) (r .admitted) short (st .left) h
+        (ap (enough j (piecesFrom j level) (placedOf j ns level)) (sym (r .bound-is)) ∙ sym (s .answer) ∙ e) in
+        rw w (record {
+          left = refl;
+          stopped = r .running;
+          held = refl;
+          bound-is = r .bound-is;
+          lowered = omega arith;
+          written = sym (r .written);
+          frame = s .frame;
+        })
+
+    -- It holds: the next piece tries its candidates.
+    pub deep-ready : (work′ : List ℕ) (told : Bool) → told ≡ true → Settled j ns level (st .bound) work work′ told → length work′ ≡ length work
+        → Ready j work′ out ns level (level + 1) len st
+    deep-ready work′ told e s q =
+        record {
+          work-fits = rw q (r .work-fits);
+          out-fits = r .out-fits;
+          room = r .room;
+          admitted = r .admitted;
+          len-is = r .len-is;
+          bound-is = r .bound-is;
+          written = r .written;
+          running = r .running;
+          sets = λ l u h g k. sets l u h g k (eq-or-ne l level);
+        }
+      where
+        sets : (l u : ℕ) → l < level + 1 → u < kindCount j → 0 < copiesLeft u (piecesFrom j l) → (l ≡ level) ⊎ (l ≡ level → ⊥)
+            → KeepsSince j (placedOf j ns l) (st .bound) u (slotOf j work′ l u)
+        sets l u h g k (inl c) =
+            subst (λ (l : ℕ). KeepsSince j (placedOf j ns l) (st .bound) u (slotOf j work′ l u)) (sym c)
+            (st .bound, omega arith, s .kept e u g (subst (λ (l : ℕ). 0 < copiesLeft u (piecesFrom j l)) c k))
+        sets l u h g k (inr c) = keeps-frame j (placedOf j ns l) (st .bound) l level u work work′ (omega arith) g (s .frame) (r .sets l u (omega arith) g k)
+
+    pub go-deep : (work′ work″ out′ : List ℕ) (st′ : Progress) (told : Bool) → level < pieceCount j → told ≡ true → Settled j ns level (st .bound) work work′ told
+        → Left j work′ out work″ out′ (level + 1) st st′ (tryLevel j (numbersAt ns) level 0 (st .left) (heldOf j (st .found) out))
+        → Left j work out work″ out′ level st st′ (goOnLevel j (numbersAt ns) level (st .left) (heldOf j (st .found) out))
+    go-deep work′ work″ out′ st′ told h e s d =
+        let w : goOnLevel j (numbersAt ns) level (st .left) (heldOf j (st .found) out) ≡ tryLevel j (numbersAt ns) level 0 (st .left) (heldOf j (st .found) out) =
+        level-deep j (numbersAt ns) level (heldOf j (st .found) out) (r .admitted) short (st .left) h
+        (ap (enough j (piecesFrom j level) (placedOf j ns level)) (sym (r .bound-is)) ∙ sym (s .answer) ∙ e) in
+        rw w (record {
+          left = d .left;
+          stopped = d .stopped;
+          held = d .held;
+          bound-is = d .bound-is;
+          lowered = d .lowered;
+          written = d .written;
+          frame = frame-then j level work work′ work″ (s .frame) (frame-lower j level (level + 1) work′ work″ (omega arith) (d .frame));
+        })

@@ -1,0 +1,4 @@
+pub mod Trying
+pub mod Writing
+pub mod Passing
+pub mod GoingOn
