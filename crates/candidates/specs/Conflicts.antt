@@ -3,10 +3,7 @@ use mathlib.Core.Bool.{Bool}
 use mathlib.Core.List.{List, map}
 use Prim.Native.Nat.{ℕ, _*_, _/_, _%_, _≤_, _<_}
 use lib.IntN.{ℤ, pos, _-ℤ_}
-use Rattle.model.specs.Content.{kindCount}
-use Rattle.model.specs.Format.{content}
 use Rattle.model.specs.Geometry.{piecesConflict}
-use Rattle.model.specs.Grid.{numberLimit}
 use Rattle.geometry.specs.Flat.{shifted}
 use Rattle.job.specs.declared.View.{View}
 use Rattle.shapes.specs.Boxes.{BoxesOf}
@@ -35,11 +32,6 @@ pub record Near (step : ℕ) (a : Placed) : Type 0 where
   pub across : a .column * step ≤ 1000
   pub up : a .row * step ≤ 1000
   pub turn : a .rotation < 4
-
--- The kind exists, and the number is one of those that candidates have.
-pub record Numbered (s : List ℕ) (t n : ℕ) : Type 0 where
-  pub kind : t < kindCount (content s)
-  pub number : n < numberLimit (content s .sheet)
 
 -- The piece p at the place a is in conflict with the piece q at the place c.
 unfoldable pub conflictBetween : List ℤ → ℕ → Piece → Placed → Piece → Placed → ℕ → Bool

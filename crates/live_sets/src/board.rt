@@ -10,15 +10,15 @@ ghost use Rattle.model.specs.Layout.{entryOf, entryExtent, conflict};
 ghost use Rattle.candidates.specs.Conflicts.{placedOf};
 ghost use Rattle.plans.specs.Known.{Known};
 ghost use Rattle.live_sets.specs.Narrowing.{stays};
-use plans::plan::Plan;
-use plans::plan::piece_in;
 use candidates::conflicts::Placed;
 use candidates::conflicts::conflict_between;
 use candidates::conflicts::placed_of;
+use candidates::placements;
 use nofit::offsets::Window;
 use nofit::offsets::conflict_at;
 use nofit::offsets::covers;
-use candidates::placements;
+use plans::plan::Plan;
+use plans::plan::piece_in;
 
 // Where candidate m of kind u ends, which stands at this place.
 fn end_at(

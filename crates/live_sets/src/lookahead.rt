@@ -11,8 +11,8 @@ ghost use Rattle.stepping.specs.Levels.{piecesFrom};
 ghost use Rattle.stepping.specs.Slots.{SetPlace};
 ghost use Rattle.live_sets.specs.Settled.{Placeable, Made, KindSettled, Settled};
 use crate::narrowing::narrow;
-use plans::plan::Plan;
 use nofit::offsets::Window;
+use plans::plan::Plan;
 use words::sets;
 
 // The word at which the set of level l and kind u begins.

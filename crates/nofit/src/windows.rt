@@ -4,11 +4,11 @@ ghost use mathlib.Core.Path.{_≡_};
 ghost use Prim.Native.Nat.{_≤_};
 ghost use Rattle.nofit.specs.Offsets.{cells, Roomy, Growing};
 ghost use Rattle.candidates.specs.Placements.{Bounded};
-use shapes::boxes::Boxes;
 use crate::offsets::Window;
 use geometry::extents::Extents;
 use geometry::extents::join;
 use job::View;
+use shapes::boxes::Boxes;
 
 // How many cells a window has.
 fn cells_of(window: Window) -> usize
@@ -76,31 +76,23 @@ fn is_useful(view: View, all: Extents, gap: usize, limit: usize, window: Window)
         & can_matter(all.min_y, all.max_y, gap, window.up * view.step)
 }
 
-// The window with a column more each way, if that is useful.
-fn wider(view: View, all: Extents, gap: usize, limit: usize, window: Window) -> Window
-    requires { ⌜ Growing view gap limit window ⌝ }
+// The window with so many columns and rows more each way, at most one of each, if that is useful.
+fn grown(
+    view: View,
+    all: Extents,
+    gap: usize,
+    limit: usize,
+    window: Window,
+    columns: usize,
+    rows: usize,
+) -> Window
+    requires { ⌜ Growing view gap limit window × ((columns ≤ 1) × (rows ≤ 1)) ⌝ }
     ensures { λ r. ⌜ Roomy view r ⌝ }
 {
     let more = Window {
         kinds: window.kinds,
-        across: window.across + 1,
-        up: window.up,
-    };
-    if is_useful(view, all, gap, limit, more) {
-        return more;
-    }
-    window
-}
-
-// The window with a row more each way, if that is useful.
-fn taller(view: View, all: Extents, gap: usize, limit: usize, window: Window) -> Window
-    requires { ⌜ Growing view gap limit window ⌝ }
-    ensures { λ r. ⌜ Roomy view r ⌝ }
-{
-    let more = Window {
-        kinds: window.kinds,
-        across: window.across,
-        up: window.up + 1,
+        across: window.across + columns,
+        up: window.up + rows,
     };
     if is_useful(view, all, gap, limit, more) {
         return more;
@@ -122,7 +114,8 @@ pub fn window_of(view: View, boxes: Boxes, limit: usize) -> Window
     };
     let mut left = view.columns + view.rows;
     while left > 0 {
-        let next = taller(view, all, gap, limit, wider(view, all, gap, limit, w));
+        let wider = grown(view, all, gap, limit, w, 1, 0);
+        let next = grown(view, all, gap, limit, wider, 0, 1);
         if next.across + next.up == w.across + w.up {
             return w;
         }

@@ -10,10 +10,10 @@ ghost use Rattle.shapes.specs.Pieces.{Fitting, PieceOf};
 ghost use Rattle.shapes.specs.Turned.{Viewed};
 ghost use Rattle.stepping.specs.Levels.{piecesFrom};
 ghost use Rattle.plans.specs.Known.{KindsOf, CopiesOf, EndsOf, SizesOf, PlanOf};
+use job::View;
 use shapes::boxes::Boxes;
 use shapes::pieces::Piece;
 use shapes::pieces::piece_of;
-use job::View;
 
 // The board's rows and step; how many kinds and pieces there are, and words in a set; the kind of each piece; the copies of each kind left at
 // each level, those of kind u at level l under l * 8 + u; where each kind ends at the first column, turned k quarter turns under t * 4 + k; its

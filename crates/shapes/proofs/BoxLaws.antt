@@ -1,20 +1,18 @@
 -- The box of a piece, part by part. Assumes nothing.
-use mathlib.Core.List.{List, [], _∷_, _++_, map}
-use mathlib.Core.Path.{_≡_, refl, sym, ap, _∙_}
+use mathlib.Core.List.{List, map}
+use mathlib.Core.Path.{_≡_, sym, ap, _∙_}
 use Prim.Native.Nat.{ℕ, zero, suc, _+_, _*_, _≤_, _<_}
 use native.Mathlib.Omega.{arith}
 use lib.IntN.{ℤ}
 use lib.ListN.{length, getD, take, drop, length-take, length-drop, length-append}
-use Rattle.model.specs.Content.{Vertex, Part}
+use Rattle.model.specs.Content.{Part}
 use Rattle.model.specs.Lists.{concat, rising, below}
 use Rattle.model.proofs.Box.{concat-one}
 use Rattle.model.proofs.Folds.{concat-more, map-below-more}
 use Rattle.geometry.specs.Boxes.{extentsOf, joined}
-use Rattle.geometry.specs.Flat.{partOf}
-use Rattle.geometry.specs.declared.extents.Extents.{Extents}
 use Rattle.geometry.proofs.BoxLaws.{extents-append}
 use Rattle.geometry.proofs.Flat.{part-length}
-use Rattle.shapes.specs.Pieces.{Fitting, partIn, partsIn}
+use Rattle.shapes.specs.Pieces.{Fitting, partIn}
 use Rattle.shapes.specs.declared.pieces.Piece.{Piece}
 
 -- of parts that each have a vertex

@@ -2,7 +2,7 @@
 use mathlib.Core.Bool.{Bool, true, false, not, _||_, or-true}
 use mathlib.Core.List.{List, [], _∷_, map}
 use mathlib.Core.Path.{_≡_, refl, sym, ap, _∙_}
-use Prim.Native.Nat.{ℕ, zero, suc, _+_, _-_, _*_, _≤_, _<_}
+use Prim.Native.Nat.{ℕ, zero, suc, _+_, _-_, _*_, _<_}
 use native.Mathlib.Nat.{not-suc-le-zero}
 use native.Mathlib.Omega.{arith}
 use borrow.Author.Count.{below-more}
@@ -14,11 +14,13 @@ use Rattle.model.specs.Format.{content}
 use Rattle.model.specs.Geometry.{rotated, separated, piecesConflict}
 use Rattle.model.specs.Lists.{any, rising, below}
 use Rattle.model.proofs.Folds as Folds
-use Rattle.model.proofs.Tests.{any-map, any-same}
+use Rattle.model.proofs.Tests.{any-map}
 use Rattle.geometry.specs.Flat.{partOf, shifted}
 use Rattle.shapes.specs.Pieces.{PieceOf, partIn, partsIn, partConflicts}
-use Rattle.shapes.specs.Turned.{TurnedOf, slot}
+use Rattle.shapes.specs.Turned.{Viewed, TurnedOf, slot}
+use Rattle.job.specs.declared.View.{View}
 use Rattle.shapes.proofs.TurnLaws.{part-of-numbers}
+use Rattle.shapes.proofs.ViewLaws.{few-kinds, kind-in, some-part, part-in, part-short}
 use Rattle.shapes.specs.declared.pieces.Piece.{Piece}
 
 -- ---- a list written from the front
@@ -49,29 +51,30 @@ some-below p i n h e = some-rising p 0 n i h (ap p (omega arith) ∙ e)
 
 -- ---- the parts of a piece
 
--- part i of a piece that begins at `base`, with these sizes
-abbrev pub partFrom : List ℤ → ℕ → List ℕ → ℕ → Part
-partFrom table base sizes i = partOf (take (getD sizes i 0 * 2) (drop (base + i * 16) table))
+-- The numbers from a on, n of them, are part i of the piece in plane k.
+pub part-window : (table : List ℤ) (p : Piece) (k i a n : ℕ) → a ≡ k * 1024 + p .first + i * 16 → n ≡ getD (p .sizes) i 0 * 2
+    → partOf (take (a + n - a) (drop a table)) ≡ partIn table p k i
+unfolding partIn
+part-window table p k i a n e f =
+    let g : a + n - a ≡ n = omega arith in
+    ap (λ m. partOf (take m (drop a table))) (g ∙ f) ∙ ap (λ b. partOf (take (getD (p .sizes) i 0 * 2) (drop b table))) e
 
--- P is not separated from it, moved by (dx, dy)
-abbrev pub conflictAt : ℕ → Part → List ℤ → ℕ → List ℕ → ℤ → ℤ → ℕ → Bool
-conflictAt gap P table base sizes dx dy i = not (separated gap P (map (shifted dx dy) (partFrom table base sizes i)))
+-- P is not separated from part m of q in plane l, moved by (dx, dy).
+abbrev pub conflictAt : ℕ → Part → List ℤ → Piece → ℕ → ℤ → ℤ → ℕ → Bool
+conflictAt gap P table q l dx dy m = not (separated gap P (map (shifted dx dy) (partIn table q l m)))
 
 pub part-conflicts-below : (gap : ℕ) (P : Part) (table : List ℤ) (q : Piece) (l : ℕ) (dx dy : ℤ)
-    → partConflicts gap P (map (map (shifted dx dy)) (partsIn table q l)) ≡ any (conflictAt gap P table (l * 1024 + q .first) (q .sizes) dx dy) (below (q .count))
-unfolding partConflicts partsIn partIn
+    → any (conflictAt gap P table q l dx dy) (below (q .count)) ≡ partConflicts gap P (map (map (shifted dx dy)) (partsIn table q l))
+unfolding partConflicts partsIn
 part-conflicts-below gap P table q l dx dy =
-    any-map (λ Q. not (separated gap P Q)) (map (shifted dx dy)) (partsIn table q l)
-    ∙ any-map (λ Q. not (separated gap P (map (shifted dx dy) Q))) (partIn table q l) (below (q .count))
+    sym
+    (any-map (λ Q. not (separated gap P Q)) (map (shifted dx dy)) (partsIn table q l)
+    ∙ any-map (λ Q. not (separated gap P (map (shifted dx dy) Q))) (partIn table q l) (below (q .count)))
 
 pub pieces-conflict-below : (gap : ℕ) (table : List ℤ) (p : Piece) (k : ℕ) (Qs : List Part)
-    → piecesConflict gap (partsIn table p k) Qs ≡ any (λ i. partConflicts gap (partFrom table (k * 1024 + p .first) (p .sizes) i) Qs) (below (p .count))
-unfolding piecesConflict partConflicts partsIn partIn
-pieces-conflict-below gap table p k Qs = any-map (λ P. any (λ Q. not (separated gap P Q)) Qs) (partIn table p k) (below (p .count))
-
--- the window from a to a + m
-pub window : (table : List ℤ) (a m : ℕ) → take (a + m - a) (drop a table) ≡ take m (drop a table)
-window table a m = let e : a + m - a ≡ m = omega arith in ap (λ n. take n (drop a table)) e
+    → any (λ i. partConflicts gap (partIn table p k i) Qs) (below (p .count)) ≡ piecesConflict gap (partsIn table p k) Qs
+unfolding piecesConflict partConflicts partsIn
+pieces-conflict-below gap table p k Qs = sym (any-map (λ P. any (λ Q. not (separated gap P Q)) Qs) (partIn table p k) (below (p .count)))
 
 -- ---- the piece of a kind
 
@@ -105,3 +108,20 @@ parts-turned s table t p k x y ht hk =
         ∙ ap (λ m. partOf (take (length (map (rotated k) P) * 2) (drop m table))) a
         ∙ ap partOf (x .held t i k ht l hk)
         ∙ part-of-numbers (map (rotated k) P)
+
+-- The piece of kind t, from the sizes of its parts.
+pub piece-is : (s : List ℕ) (v : View) (x : Viewed s v) (t : ℕ) → t < kindCount (content s) → (n : ℕ) (sizes : List ℕ) → n ≡ length (kindAt (content s) t .parts)
+    → ((i : ℕ) → i < n → getD sizes i 0 ≡ length (getD (kindAt (content s) t .parts) i [])) → PieceOf s t (record { first = t * 96; count = n; sizes = sizes })
+piece-is s v x t h n sizes e sized =
+    record {
+      fitting = record {
+        some = omega (arith, some-part s v x t h);
+        few = omega (arith, kind-in s v x t h .parts, kind-in s v x t h .fewParts);
+        within = omega (arith, few-kinds s v x);
+        least = λ i l. rw (sized i l) (omega (arith, part-in s v x t h i (omega arith) .least));
+        short = λ i l. rw (sized i l) (part-short s v x t h i (omega arith));
+      };
+      first = refl;
+      count = e;
+      size = sized;
+    }

@@ -1,13 +1,14 @@
--- Turned vertices: what the quarter turns do to the coordinates, and the table of turned vertices as it is written. Assumes nothing.
+-- Turned vertices: the bytes of a vertex, and the table of turned vertices as it is written. Assumes nothing.
 use mathlib.Core.List.{List, [], _∷_, _++_, map, map-append}
 use mathlib.Core.Logic.{_⊎_, inl, inr, ⊎-elim}
-use mathlib.Core.Path.{_≡_, refl, sym, ap, subst, _∙_}
+use mathlib.Core.Path.{_≡_, refl, sym, ap, ap₂, subst, _∙_}
 use Prim.Native.Nat.{ℕ, zero, suc, _+_, _-_, _*_, _≤_, _<_}
-use native.Mathlib.Nat.{add-zero, add-suc, suc-add}
+use native.Mathlib.Nat.{lt-of-le-of-lt, add-zero, add-suc, suc-add}
 use native.Mathlib.Numerals.{add-one}
 use native.Mathlib.Omega.{arith}
 use borrow.Author.Count.{below-none, below-more}
-use lib.IntN.{ℤ, pos, negℤ, _-ℤ_}
+use lib.Dec.{lit<}
+use lib.IntN.{ℤ, natAbs}
 use lib.ListN.{length, getD, take, drop, set, length-append, length-map}
 use lib.Seq.{sets, sets-eq, take-at, drop-at, drop-append-le, length-take-le, drop-set-lt, drop-set-add, take-set-le, take-take}
 use mir.Syntax.{w8, w16}
@@ -15,51 +16,22 @@ use mir.Val.{Fits, SFits, toZ, ofZ}
 use mir.ValLaws.{toZ-ofZ}
 use Rattle.integers.specs.Byte.{signed}
 use Rattle.integers.proofs.Bytes.{signed-fits}
-use Rattle.integers.proofs.Sizes.{sized}
-use Rattle.integers.proofs.Solver.{ring, #, _⊞_, _⊟_, _⊠_, ⊖_, _≈_}
+use Rattle.integers.proofs.Absolute.{natAbs-between}
+use Rattle.integers.proofs.Order.{<ℤ-≤ℤ}
+use Rattle.integers.proofs.Sizes.{fits-lower, fits-upper}
 use Rattle.model.specs.Content.{Vertex, vertex, Part, kindAt, kindCount}
 use Rattle.model.specs.Format.{byteAt, vertices, content}
-use Rattle.model.specs.Geometry.{rotated, quarterTurn}
+use Rattle.model.specs.Geometry.{rotated}
 use Rattle.model.proofs.Records.{length-vertices, byte-behind}
 use Rattle.words.proofs.Cases.{le-or-lt, eq-or-ne}
-use Rattle.geometry.specs.Flat.{partOf}
-use Rattle.shapes.specs.Turned.{numbersOf, vertexIn, withVertex, withPart, slot, Holds, Kept, PartTurned, KindTurned, TurnedOf}
+use Rattle.geometry.specs.Flat.{partOf, withVertex}
+use Rattle.shapes.specs.Turned.{numbersOf, vertexIn, withPart, slot, Holds, Kept, PartTurned, KindTurned, TurnedOf}
 
 -- ---- coordinates
 
 -- a number read from the bits of a local
 pub as-is : {z w : ℤ} → SFits w16 z → z ≡ w → toZ w16 (ofZ w16 z) ≡ w
 as-is {z} f e = toZ-ofZ w16 z f ∙ e
-
-pub opposite-fits : (z : ℤ) → SFits w8 z → SFits w16 (pos 0 -ℤ z)
-opposite-fits = sized w8 w16 1 (λ z. # (pos 0) ⊟ z) tt
-
-pub opposite-fits-read : (z : ℤ) → SFits w8 z → SFits w16 z → SFits w16 (pos 0 -ℤ toZ w16 (ofZ w16 z))
-opposite-fits-read z f g = rw (toZ-ofZ w16 z g) (opposite-fits z f)
-
-pub opposite : {z w : ℤ} → SFits w8 z → SFits w16 z → negℤ z ≡ w → toZ w16 (ofZ w16 (pos 0 -ℤ toZ w16 (ofZ w16 z))) ≡ w
-opposite {z} f g e =
-    ap (λ u. toZ w16 (ofZ w16 (pos 0 -ℤ u))) (toZ-ofZ w16 z g)
-    ∙ toZ-ofZ w16 (pos 0 -ℤ z) (opposite-fits z f)
-    ∙ ring 1 (λ z. # (pos 0) ⊟ z ≈ ⊖ z) tt z
-    ∙ e
-
-module _ (k : ℕ) (x y : ℤ) where
-  pub turn-0 : k ≡ 0 → vertex x y ≡ rotated k (vertex x y)
-  unfolding rotated
-  turn-0 e = sym (ap (λ n. rotated n (vertex x y)) e)
-
-  pub turn-1 : k ≡ 1 → vertex (negℤ y) x ≡ rotated k (vertex x y)
-  unfolding rotated quarterTurn
-  turn-1 e = sym (ap (λ n. rotated n (vertex x y)) e)
-
-  pub turn-2 : k ≡ 2 → vertex (negℤ x) (negℤ y) ≡ rotated k (vertex x y)
-  unfolding rotated quarterTurn
-  turn-2 e = sym (ap (λ n. rotated n (vertex x y)) e)
-
-  pub turn-3 : k ≡ 3 → vertex y (negℤ x) ≡ rotated k (vertex x y)
-  unfolding rotated quarterTurn
-  turn-3 e = ap (λ u. vertex u (negℤ x)) (ring 1 (λ y. y ≈ ⊖ (⊖ y)) tt y) ∙ sym (ap (λ n. rotated n (vertex x y)) e)
 
 -- ---- a part written vertex by vertex
 
@@ -85,7 +57,7 @@ sets-append l i (x ∷ xs) ys =
 
 -- one vertex more behind the others
 pub part-more : (l : List ℤ) (to : ℕ) (P : Part) (v : Vertex) → withPart l to (P ++ v ∷ []) ≡ withVertex (withPart l to P) (to + length P * 2) v
-unfolding numbersOf
+unfolding numbersOf withVertex
 part-more l to P v =
     ap (λ (ns : List ℤ). sets l to ns) (numbers-append P (v ∷ []))
     ∙ sets-append l to (numbersOf P) (v .x ∷ v .y ∷ [])
@@ -127,18 +99,16 @@ written-more f l to m s from =
 
 -- ---- a vertex read, turned and written
 
-pub byte-fits : (b : ℕ) (r : ℤ) → Fits w8 b → SFits w16 r → r ≡ signed b → SFits w8 (toZ w16 (ofZ w16 r))
-byte-fits b r f g e = rw (toZ-ofZ w16 r g ∙ e) (signed-fits b f)
+-- a byte read as a signed number is small
+pub byte-small : (b : ℕ) (r : ℤ) → Fits w8 b → SFits w16 r → r ≡ signed b → natAbs (toZ w16 (ofZ w16 r)) < 32768
+byte-small b r f g e =
+    let h = signed-fits b f in
+    rw (as-is g e) (lt-of-le-of-lt (natAbs-between (signed b) 128 (fits-lower w8 (signed b) h) (<ℤ-≤ℤ (fits-upper w8 (signed b) h))) (lit< tt))
 
-pub vertex-written : (l : List ℤ) (to k b c : ℕ) (x y u w : ℤ) → SFits w16 x → x ≡ signed b → SFits w16 y → y ≡ signed c → SFits w16 u
-    → u ≡ rotated k (vertex (toZ w16 (ofZ w16 x)) (toZ w16 (ofZ w16 y))) .x → SFits w16 w
-    → w ≡ rotated k (vertex (toZ w16 (ofZ w16 x)) (toZ w16 (ofZ w16 y))) .y
-    → set (set l to (toZ w16 (ofZ w16 u))) (to + 1) (toZ w16 (ofZ w16 w)) ≡ withVertex l to (rotated k (vertex (signed b) (signed c)))
-vertex-written l to k b c x y u w fx ex fy ey fu eu fw ew =
-    let v : vertex (toZ w16 (ofZ w16 x)) (toZ w16 (ofZ w16 y)) ≡ vertex (signed b) (signed c) =
-    ap (λ z. vertex z (toZ w16 (ofZ w16 y))) (as-is fx ex) ∙ ap (λ z. vertex (signed b) z) (as-is fy ey) in
-    ap (λ z. set (set l to z) (to + 1) (toZ w16 (ofZ w16 w))) (as-is fu (eu ∙ ap (λ p. rotated k p .x) v))
-    ∙ ap (λ z. set (set l to (rotated k (vertex (signed b) (signed c)) .x)) (to + 1) z) (as-is fw (ew ∙ ap (λ p. rotated k p .y) v))
+-- the vertex of two such bytes
+pub vertex-as-is : (b c : ℕ) (x y : ℤ) → SFits w16 x → x ≡ signed b → SFits w16 y → y ≡ signed c
+    → vertex (toZ w16 (ofZ w16 x)) (toZ w16 (ofZ w16 y)) ≡ vertex (signed b) (signed c)
+vertex-as-is b c x y fx ex fy ey = ap₂ vertex (as-is fx ex) (as-is fy ey)
 
 -- ---- slots of the table
 

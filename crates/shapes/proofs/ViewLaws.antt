@@ -1,14 +1,13 @@
 -- What an accepted job and its view give together. Assumes nothing.
 use mathlib.Core.List.{List, []}
-use mathlib.Core.Path.{_≡_, sym, ap, _∙_}
+use mathlib.Core.Path.{_≡_, ap, _∙_}
 use Prim.Native.Nat.{ℕ, _+_, _*_, _≤_, _<_}
-use native.Mathlib.Omega.{arith}
 use lib.ListN.{length, getD, drop}
 use Rattle.model.specs.Content.{Part, kindAt, kindCount}
 use Rattle.model.specs.Format.{byteAt, vertices, content}
 use Rattle.model.proofs.Accepted.{accepted-kinds}
 use Rattle.model.proofs.AcceptedKinds.{kind-ranges}
-use Rattle.job.specs.View.{PartAt, KindIn, ViewOf}
+use Rattle.job.specs.View.{PartAt, KindIn}
 use Rattle.job.specs.declared.View.{View}
 use Rattle.shapes.specs.Turned.{Viewed}
 

@@ -2,9 +2,9 @@
 -- turns. A part has 16 numbers in a plane, x and y of eight vertices; part i of kind t has those from (t × 6 + i) × 16 on.
 use mathlib.Core.List.{List, [], _∷_, map}
 use mathlib.Core.Path.{_≡_}
-use Prim.Native.Nat.{ℕ, _+_, _*_, _≤_, _<_}
+use Prim.Native.Nat.{ℕ, _+_, _*_, _<_}
 use lib.IntN.{ℤ}
-use lib.ListN.{length, getD, take, drop, set}
+use lib.ListN.{length, getD, take, drop}
 use lib.Seq.{sets}
 use Rattle.integers.specs.Byte.{signed}
 use Rattle.model.specs.Content.{Vertex, vertex, Part, kindAt, kindCount}
@@ -26,10 +26,6 @@ numbersOf (v ∷ P) = v .x ∷ v .y ∷ numbersOf P
 -- The vertex whose two bytes begin at o.
 abbrev pub vertexIn : List ℕ → ℕ → Vertex
 vertexIn s o = vertex (signed (byteAt s o)) (signed (byteAt s (o + 1)))
-
--- The table with a vertex written at a place.
-abbrev pub withVertex : List ℤ → ℕ → Vertex → List ℤ
-withVertex table to v = set (set table to (v .x)) (to + 1) (v .y)
 
 -- The table with a part's vertices written from a place on.
 abbrev pub withPart : List ℤ → ℕ → Part → List ℤ

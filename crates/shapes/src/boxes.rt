@@ -1,6 +1,6 @@
 // The least and the largest x and y of each kind at each rotation, computed once for a call.
 ghost use mathlib.Core.Path.{_≡_};
-ghost use Prim.Native.Nat.{_+_, _*_, _≤_, _<_};
+ghost use Prim.Native.Nat.{_+_, _*_, _<_};
 ghost use lib.ListN.{length};
 ghost use Rattle.model.specs.Lists.{concat};
 ghost use Rattle.geometry.specs.Boxes.{extentsOf};
@@ -8,6 +8,8 @@ ghost use Rattle.shapes.specs.Turned.{Viewed, TurnedOf};
 ghost use Rattle.shapes.specs.Pieces.{Fitting, partIn, partsIn};
 ghost use Rattle.shapes.specs.Boxes.{BoxesOf};
 use crate::pieces::Piece;
+use crate::pieces::part_length;
+use crate::pieces::part_start;
 use crate::pieces::piece_of;
 use geometry::extents::Extents;
 use geometry::extents::bounds;
@@ -25,9 +27,8 @@ fn part_box(turned: &[i16], p: Piece, k: usize, i: usize) -> Extents
     requires { ⌜ ((Fitting p × (k < 4)) × (i < p .count)) × (length (now turned) ≡ 4096) ⌝ }
     ensures { λ r. ⌜ r ≡ extentsOf (partIn (now (turned .entry)) p k i) ⌝ }
 {
-    let sizes = p.sizes;
-    let from = k * 1024 + p.first + i * 16;
-    let to = from + sizes[i] * 2;
+    let from = part_start(p, k, i);
+    let to = from + part_length(p, i);
     bounds(&turned[from..to])
 }
 

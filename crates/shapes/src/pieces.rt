@@ -3,13 +3,13 @@ ghost use mathlib.Core.Bool.{not};
 ghost use mathlib.Core.List.{map};
 ghost use mathlib.Core.Path.{_≡_};
 ghost use Prim.Native.Nat.{_+_, _*_, _≤_, _<_};
-ghost use lib.ListN.{length};
+ghost use lib.ListN.{length, getD};
 ghost use Rattle.model.specs.Content.{kindCount};
 ghost use Rattle.model.specs.Format.{content};
-ghost use Rattle.model.specs.Geometry.{piecesConflict};
-ghost use Rattle.geometry.specs.Flat.{partOf, shifted};
+ghost use Rattle.model.specs.Geometry.{separated, piecesConflict};
+ghost use Rattle.geometry.specs.Flat.{shifted};
 ghost use Rattle.shapes.specs.Turned.{Viewed};
-ghost use Rattle.shapes.specs.Pieces.{PieceOf, Fitting, partsIn, partConflicts};
+ghost use Rattle.shapes.specs.Pieces.{PieceOf, Fitting, partIn, partsIn, partConflicts};
 use crate::turned::byte;
 use job::View;
 
@@ -42,30 +42,68 @@ pub fn piece_of(job: &[u8], view: View, kind: usize) -> Piece
     }
 }
 
-// Whether a part is not separated from some part of q, turned l quarter turns and moved by (dx, dy). The first such part ends the test.
-fn part_conflicts(
-    part: &[i16],
+// Where part i of a piece begins in plane k of the table.
+pub fn part_start(p: Piece, k: usize, i: usize) -> usize
+    requires { ⌜ Fitting p × ((k < 4) × (i < p .count)) ⌝ }
+    ensures { λ r. ⌜ (r ≡ k * 1024 + p .first + i * 16) × (r + 16 ≤ 4096) ⌝ }
+{
+    k * 1024 + p.first + i * 16
+}
+
+// How many numbers it has.
+pub fn part_length(p: Piece, i: usize) -> usize
+    requires { ⌜ Fitting p × (i < p .count) ⌝ }
+    ensures { λ r. ⌜ (r ≡ getD (p .sizes) i 0 * 2) × (r ≤ 16) ⌝ }
+{
+    let sizes = p.sizes;
+    sizes[i] * 2
+}
+
+// Whether part i of p, turned k quarter turns, is not separated from part m of q, turned l quarter turns and moved by (dx, dy).
+fn parts_conflict(
     turned: &[i16],
+    p: Piece,
+    k: usize,
+    i: usize,
+    q: Piece,
+    l: usize,
+    m: usize,
+    dx: i16,
+    dy: i16,
+    gap: u16,
+) -> bool
+    requires { ⌜ (Fitting p × ((k < 4) × (i < p .count))) × (Fitting q × ((l < 4) × (m < q .count))) × (length (now turned) ≡ 4096) ⌝ }
+    ensures { λ r. ⌜ r ≡ not (separated gap (partIn (now (turned .entry)) p k i) (map (shifted dx dy) (partIn (now (turned .entry)) q l m))) ⌝ }
+{
+    let a = part_start(p, k, i);
+    let b = a + part_length(p, i);
+    let c = part_start(q, l, m);
+    let d = c + part_length(q, m);
+    !geometry::pairs::separated(&turned[a..b], &turned[c..d], dx, dy, gap)
+}
+
+// Whether part i of p is not separated from some part of q. The first such part ends the test.
+fn part_conflicts(
+    turned: &[i16],
+    p: Piece,
+    k: usize,
+    i: usize,
     q: Piece,
     l: usize,
     dx: i16,
     dy: i16,
     gap: u16,
 ) -> bool
-    requires { ⌜ (Fitting q × (l < 4)) × (length (now turned) ≡ 4096) ⌝ }
-    ensures { λ r. ⌜ r ≡ partConflicts gap (partOf (now (part .entry))) (map (map (shifted dx dy)) (partsIn (now (turned .entry)) q l)) ⌝ }
+    requires { ⌜ (Fitting p × ((k < 4) × (i < p .count))) × (Fitting q × (l < 4)) × (length (now turned) ≡ 4096) ⌝ }
+    ensures { λ r. ⌜ r ≡ partConflicts gap (partIn (now (turned .entry)) p k i) (map (map (shifted dx dy)) (partsIn (now (turned .entry)) q l)) ⌝ }
 {
-    let base = l * 1024 + q.first;
-    let sizes = q.sizes;
     let n = q.count;
-    let mut i: usize = 0;
-    while i < n {
-        let from = base + i * 16;
-        let to = from + sizes[i] * 2;
-        if !geometry::pairs::separated(part, &turned[from..to], dx, dy, gap) {
+    let mut m: usize = 0;
+    while m < n {
+        if parts_conflict(turned, p, k, i, q, l, m, dx, dy, gap) {
             return true;
         }
-        i += 1;
+        m += 1;
     }
     false
 }
@@ -84,14 +122,10 @@ pub fn pieces_conflict(
     requires { ⌜ ((Fitting p × (k < 4)) × (Fitting q × (l < 4))) × (length (now turned) ≡ 4096) ⌝ }
     ensures { λ r. ⌜ r ≡ piecesConflict gap (partsIn (now (turned .entry)) p k) (map (map (shifted dx dy)) (partsIn (now (turned .entry)) q l)) ⌝ }
 {
-    let base = k * 1024 + p.first;
-    let sizes = p.sizes;
     let n = p.count;
     let mut i: usize = 0;
     while i < n {
-        let from = base + i * 16;
-        let to = from + sizes[i] * 2;
-        if part_conflicts(&turned[from..to], turned, q, l, dx, dy, gap) {
+        if part_conflicts(turned, p, k, i, q, l, dx, dy, gap) {
             return true;
         }
         i += 1;

@@ -3,12 +3,11 @@ ghost use mathlib.Core.List.{map};
 ghost use mathlib.Core.Path.{_≡_};
 ghost use Prim.Native.Nat.{_+_, _*_, _≤_, _<_};
 ghost use lib.ListN.{length, drop};
-ghost use mir.Syntax.{w8};
-ghost use mir.Val.{SFits};
-ghost use Rattle.model.specs.Content.{vertex, kindCount};
+ghost use Rattle.model.specs.Content.{kindCount};
 ghost use Rattle.model.specs.Format.{content, byteAt, vertices};
 ghost use Rattle.model.specs.Geometry.{rotated};
-ghost use Rattle.shapes.specs.Turned.{Viewed, vertexIn, withVertex, withPart, PartTurned, KindTurned, TurnedOf};
+ghost use Rattle.geometry.specs.Flat.{withVertex};
+ghost use Rattle.shapes.specs.Turned.{Viewed, vertexIn, withPart, PartTurned, KindTurned, TurnedOf};
 use job::View;
 
 // The byte at i, as a number that can be counted with.
@@ -26,40 +25,6 @@ fn wide(x: u8) -> usize
     x as usize
 }
 
-// The x of a vertex turned k quarter turns.
-fn turned_x(k: usize, x: i16, y: i16) -> i16
-    requires { ⌜ (k < 4) × (SFits w8 x × SFits w8 y) ⌝ }
-    ensures { λ r. ⌜ r ≡ rotated k (vertex x y) .x ⌝ }
-{
-    if k == 0 {
-        return x;
-    }
-    if k == 1 {
-        return 0 - y;
-    }
-    if k == 2 {
-        return 0 - x;
-    }
-    y
-}
-
-// And its y.
-fn turned_y(k: usize, x: i16, y: i16) -> i16
-    requires { ⌜ (k < 4) × (SFits w8 x × SFits w8 y) ⌝ }
-    ensures { λ r. ⌜ r ≡ rotated k (vertex x y) .y ⌝ }
-{
-    if k == 0 {
-        return y;
-    }
-    if k == 1 {
-        return x;
-    }
-    if k == 2 {
-        return 0 - y;
-    }
-    0 - x
-}
-
 // The vertex whose bytes begin at `from`, turned k quarter turns, into the table at `to`.
 fn turn_vertex(job: &[u8], from: usize, k: usize, turned: &mut [i16], to: usize)
     requires { ⌜ (k < 4) × ((from + 2 ≤ length (now job)) × (to + 2 ≤ length (now turned))) ⌝ }
@@ -67,8 +32,7 @@ fn turn_vertex(job: &[u8], from: usize, k: usize, turned: &mut [i16], to: usize)
 {
     let x = integers::signed_byte(job, from);
     let y = integers::signed_byte(job, from + 1);
-    turned[to] = turned_x(k, x, y);
-    turned[to + 1] = turned_y(k, x, y);
+    geometry::put_rotated(turned, to, x, y, k);
 }
 
 // The n vertices whose bytes begin at `from`, turned k quarter turns, into the table from `to` on.

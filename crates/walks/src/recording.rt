@@ -8,8 +8,8 @@ ghost use Rattle.model.specs.Format.{content};
 ghost use Rattle.model.specs.Services.{withLayout};
 ghost use Rattle.plans.specs.Known.{Known};
 ghost use Rattle.walks.specs.Walk.{layoutOf, Recordable};
-use plans::plan::Plan;
 use nofit::offsets::Window;
+use plans::plan::Plan;
 use words::numbers;
 
 // The four numbers of an entry, from byte `at` on.

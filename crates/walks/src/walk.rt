@@ -11,12 +11,12 @@ ghost use Rattle.stepping.specs.Levels.{tryLevel, goOnLevel};
 ghost use Rattle.stepping.specs.Slots.{KeepsSince};
 ghost use Rattle.live_sets.specs.Settled.{numbersAt, placedOf};
 ghost use Rattle.walks.specs.Walk.{heldOf, NextLive, Ready, Taken, Left};
+use crate::recording::record_layout;
 use live_sets::board;
 use live_sets::lookahead::set_start;
 use live_sets::lookahead::settle;
-use plans::plan::Plan;
-use crate::recording::record_layout;
 use nofit::offsets::Window;
+use plans::plan::Plan;
 use words::sets;
 
 // How far the walk has come: what is left of the budget, what an end has to stay below, whether a layout is held, whether the walk stopped.

@@ -1,4 +1,4 @@
--- `candidates::rows::fill` meets its contract. Assumes nothing.
+-- `rows::fill` meets its contract. Assumes nothing.
 use mathlib.Core.List.{map}
 use mathlib.Core.Path.{_≡_, refl, sym, ap, ap₂, _∙_}
 use Prim.Native.Nat.{_-_, _*_, _≤_}

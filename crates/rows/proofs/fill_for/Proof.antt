@@ -1,4 +1,4 @@
--- `candidates::rows::fill_for` meets its contract. Assumes nothing.
+-- `rows::fill_for` meets its contract. Assumes nothing.
 use mathlib.Core.List.{List, map}
 use mathlib.Core.Path.{_≡_, sym, ap, subst, _∙_}
 use Prim.Native.Nat.{ℕ, _+_, _*_, _/_}

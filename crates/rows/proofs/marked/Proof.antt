@@ -1,4 +1,4 @@
--- `candidates::rows::marked` meets its contract. Assumes nothing.
+-- `rows::marked` meets its contract. Assumes nothing.
 use borrow.Author.Needs.{needs}
 use Rattle.rows.proofs.marked.Statement.{statement}
 use Rattle.rows.proofs.marked.Tie as tie

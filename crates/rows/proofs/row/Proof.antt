@@ -1,4 +1,4 @@
--- `candidates::rows::row` meets its contract. Assumes nothing.
+-- `rows::row` meets its contract. Assumes nothing.
 use mathlib.Core.Path.{_≡_, refl, sym, ap, _∙_}
 use denote.Ref.{now}
 use Rattle.model.specs.declared.Written.the-variants as W

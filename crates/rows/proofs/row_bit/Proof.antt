@@ -1,4 +1,4 @@
--- `candidates::rows::row_bit` meets its contract. Assumes nothing.
+-- `rows::row_bit` meets its contract. Assumes nothing.
 use mathlib.Core.Bool.{true, _&&_}
 use mathlib.Core.Path.{_≡_, sym, ap, subst, _∙_}
 use borrow.Author.Tests.{not-true, not-false}

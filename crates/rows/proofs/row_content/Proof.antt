@@ -1,4 +1,4 @@
--- `candidates::rows::row_content` meets its contract. Assumes nothing.
+-- `rows::row_content` meets its contract. Assumes nothing.
 use mathlib.Core.Path.{_≡_, sym, ap, _∙_}
 use native.Mathlib.Omega.{arith}
 use borrow.Author.Tests.{not-true, not-false}

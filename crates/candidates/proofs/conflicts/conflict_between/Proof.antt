@@ -1,6 +1,6 @@
 -- `candidates::conflicts::conflict_between` meets its contract. Assumes nothing.
 use mathlib.Core.List.{map}
-use mathlib.Core.Path.{_≡_, ap₂, _∙_}
+use mathlib.Core.Path.{ap₂, _∙_}
 use borrow.Author.Needs.{sfits-of}
 use denote.Ref.{now}
 use mir.Syntax.{w16}

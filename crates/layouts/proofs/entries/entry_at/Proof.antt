@@ -1,4 +1,6 @@
 -- `layouts::entries::entry_at` meets its contract. Assumes nothing.
+use Rattle.model.specs.Grid.{placement}
+use Rattle.model.specs.Layout.{entry}
 use Rattle.model.specs.Services.{entryIn}
 use borrow.Author.Needs.{needs}
 use Rattle.layouts.proofs.entries.entry_at.Statement.{statement}
@@ -41,7 +43,7 @@ returns : tie.Need-returns
 unfolding entryIn
 returns c =
     record {
-      same = cc;
+      same = λ j. entry (c .before .before .before .number .ensures .0 j) (placement (c .before .before .number2 .ensures .0 j) (c .before .number3 .ensures .0 j) (c .number4 .ensures .0 j));
       small = record { kind = search needs; column = search needs; row = search needs; rotation = search needs };
     }
 

@@ -1,4 +1,4 @@
--- `candidates::offsets::away` meets its contract. Assumes nothing.
+-- `nofit::offsets::away` meets its contract. Assumes nothing.
 use mathlib.Core.Path.{_∙_}
 use Prim.Native.Nat.{_*_}
 use mir.Syntax.{w16}

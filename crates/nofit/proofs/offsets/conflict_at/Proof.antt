@@ -1,4 +1,4 @@
--- `candidates::offsets::conflict_at` meets its contract. Assumes nothing.
+-- `nofit::offsets::conflict_at` meets its contract. Assumes nothing.
 use mathlib.Core.Path.{_≡_, ap, _∙_}
 use Prim.Native.Nat.{_<_}
 use native.Mathlib.Omega.{arith}

@@ -1,4 +1,4 @@
--- `candidates::offsets::covers` meets its contract. Assumes nothing.
+-- `nofit::offsets::covers` meets its contract. Assumes nothing.
 use Rattle.nofit.specs.Offsets.{covered}
 use mathlib.Core.Bool.{_&&_}
 use mathlib.Core.Path.{ap₂}

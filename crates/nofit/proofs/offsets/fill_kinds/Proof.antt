@@ -1,4 +1,4 @@
--- `candidates::offsets::fill_kinds` meets its contract. Assumes nothing.
+-- `nofit::offsets::fill_kinds` meets its contract. Assumes nothing.
 use mathlib.Core.Path.{_≡_, ap, ap₂, _∙_}
 use Prim.Native.Nat.{_*_, _<_}
 use native.Mathlib.Omega.{arith}

@@ -1,4 +1,4 @@
--- `candidates::offsets::fill_next` meets its contract. Assumes nothing.
+-- `nofit::offsets::fill_next` meets its contract. Assumes nothing.
 use mathlib.Core.Path.{_≡_, _∙_}
 use native.Mathlib.Omega.{arith}
 use denote.Ref.{now}

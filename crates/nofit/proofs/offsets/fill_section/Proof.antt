@@ -1,4 +1,4 @@
--- `candidates::offsets::fill_section` meets its contract. Assumes nothing.
+-- `nofit::offsets::fill_section` meets its contract. Assumes nothing.
 use mathlib.Core.List.{map}
 use mathlib.Core.Path.{_≡_, refl, ap₂, subst, _∙_}
 use Prim.Native.Nat.{_+_, _-_, _/_, _%_, _≤_, _<_}

@@ -1,4 +1,4 @@
--- `candidates::offsets::is_needed` meets its contract. Assumes nothing.
+-- `nofit::offsets::is_needed` meets its contract. Assumes nothing.
 use mathlib.Core.Bool.{_&&_}
 use mathlib.Core.Path.{_≡_, ap, ap₂, _∙_}
 use Prim.Native.Nat.{_%_}

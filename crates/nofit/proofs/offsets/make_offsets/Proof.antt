@@ -1,4 +1,4 @@
--- `candidates::offsets::make_offsets` meets its contract. Assumes nothing.
+-- `nofit::offsets::make_offsets` meets its contract. Assumes nothing.
 use mathlib.Core.Path.{_≡_, refl, subst, _∙_}
 use Prim.Native.Nat.{_-_, _*_, _≤_}
 use native.Mathlib.Nat.{mul-le-mul, not-suc-le-zero}

@@ -1,4 +1,4 @@
--- `candidates::offsets::window_place` meets its contract. Assumes nothing.
+-- `nofit::offsets::window_place` meets its contract. Assumes nothing.
 use native.Mathlib.Omega.{arith}
 use Rattle.nofit.proofs.offsets.window_place.Statement.{statement}
 use Rattle.nofit.proofs.offsets.window_place.Tie as tie

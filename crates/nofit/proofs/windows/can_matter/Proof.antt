@@ -1,4 +1,4 @@
--- `candidates::windows::can_matter` meets its contract. Assumes nothing.
+-- `nofit::windows::can_matter` meets its contract. Assumes nothing.
 use native.Mathlib.Omega.{arith}
 use Rattle.nofit.proofs.OffsetFilling.{span-fits, span-read, span-value, spaced-fits}
 use Rattle.candidates.proofs.PlacementLaws.{wide-fits, limit-value}

@@ -1,4 +1,4 @@
--- `candidates::windows::cells_of` meets its contract. Assumes nothing.
+-- `nofit::windows::cells_of` meets its contract. Assumes nothing.
 use mathlib.Core.Path.{refl}
 use Prim.Native.Nat.{_*_}
 use native.Mathlib.Nat.{mul-le-mul}

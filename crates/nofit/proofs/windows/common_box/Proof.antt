@@ -1,4 +1,4 @@
--- `candidates::windows::common_box` meets its contract. Assumes nothing.
+-- `nofit::windows::common_box` meets its contract. Assumes nothing.
 use Prim.Native.Nat.{_-_, _≤_}
 use borrow.Author.Needs.{needs}
 use Rattle.nofit.proofs.windows.common_box.Statement.{statement}

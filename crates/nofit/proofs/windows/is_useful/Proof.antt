@@ -1,4 +1,4 @@
--- `candidates::windows::is_useful` meets its contract. Assumes nothing.
+-- `nofit::windows::is_useful` meets its contract. Assumes nothing.
 use mathlib.Core.Path.{refl}
 use Prim.Native.Nat.{_*_, _≤_, _<_}
 use native.Mathlib.Omega.{arith}

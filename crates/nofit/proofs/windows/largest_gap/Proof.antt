@@ -1,4 +1,4 @@
--- `candidates::windows::largest_gap` meets its contract. Assumes nothing.
+-- `nofit::windows::largest_gap` meets its contract. Assumes nothing.
 use Prim.Native.Nat.{_-_, _≤_}
 use native.Mathlib.Omega.{arith}
 use mathlib.Core.Logic.{⊎-elim}

@@ -1,10 +1,11 @@
--- `candidates::windows::window_of` meets its contract. Assumes nothing.
+-- `nofit::windows::window_of` meets its contract. Assumes nothing.
 use native.Mathlib.Omega.{arith}
 use mathlib.Core.Path.{refl}
 use Prim.Native.Nat.{_*_}
 use native.Mathlib.Nat.{mul-le-mul}
 use borrow.Author.Needs.{needs}
-use Rattle.nofit.specs.Offsets.{cells, sections, area, Roomy}
+use Rattle.nofit.specs.Offsets.{cells, sections, area, Roomy, Growing}
+use Rattle.nofit.specs.declared.offsets.Window.{Window}
 use Rattle.nofit.proofs.windows.window_of.Statement.{statement}
 use Rattle.nofit.proofs.windows.window_of.Tie as tie
 
@@ -36,22 +37,19 @@ loop-holds c =
       up = omega arith;
     }
 
-wider-requires : tie.Need-wider-requires Inv-loop μ-loop
-wider-requires c κs =
-    let at = c .before in
-    let gap = at .before .before in
-    let e = gap .before .before in
-    record { bounded = e .pre .0; few = gap .largest-gap .ensures; most = e .pre .1; window = at .loop .inv }
+-- what a window may grow from, in the loop
+growing : (c : tie.In-loop Inv-loop μ-loop) (w : Window) → Roomy (c .before .before .before .before .before .args .view) w → Growing (c .before .before .before .before .before .args .view) (c .before .before .before .largest-gap .result) (c .before .before .before .before .before .args .limit) w
+growing c w room =
+    record { bounded = c .before .before .before .before .before .pre .0; few = c .before .before .before .largest-gap .ensures; most = c .before .before .before .before .before .pre .1; window = room }
 
-taller-requires : tie.Need-taller-requires Inv-loop μ-loop
-taller-requires c κs =
-    let at = c .before .before in
-    let gap = at .before .before in
-    let e = gap .before .before in
-    record { bounded = e .pre .0; few = gap .largest-gap .ensures; most = e .pre .1; window = c .wider .ensures }
+grown-requires : tie.Need-grown-requires Inv-loop μ-loop
+grown-requires c κs = (growing c _ (c .before .loop .inv), (omega arith, omega arith))
+
+grown-requires-2 : tie.Need-grown-requires-2 Inv-loop μ-loop
+grown-requires-2 c κs = (growing (c .before) _ (c .grown .ensures), (omega arith, omega arith))
 
 add-if1 : tie.Need-add-if1 Inv-loop μ-loop
-add-if1 c = omega (arith, c .before .taller .ensures .sized)
+add-if1 c = omega (arith, c .before .grown2 .ensures .sized)
 
 add-if1-2 : tie.Need-add-if1-2 Inv-loop μ-loop
 add-if1-2 c =
@@ -68,7 +66,7 @@ loop-less : tie.Need-loop-less Inv-loop μ-loop
 loop-less c = search needs
 
 loop-again : tie.Need-loop-again Inv-loop μ-loop
-loop-again c = c .before .before .before .taller .ensures
+loop-again c = c .before .before .before .grown2 .ensures
 
 returns-2 : tie.Need-returns-2 Inv-loop μ-loop
 returns-2 c = search needs
@@ -83,8 +81,8 @@ window-of-spec =
     largest-gap-requires
     add-left
     loop-holds
-    wider-requires
-    taller-requires
+    grown-requires
+    grown-requires-2
     add-if1
     add-if1-2
     returns

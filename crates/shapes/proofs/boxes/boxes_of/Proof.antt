@@ -1,4 +1,4 @@
--- `candidates::boxes::boxes_of` meets its contract. Assumes nothing.
+-- `shapes::boxes::boxes_of` meets its contract. Assumes nothing.
 use mathlib.Core.List.{List}
 use mathlib.Core.Path.{_≡_, refl, ap, _∙_}
 use Prim.Native.Nat.{ℕ, _+_, _-_, _*_, _/_, _%_, _≤_, _<_}

@@ -1,7 +1,7 @@
--- `candidates::boxes::piece_box` meets its contract. Assumes nothing.
-use mathlib.Core.List.{List, map}
+-- `shapes::boxes::piece_box` meets its contract. Assumes nothing.
+use mathlib.Core.List.{map}
 use mathlib.Core.Path.{_≡_, sym, ap, ap₂, _∙_}
-use Prim.Native.Nat.{_+_, _-_, _*_, _≤_}
+use Prim.Native.Nat.{_-_, _≤_}
 use native.Mathlib.Omega.{arith}
 use borrow.Author.Needs.{needs}
 use denote.Ref.{now}

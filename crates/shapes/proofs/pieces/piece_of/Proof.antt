@@ -1,4 +1,4 @@
--- `candidates::pieces::piece_of` meets its contract. Assumes nothing.
+-- `shapes::pieces::piece_of` meets its contract. Assumes nothing.
 use mathlib.Core.List.{[]}
 use mathlib.Core.Path.{_≡_, refl, _∙_}
 use Prim.Native.Nat.{ℕ, _+_, _-_, _*_, _≤_, _<_}
@@ -10,8 +10,8 @@ use lib.ListN.{length, getD, length-set}
 use Rattle.model.specs.Content.{kindAt}
 use Rattle.model.specs.Format.{content}
 use Rattle.job.specs.View.{PartAt}
-use Rattle.shapes.proofs.PieceLaws.{written-more}
-use Rattle.shapes.proofs.ViewLaws.{few-kinds, kind-in, some-part, part-in, part-short}
+use Rattle.shapes.proofs.PieceLaws.{written-more, piece-is}
+use Rattle.shapes.proofs.ViewLaws.{few-kinds, kind-in, part-in}
 use Rattle.shapes.proofs.pieces.piece_of.Statement.{statement}
 use Rattle.shapes.proofs.pieces.piece_of.Tie as tie
 
@@ -86,19 +86,7 @@ returns : tie.Need-returns Inv-loop μ-loop
 returns c =
     let at = c .before in
     let start = at .before .before .before .before in
-    let e : at .loop .i ≡ length (kindAt (content (start .args .job .now)) (start .args .kind) .parts) = omega arith in
-    record {
-      fitting = record {
-        some = omega (arith, some-part (start .args .job .now) (start .args .view) (start .pre .0) (start .args .kind) (start .pre .1));
-        least = λ i h. rw (at .loop .inv .3 i (omega arith)) (omega (arith, part-in (start .args .job .now) (start .args .view) (start .pre .0) (start .args .kind) (start .pre .1) i (omega arith) .least));
-        few = omega arith;
-        within = omega arith;
-        short = λ i h. rw (at .loop .inv .3 i (omega arith)) (part-short (start .args .job .now) (start .args .view) (start .pre .0) (start .args .kind) (start .pre .1) i (omega arith));
-      };
-      first = refl;
-      count = at .loop .inv .1;
-      size = λ i h. at .loop .inv .3 i (omega arith);
-    }
+    piece-is (start .args .job .now) (start .args .view) (start .pre .0) (start .args .kind) (start .pre .1) _ _ (at .loop .inv .1) (λ i h. at .loop .inv .3 i (omega arith))
 
 pub piece-of-spec : {M : Type 1} → statement M
 piece-of-spec =

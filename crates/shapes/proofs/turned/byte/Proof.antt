@@ -1,4 +1,4 @@
--- `candidates::turned::byte` meets its contract. Assumes nothing.
+-- `shapes::turned::byte` meets its contract. Assumes nothing.
 use Rattle.model.specs.Format.{byteAt}
 use borrow.Author.Needs.{needs}
 use Rattle.shapes.proofs.turned.byte.Statement.{statement}

@@ -1,4 +1,4 @@
--- `candidates::turned::turn_all` meets its contract. Assumes nothing.
+-- `shapes::turned::turn_all` meets its contract. Assumes nothing.
 use mathlib.Core.Path.{_≡_}
 use Prim.Native.Nat.{_-_, _≤_, _<_}
 use native.Mathlib.Omega.{arith}

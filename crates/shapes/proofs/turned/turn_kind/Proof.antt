@@ -1,11 +1,11 @@
--- `candidates::turned::turn_kind` meets its contract. Assumes nothing.
+-- `shapes::turned::turn_kind` meets its contract. Assumes nothing.
 use mathlib.Core.List.{[]}
 use mathlib.Core.Path.{_≡_, _∙_}
 use Prim.Native.Nat.{_+_, _-_, _*_, _≤_, _<_}
 use native.Mathlib.Omega.{arith}
 use borrow.Author.Needs.{needs}
 use denote.Ref.{now}
-use lib.ListN.{length, getD, drop}
+use lib.ListN.{length, getD}
 use Rattle.model.specs.Content.{kindAt}
 use Rattle.model.specs.Format.{content}
 use Rattle.job.specs.View.{PartAt}

@@ -1,13 +1,14 @@
--- `candidates::turned::turn_vertices` meets its contract. Assumes nothing.
+-- `shapes::turned::turn_vertices` meets its contract. Assumes nothing.
 use mathlib.Core.List.{map}
 use mathlib.Core.Path.{_≡_, refl, sym, ap, _∙_}
-use Prim.Native.Nat.{_-_, _≤_}
+use Prim.Native.Nat.{_+_, _*_, _-_, _≤_}
 use native.Mathlib.Omega.{arith}
 use borrow.Author.Needs.{needs}
 use lib.ListN.{length, drop}
 use Rattle.model.specs.Format.{vertices}
 use Rattle.model.specs.Geometry.{rotated}
-use Rattle.shapes.specs.Turned.{withPart}
+use Rattle.geometry.specs.Flat.{withVertex}
+use Rattle.shapes.specs.Turned.{vertexIn, withPart}
 use Rattle.shapes.proofs.TurnLaws.{written-none, written-more}
 use Rattle.shapes.proofs.turned.turn_vertices.Statement.{statement}
 use Rattle.shapes.proofs.turned.turn_vertices.Tie as tie
@@ -46,17 +47,28 @@ loop-less c = search needs
 loop-again : tie.Need-loop-again Inv-loop μ-loop
 loop-again c =
     let at = c .before .before .before .before in
-    let start = at .before .before in (
+    let start = at .before .before in
+    let job = start .args .job .now in
+    let k = start .args .k in
+    let from = start .args .from + at .loop .m * 2 in
+    let to = start .args .to + at .loop .m * 2 in (
       omega arith,
       search needs,
-      cc (written-more (rotated (start .args .k)) (start .args .turned .now) (start .args .to) (at .loop .m) (start .args .job .now) (start .args .from)),
+      c .before .turn-vertex .ensures
+          ∙ ap (λ table. withVertex table to (rotated k (vertexIn job from))) (at .loop .inv .2)
+          ∙ sym (written-more (rotated k) (start .args .turned .now) (start .args .to) (at .loop .m) job (start .args .from)),
     )
 
 same-length : tie.Need-same-length Inv-loop μ-loop
 same-length c = search needs
 
 returns : tie.Need-returns Inv-loop μ-loop
-returns c = let e : c .before .loop .m ≡ c .before .before .before .args .n = omega arith in cc
+returns c =
+    let at = c .before in
+    let start = at .before .before in
+    let e : at .loop .m ≡ start .args .n = omega arith in
+    at .loop .inv .2
+    ∙ ap (λ n. withPart (start .args .turned .now) (start .args .to) (map (rotated (start .args .k)) (vertices n (drop (start .args .from) (start .args .job .now))))) e
 
 pub turn-vertices-spec : {M : Type 1} → statement M
 turn-vertices-spec =
