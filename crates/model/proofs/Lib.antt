@@ -22,3 +22,4 @@ pub mod Causes
 pub mod AcceptedKinds
 pub mod Refusals
 pub mod Program
+pub mod Buffers
