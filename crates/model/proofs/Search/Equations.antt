@@ -1,12 +1,12 @@
 -- What the walk does at a candidate, by case: equations of the definitions, through which everything else about them is proved.
 use mathlib.Core.Bool.{true, false}
 use mathlib.Core.List.{List, [], _∷_}
-use mathlib.Core.Option.{Option, none}
+use mathlib.Core.Option.{Option, none, some}
 use mathlib.Core.Path.{_≡_, refl}
 use Prim.Native.Nat.{ℕ}
 use Rattle.model.specs.Content.{Job}
-use Rattle.model.specs.Layout.{Layout, entryOf}
-use Rattle.model.specs.Search.{Searched, step, searched, then, live, forwardCheck, completed, tryCandidates, searchPieces, searchFrom, pieces}
+use Rattle.model.specs.Layout.{Entry, Layout, entryOf}
+use Rattle.model.specs.Search.{Searched, step, latest, bestAfter, searched, then, live, forwardCheck, completed, tryCandidates, searchPieces, searchFrom, pieces}
 
 module _ (j : Job) (cs : List (List ℕ)) (next : Layout → Option ℕ → Searched) (t : ℕ) (left : List ℕ) where
   -- No candidate left: nothing is done.
@@ -47,3 +47,13 @@ pub search-walks : (j : Job) (cs : List (List ℕ)) (best : Option ℕ) → forw
     → searchFrom j cs best ≡ searchPieces j cs (pieces j) [] best
 unfolding searchFrom
 search-walks j cs best e = rw (e, searchFrom)
+
+-- "A complete layout becomes the best": whatever was held before.
+pub completed-becomes-best : (h : Option Layout) (e : Entry) (es : Layout) → bestAfter h (step e (some es) ∷ []) ≡ some es
+unfolding bestAfter latest
+completed-becomes-best h e es = refl
+
+-- A step that completes nothing leaves it as it was.
+pub best-stays : (h : Option Layout) (e : Entry) → bestAfter h (step e none ∷ []) ≡ h
+unfolding bestAfter latest
+best-stays h e = refl
