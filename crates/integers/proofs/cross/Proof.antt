@@ -1,6 +1,6 @@
 -- `integers::cross` meets its contract: the opposite of a 16-bit number fits 32 bits, and the dot product with the turned vector is the cross product. Assumes nothing.
 use mathlib.Core.Path.{refl, _∙_}
-use borrow.Author.Needs.{needs, sfits-of}
+use borrow.Author.Needs.{sfits-of}
 use lib.IntN.{ℤ, pos, _+ℤ_, _-ℤ_, _*ℤ_}
 use mir.Syntax.{w16, w32, w64}
 use mir.Val.{SFits}
@@ -25,7 +25,7 @@ sub-dot : tie.Need-sub-dot
 sub-dot c = op-fits {x = pos 0} refl (cast-gives _ (c .fits .bx) tt) _-ℤ_ (opposite-fits (c .args .bx) (c .fits .bx))
 
 dot-requires : tie.Need-dot-requires
-dot-requires c κs = search needs
+dot-requires c κs = tt
 
 returns : tie.Need-returns
 returns c =

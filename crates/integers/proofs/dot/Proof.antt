@@ -1,5 +1,4 @@
 -- `integers::dot` meets its contract: products of 32-bit and 16-bit numbers and their sum fit 64 bits. Assumes nothing.
-use mathlib.Core.Path.{_≡_}
 use lib.IntN.{_+ℤ_, _*ℤ_}
 use Rattle.integers.proofs.Machine.{cast-fits, cast-gives, op-fits, op-gives}
 use Rattle.integers.proofs.Products.{product-fits, products-fit}

@@ -27,7 +27,7 @@ get-u64-requires : tie.Need-get-u64-requires Inv-loop μ-loop
 get-u64-requires c κs = omega arith
 
 count-bits-requires : tie.Need-count-bits-requires Inv-loop μ-loop
-count-bits-requires c κs = omega arith
+count-bits-requires c κs = tt
 
 add-r : tie.Need-add-r Inv-loop μ-loop
 add-r c = omega arith
