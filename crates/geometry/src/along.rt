@@ -11,6 +11,7 @@ ghost use Rattle.model.specs.Geometry.{direction, vertexAt, clearance};
 ghost use Rattle.model.specs.Lists.{smallestZ};
 ghost use Rattle.geometry.specs.Flat.{partOf};
 ghost use Rattle.geometry.specs.Reach.{Small, reachOf};
+use super::vertices::coordinate;
 use integers::dot;
 
 // The size of a number, whatever its sign.
@@ -32,8 +33,7 @@ pub fn vertex_along(p: &[i16], k: usize, a: i32, b: i32) -> i64
     requires { ⌜ 2 * k + 1 < length (now p) ⌝ }
     ensures { λ r. ⌜ Small (Geometry.along (direction a b) (vertexAt (partOf (now (p .entry))) k)) 47 r ⌝ }
 {
-    let at = 2 * k;
-    dot(a, b, p[at], p[at + 1])
+    dot(a, b, coordinate(p, k, 0), coordinate(p, k, 1))
 }
 
 // The smaller of two numbers.

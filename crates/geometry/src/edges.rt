@@ -1,24 +1,23 @@
 // The edges of a part, and the test whether the normal of one of them separates it from another part.
 ghost use mathlib.Core.Path.{_≡_};
 ghost use Prim.Native.Nat.{_+_, _*_, _<_};
-ghost use lib.IntN.{pos, _-ℤ_};
-ghost use lib.ListN.{length, getD};
+ghost use lib.IntN.{_-ℤ_};
+ghost use lib.ListN.{length};
 ghost use Rattle.model.specs.Content.{vertex};
-ghost use Rattle.model.specs.Geometry.{following, normals};
+ghost use Rattle.model.specs.Geometry.{vertexAt, following, normals};
 ghost use Rattle.model.specs.Lists.{any};
-ghost use Rattle.geometry.specs.Flat.{partOf};
+ghost use Rattle.geometry.specs.Flat.{partOf, coordinateOf};
 ghost use Rattle.geometry.specs.Reach.{clears};
 use super::along::reach;
 use super::along::vertex_along;
+use super::vertices::coordinate;
 
-// Coordinate c of vertex m less that of vertex k: 0 is x, and 1 is y.
+// Coordinate c of vertex m less that of vertex k.
 fn difference(p: &[i16], m: usize, k: usize, c: usize) -> i32
     requires { ⌜ (2 * m + 1 < length (now p)) × (2 * k + 1 < length (now p)) × (c < 2) ⌝ }
-    ensures { λ r. ⌜ r ≡ getD (now (p .entry)) (2 * m + c) (pos 0) -ℤ getD (now (p .entry)) (2 * k + c) (pos 0) ⌝ }
+    ensures { λ r. ⌜ r ≡ coordinateOf c (vertexAt (partOf (now (p .entry))) m) -ℤ coordinateOf c (vertexAt (partOf (now (p .entry))) k) ⌝ }
 {
-    let u = p[2 * m + c];
-    let w = p[2 * k + c];
-    (u as i32) - (w as i32)
+    (coordinate(p, m, c) as i32) - (coordinate(p, k, c) as i32)
 }
 
 // The vertex after vertex k: the first one after the last.

@@ -6,6 +6,7 @@ ghost use Rattle.integers.specs.Extrema.{maxZ, minZ};
 ghost use Rattle.model.specs.Geometry.{vertexAt};
 ghost use Rattle.geometry.specs.Flat.{partOf};
 ghost use Rattle.geometry.specs.Boxes.{box, boxOf, extentsOf, joined};
+use super::vertices::coordinate;
 
 // The least and the largest x and y.
 pub struct Extents {
@@ -58,8 +59,7 @@ fn corner(p: &[i16], k: usize) -> Extents
     requires { ⌜ 2 * k + 1 < length (now p) ⌝ }
     ensures { λ r. ⌜ r ≡ boxOf (vertexAt (partOf (now (p .entry))) k) ⌝ }
 {
-    let at = 2 * k;
-    point(p[at], p[at + 1])
+    point(coordinate(p, k, 0), coordinate(p, k, 1))
 }
 
 // The box of a part; of no vertex, all 0.

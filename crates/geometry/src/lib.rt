@@ -4,5 +4,6 @@ mod edges;
 pub mod extents;
 pub mod pairs;
 mod turns;
+mod vertices;
 
 pub use turns::put_rotated;

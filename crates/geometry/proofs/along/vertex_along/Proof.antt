@@ -1,31 +1,17 @@
--- `geometry::along::vertex_along` meets its contract: vertex k stands at 2 k and 2 k + 1. Assumes nothing.
-use mathlib.Core.Path.{sym, ap}
+-- `geometry::along::vertex_along` meets its contract: the dot product of the direction and the vertex is small. Assumes nothing.
 use native.Mathlib.Omega.{arith}
-use borrow.Author.Needs.{needs, sfits-of}
-use denote.Ref.{now}
-use Rattle.model.specs.Geometry.{along, direction}
-use Rattle.geometry.proofs.Flat.{part-at}
+use borrow.Author.Needs.{sfits-of}
+use lib.IntN.{_+ℤ_, _*ℤ_}
+use Rattle.model.specs.Geometry.{along}
 use Rattle.geometry.proofs.Sizes.{small-as, small-at, small-read, dot-small}
 use Rattle.geometry.proofs.along.vertex_along.Statement.{statement}
 use Rattle.geometry.proofs.along.vertex_along.Tie as tie
 
-mul-at : tie.Need-mul-at
-mul-at c = omega arith
+coordinate-requires : tie.Need-coordinate-requires
+coordinate-requires c κs = (c .pre, omega arith)
 
-mul-dot : tie.Need-mul-dot
-mul-dot c = search needs
-
-shared-slice-copy-out-dot : tie.Need-shared-slice-copy-out-dot
-shared-slice-copy-out-dot c = search needs
-
-add-dot : tie.Need-add-dot
-add-dot c = omega arith
-
-mul-dot-2 : tie.Need-mul-dot-2
-mul-dot-2 c = search needs
-
-shared-slice-copy-out-dot-2 : tie.Need-shared-slice-copy-out-dot-2
-shared-slice-copy-out-dot-2 c = search needs
+coordinate-requires-2 : tie.Need-coordinate-requires-2
+coordinate-requires-2 c κs = (c .before .pre, omega arith)
 
 dot-requires : tie.Need-dot-requires
 dot-requires c κs = tt
@@ -33,11 +19,11 @@ dot-requires c κs = tt
 returns : tie.Need-returns
 unfolding along
 returns c =
-    let s = c .before .before .before in
-    let r = dot-small (s .fits .a) (s .fits .b) (sfits-of (c .before .before .dot-arg .given)) (sfits-of (c .before .dot-arg2 .given)) (c .dot .ensures) in
-    small-at (small-read r tt) (small-as (sym (ap (along (direction (s .args .a) (s .args .b))) (part-at (now (s .args .p)) (s .args .k) (s .pre)))) r)
+    let y = c .before in
+    let x = y .before in
+    let s = x .before in
+    let r = dot-small (s .fits .a) (s .fits .b) (sfits-of (x .coordinate .ok)) (sfits-of (y .coordinate2 .ok)) (c .dot .ensures) in
+    small-at (small-read r tt) (small-as (λ i. s .args .a *ℤ x .coordinate .ensures i +ℤ s .args .b *ℤ y .coordinate2 .ensures i) r)
 
 pub vertex-along-spec : {M : Type 1} → statement M
-vertex-along-spec =
-    tie.close
-    (tie.spec mul-at mul-dot shared-slice-copy-out-dot add-dot mul-dot-2 shared-slice-copy-out-dot-2 dot-requires returns)
+vertex-along-spec = tie.close (tie.spec coordinate-requires coordinate-requires-2 dot-requires returns)

@@ -1,10 +1,7 @@
 -- `geometry::edges::difference` meets its contract: the difference of two numbers of 16 bits fits 32. Assumes nothing.
-use Prim.Native.Nat.{_+_, _*_}
-use native.Mathlib.Omega.{arith}
-use borrow.Author.Needs.{needs, sfits-of}
-use denote.Ref.{now}
-use lib.IntN.{pos, _-ℤ_}
-use lib.ListN.{getD}
+use mathlib.Core.Path.{_∙_}
+use borrow.Author.Needs.{sfits-of}
+use lib.IntN.{_-ℤ_}
 use mir.Syntax.{w16}
 use mir.Val.{SFits}
 use Rattle.integers.proofs.Machine.{cast-fits, cast-gives, op-fits, op-gives}
@@ -12,39 +9,21 @@ use Rattle.geometry.proofs.Sizes.{difference-fits}
 use Rattle.geometry.proofs.edges.difference.Statement.{statement}
 use Rattle.geometry.proofs.edges.difference.Tie as tie
 
-mul-u : tie.Need-mul-u
-mul-u c = omega arith
+coordinate-requires : tie.Need-coordinate-requires
+coordinate-requires c κs = (c .pre .0, c .pre .2)
 
-add-u : tie.Need-add-u
-add-u c = omega arith
+coordinate-requires-2 : tie.Need-coordinate-requires-2
+coordinate-requires-2 c κs = (c .before .pre .1, c .before .pre .2)
 
-mul-u-2 : tie.Need-mul-u-2
-mul-u-2 c = search needs
+-- the two coordinates
+first : (c : tie.After-coordinate) → SFits w16 (c .coordinate .result)
+first c = sfits-of (c .coordinate .ok)
 
-shared-slice-copy-out-u : tie.Need-shared-slice-copy-out-u
-shared-slice-copy-out-u c = search needs
-
-mul-w : tie.Need-mul-w
-mul-w c = omega arith
-
-add-w : tie.Need-add-w
-add-w c = omega arith
-
-mul-w-2 : tie.Need-mul-w-2
-mul-w-2 c = search needs
-
-shared-slice-copy-out-w : tie.Need-shared-slice-copy-out-w
-shared-slice-copy-out-w c = search needs
-
--- the two numbers read
-first : (c : tie.After-u) → SFits w16 (getD (now (c .before .args .p)) (2 * c .before .args .m + c .before .args .c) (pos 0))
-first c = sfits-of (c .u .given)
-
-second : (c : tie.After-w) → SFits w16 (getD (now (c .before .before .args .p)) (2 * c .before .before .args .k + c .before .before .args .c) (pos 0))
-second c = sfits-of (c .w .given)
+second : (c : tie.After-coordinate2) → SFits w16 (c .coordinate2 .result)
+second c = sfits-of (c .coordinate2 .ok)
 
 cast-result : tie.Need-cast-result
-cast-result c = cast-fits _ (first (c .before)) tt
+cast-result c = cast-fits _ (first c) tt
 
 cast-result-2 : tie.Need-cast-result-2
 cast-result-2 c = cast-fits _ (second c) tt
@@ -53,21 +32,9 @@ sub-result : tie.Need-sub-result
 sub-result c = op-fits (cast-gives _ (first (c .before)) tt) (cast-gives _ (second c) tt) _-ℤ_ (difference-fits _ _ (first (c .before)) (second c))
 
 returns : tie.Need-returns
-returns c = op-gives (cast-gives _ (first (c .before)) tt) (cast-gives _ (second c) tt) _-ℤ_ (difference-fits _ _ (first (c .before)) (second c))
+returns c =
+    op-gives (cast-gives _ (first (c .before)) tt) (cast-gives _ (second c) tt) _-ℤ_ (difference-fits _ _ (first (c .before)) (second c))
+    ∙ (λ i. c .before .coordinate .ensures i -ℤ c .coordinate2 .ensures i)
 
 pub difference-spec : {M : Type 1} → statement M
-difference-spec =
-    tie.close
-    (tie.spec
-    mul-u
-    add-u
-    mul-u-2
-    shared-slice-copy-out-u
-    mul-w
-    add-w
-    mul-w-2
-    shared-slice-copy-out-w
-    cast-result
-    cast-result-2
-    sub-result
-    returns)
+difference-spec = tie.close (tie.spec coordinate-requires cast-result coordinate-requires-2 cast-result-2 sub-result returns)

@@ -17,7 +17,7 @@ use mir.ValLaws.{toZ-ofZ}
 use Rattle.integers.proofs.Machine.{read₂}
 use Rattle.integers.proofs.Order.{leZ-true, leZ-false}
 use Rattle.model.specs.Content.{Vertex, vertex, Part}
-use Rattle.model.specs.Geometry.{Direction, along, direction, vertexAt, normals}
+use Rattle.model.specs.Geometry.{Direction, along, direction, vertexAt, outwardNormal, normals}
 use Rattle.model.specs.Lists.{any, largestZ}
 use Rattle.geometry.specs.Flat.{partOf, normalOf}
 use Rattle.geometry.specs.Reach.{clears}
@@ -67,12 +67,11 @@ test e = clears (e .args .gap) (partOf (now (e .args .p))) (partOf (now (e .args
 
 -- the direction is the edge's normal
 is-normal : (r : tie.After-reach Inv-loop2 μ-loop2 Inv-loop μ-loop) → bearing r ≡ normalOf (part r) (edge r)
+unfolding outwardNormal
 is-normal r =
     (λ i. direction ((toZ-ofZ w32 (r .before .before .difference .result) (sfits-of (r .before .before .difference .ok)) ∙ r .before .before .difference .ensures) i)
     ((toZ-ofZ w32 (r .before .difference2 .result) (sfits-of (r .before .difference2 .ok)) ∙ r .before .difference2 .ensures) i))
-    ∙ sym
-    (normal-at (now (entry r .args .p)) (edge r) (r .before .before .before .next-vertex .result) (r .before .before .before .next-vertex .ensures .0) (omega arith)
-    (r .before .before .before .next-vertex .ensures .1))
+    ∙ normal-at (part r) (edge r) (r .before .before .before .next-vertex .result) (r .before .before .before .next-vertex .ensures .0)
 
 -- so whether all vertices stay within the limit is whether it separates
 verdict : (r : tie.After-reach Inv-loop2 μ-loop2 Inv-loop μ-loop) (b : Bool) → leZ (largestZ (map (along (bearing r)) (part r))) (bound r) ≡ b

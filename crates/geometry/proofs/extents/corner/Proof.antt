@@ -1,44 +1,30 @@
--- `geometry::extents::corner` meets its contract: vertex k stands at 2 k and 2 k + 1. Assumes nothing.
-use mathlib.Core.Path.{sym, _∙_, ap}
+-- `geometry::extents::corner` meets its contract. Assumes nothing.
+use mathlib.Core.Path.{_∙_}
 use native.Mathlib.Omega.{arith}
-use borrow.Author.Needs.{needs, sfits-of}
-use denote.Ref.{now}
+use borrow.Author.Needs.{sfits-of}
 use mir.Syntax.{w16}
 use Rattle.integers.proofs.Machine.{read₂}
-use Rattle.geometry.specs.Boxes.{box, boxOf}
-use Rattle.geometry.proofs.Flat.{part-at}
+use Rattle.geometry.specs.Boxes.{box}
+use Rattle.geometry.proofs.BoxLaws.{same-box}
 use Rattle.geometry.proofs.extents.corner.Statement.{statement}
 use Rattle.geometry.proofs.extents.corner.Tie as tie
 
-mul-at : tie.Need-mul-at
-mul-at c = omega arith
+coordinate-requires : tie.Need-coordinate-requires
+coordinate-requires c κs = (c .pre, omega arith)
 
-mul-point : tie.Need-mul-point
-mul-point c = search needs
-
-shared-slice-copy-out-point : tie.Need-shared-slice-copy-out-point
-shared-slice-copy-out-point c = search needs
-
-add-point : tie.Need-add-point
-add-point c = omega arith
-
-mul-point-2 : tie.Need-mul-point-2
-mul-point-2 c = search needs
-
-shared-slice-copy-out-point-2 : tie.Need-shared-slice-copy-out-point-2
-shared-slice-copy-out-point-2 c = search needs
+coordinate-requires-2 : tie.Need-coordinate-requires-2
+coordinate-requires-2 c κs = (c .before .pre, omega arith)
 
 point-requires : tie.Need-point-requires
 point-requires c κs = tt
 
 returns : tie.Need-returns
 returns c =
-    let s = c .before .before .before in
+    let y = c .before in
+    let x = y .before in
     c .point .ensures
-    ∙ read₂ w16 _ _ (sfits-of (c .before .before .point-arg .given)) (sfits-of (c .before .point-arg2 .given)) (λ x y. box x x y y)
-    ∙ sym (ap boxOf (part-at (now (s .args .p)) (s .args .k) (s .pre)))
+    ∙ read₂ w16 (x .coordinate .result) (y .coordinate2 .result) (sfits-of (x .coordinate .ok)) (sfits-of (y .coordinate2 .ok)) (λ x y. box x x y y)
+    ∙ same-box (x .coordinate .ensures) (x .coordinate .ensures) (y .coordinate2 .ensures) (y .coordinate2 .ensures)
 
 pub corner-spec : {M : Type 1} → statement M
-corner-spec =
-    tie.close
-    (tie.spec mul-at mul-point shared-slice-copy-out-point add-point mul-point-2 shared-slice-copy-out-point-2 point-requires returns)
+corner-spec = tie.close (tie.spec coordinate-requires coordinate-requires-2 point-requires returns)
