@@ -14,12 +14,8 @@ use Rattle.model.specs.Content.{Vertex, Part, origin}
 use Rattle.model.specs.Geometry.{vertexAt}
 use Rattle.model.specs.Lists.{largestFrom, smallestFrom, largestZ, smallestZ}
 use Rattle.model.proofs.Extremes.{largest-append, smallest-append}
-use Rattle.geometry.specs.Boxes.{box, extentsOf, joined}
+use Rattle.geometry.specs.Boxes.{box, boxOf, extentsOf, joined}
 use Rattle.geometry.specs.declared.extents.Extents.{Extents}
-
--- the box of one vertex
-abbrev pub at : Vertex → Extents
-at v = box (v .x) (v .x) (v .y) (v .y)
 
 -- boxes with equal sides
 pub same-box : {a b c d a′ b′ c′ d′ : ℤ} → a ≡ a′ → b ≡ b′ → c ≡ c′ → d ≡ d′ → box a b c d ≡ box a′ b′ c′ d′
@@ -39,27 +35,27 @@ with e vs =
 pub record Covering (P : Part) (k : ℕ) (e : Extents) : Type 0 where
   rest : with e (drop k P) ≡ extentsOf P
 
-pub covers-none : (P : Part) → length P ≡ 0 → at origin ≡ extentsOf P
+pub covers-none : (P : Part) → length P ≡ 0 → boxOf origin ≡ extentsOf P
 unfolding extentsOf smallestZ largestZ
 covers-none [] h = refl
 covers-none (v ∷ P) h = let never : ⊥ = omega arith in absurd never
 
-pub covers-first : (P : Part) → 0 < length P → Covering P 1 (at (vertexAt P 0))
+pub covers-first : (P : Part) → 0 < length P → Covering P 1 (boxOf (vertexAt P 0))
 unfolding with extentsOf smallestZ largestZ vertexAt
 covers-first [] h = absurd (not-suc-le-zero h)
 covers-first (v ∷ P) h = record { rest = refl }
 
 -- one vertex more
-with-next : (e : Extents) (v : Vertex) (vs : List Vertex) → with (joined e (at v)) vs ≡ with e (v ∷ vs)
+with-next : (e : Extents) (v : Vertex) (vs : List Vertex) → with (joined e (boxOf v)) vs ≡ with e (v ∷ vs)
 unfolding with joined smallestFrom largestFrom
 with-next e v vs = refl
 
-pub covers-next : (P : Part) (k : ℕ) (e : Extents) → k < length P → Covering P k e → Covering P (k + 1) (joined e (at (vertexAt P k)))
+pub covers-next : (P : Part) (k : ℕ) (e : Extents) → k < length P → Covering P k e → Covering P (k + 1) (joined e (boxOf (vertexAt P k)))
 unfolding vertexAt
 covers-next P k e h c =
     record {
       rest =
-          ap (λ m. with (joined e (at (getD P k origin))) (drop m P)) (add-one k)
+          ap (λ m. with (joined e (boxOf (getD P k origin))) (drop m P)) (add-one k)
           ∙ with-next e (getD P k origin) (drop (suc k) P)
           ∙ ap (λ (vs : Part). with e vs) (sym (drop-cons P k origin h))
           ∙ c .rest;

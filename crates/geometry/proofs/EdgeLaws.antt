@@ -1,24 +1,23 @@
 -- The edges of a part one after the other, and the vertices of a part against a limit along a direction. Assumes nothing.
 use mathlib.Core.Bool.{Bool, true, false, _||_}
-use mathlib.Core.List.{List, [], _∷_, map}
+use mathlib.Core.List.{[], _∷_, map}
 use mathlib.Core.Path.{_≡_, refl, sym, ap, _∙_}
-use Prim.Native.Nat.{ℕ, suc, _+_, _-_, _*_, _≤_, _<_}
+use Prim.Native.Nat.{ℕ, suc, _+_, _-_, _≤_, _<_}
 use native.Mathlib.Nat.{sub-zero}
 use native.Mathlib.Numerals.{add-one}
 use native.Mathlib.Omega.{arith}
 use borrow.Author.Tests.{eq-eqb, ne-eqb}
-use lib.IntN.{ℤ, pos, _-ℤ_}
+use lib.IntN.{ℤ}
 use lib.ListN.{length, getD}
 use lib.Signed.{leZ, _≤ℤ_, _<ℤ_}
 use Rattle.integers.proofs.Order.{leZ-true, le-leZ, clash}
-use Rattle.model.specs.Content.{Vertex, vertex, Part, origin}
-use Rattle.model.specs.Geometry.{Direction, direction, vertexAt, following, outwardNormal, normals}
+use Rattle.model.specs.Content.{Vertex, Part, origin}
+use Rattle.model.specs.Geometry.{Direction, vertexAt, following, outwardNormal, normals}
 use Rattle.model.specs.Lists.{any, rising, below, largestZ}
 use Rattle.model.proofs.Box.{all-below-bound}
 use Rattle.model.proofs.Lists.{all-at, all-of}
 use Rattle.model.proofs.Tests.{any-map}
-use Rattle.geometry.specs.Flat.{partOf, normalOf}
-use Rattle.geometry.proofs.Flat.{part-at}
+use Rattle.geometry.specs.Flat.{normalOf}
 
 -- ---- the edges
 
@@ -67,15 +66,10 @@ pub next-first : (P : Part) (k : ℕ) → suc k ≡ length P → 0 ≡ following
 unfolding following
 next-first P k h = rw (eq-eqb (suc k) (length P) h)
 
--- the normal of an edge, by the places of its vertices' numbers
-pub normal-at : (l : List ℤ) (k m : ℕ) → m ≡ following (partOf l) k → 2 * k + 1 < length l → 2 * m + 1 < length l
-    → normalOf (partOf l) k
-    ≡ direction (getD l (2 * m + 1) (pos 0) -ℤ getD l (2 * k + 1) (pos 0)) (getD l (2 * k) (pos 0) -ℤ getD l (2 * m) (pos 0))
-unfolding normalOf outwardNormal
-normal-at l k m e h g =
-    ap (λ i. outwardNormal (vertexAt (partOf l) k) (vertexAt (partOf l) i)) (sym e)
-    ∙ ap (λ v. outwardNormal v (vertexAt (partOf l) m)) (part-at l k h)
-    ∙ ap (λ v. outwardNormal (vertex (getD l (2 * k) (pos 0)) (getD l (2 * k + 1) (pos 0))) v) (part-at l m g)
+-- the normal of an edge, by the vertices that it joins
+pub normal-at : (P : Part) (k m : ℕ) → m ≡ following P k → outwardNormal (vertexAt P k) (vertexAt P m) ≡ normalOf P k
+unfolding normalOf
+normal-at P k m e = ap (λ i. outwardNormal (vertexAt P k) (vertexAt P i)) e
 
 -- ---- the vertices against a limit
 

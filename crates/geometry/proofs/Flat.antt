@@ -2,14 +2,14 @@
 use mathlib.Core.List.{List, [], _∷_}
 use mathlib.Core.Path.{_≡_, refl, sym, ap, _∙_}
 use Prim.Native.Nat.{ℕ, zero, suc, _+_, _*_, _/_, _<_}
-use native.Mathlib.Nat.{not-suc-le-zero}
+use native.Mathlib.Nat.{not-suc-le-zero, add-zero}
 use native.Mathlib.Omega.{arith}
 use lib.IntN.{ℤ, pos}
 use lib.ListN.{length, getD, set, take, drop}
 use lib.Seq.{drop-nil}
 use Rattle.model.specs.Content.{Vertex, vertex, Part}
 use Rattle.model.specs.Geometry.{vertexAt}
-use Rattle.geometry.specs.Flat.{partOf, withVertex}
+use Rattle.geometry.specs.Flat.{partOf, coordinateOf, withVertex}
 
 -- two numbers a vertex
 pub part-length : (l : List ℤ) → length (partOf l) ≡ length l / 2
@@ -30,6 +30,12 @@ part-at (x ∷ y ∷ l) (suc k) h =
   where
     at : (m n : ℕ) → m ≡ suc (suc n) → getD (x ∷ y ∷ l) m (pos 0) ≡ getD l n (pos 0)
     at m n e = ap (λ s. getD (x ∷ y ∷ l) s (pos 0)) e
+
+-- so coordinate c of it stands at 2 k + c
+pub coordinate-at : (l : List ℤ) (k c : ℕ) → 2 * k + 1 < length l → c < 2 → getD l (2 * k + c) (pos 0) ≡ coordinateOf c (vertexAt (partOf l) k)
+coordinate-at l k zero h g = ap (λ m. getD l m (pos 0)) (add-zero (2 * k)) ∙ sym (ap (λ v. v .x) (part-at l k h))
+coordinate-at l k (suc zero) h g = sym (ap (λ v. v .y) (part-at l k h))
+coordinate-at l k (suc (suc c)) h g = let never : ⊥ = omega arith in absurd never
 
 -- ---- parts of a run
 

@@ -1,24 +1,23 @@
 -- The sizes of what is computed along a direction: no operation wraps. Assumes nothing.
-use mathlib.Core.List.{[], _∷_, map}
+use mathlib.Core.List.{[], _∷_}
 use mathlib.Core.Path.{_≡_, refl, sym, _∙_, ap, subst}
-use Prim.Native.Nat.{ℕ, suc, _≤_, _<_, _^_}
-use native.Mathlib.Nat.{le-trans, le-of-lt, lt-of-le-of-lt, lt-of-lt-of-le, zero-add}
+use Prim.Native.Nat.{ℕ, suc, _+_, _≤_, _<_, _^_}
+use native.Mathlib.Nat.{le-trans, le-suc, le-of-eq, le-of-lt, lt-of-le-of-lt, lt-of-lt-of-le, zero-add, pow-succ'}
 use native.Mathlib.Omega.{arith}
-use lib.Dec.{lit<, lit≤}
-use lib.IntN.{ℤ, pos, negsuc, natAbs, _+ℤ_, _-ℤ_, _*ℤ_}
+use lib.Dec.{T, leb, leb→le, lit<, lit≤}
+use lib.IntN.{ℤ, pos, negsuc, negℤ, natAbs, _+ℤ_, _-ℤ_, _*ℤ_}
+use lib.Pow.{pow-mono}
 use lib.Signed.{natAbs-le, _≤ℤ_, _<ℤ_}
 use mir.Syntax.{Width, w16, w32, w64}
 use mir.Val.{Fits, SFits, hbits, toZ, ofZ}
-use mir.ValLaws.{toZ-ofZ}
-use borrow.Author.Needs.{needs}
+use mir.ValLaws.{toZ-ofZ, toZ-pos}
+use Rattle.integers.proofs.Absolute.{natAbs-+ℤ, natAbs-negℤ}
+use Rattle.integers.proofs.Machine.{cast-gives, op-fits, op-gives}
 use Rattle.integers.proofs.Order.{<ℤ-pos}
-use Rattle.integers.proofs.Products.{widened}
 use Rattle.integers.proofs.Sizes.{sized, bounded, fits-natAbs}
 use Rattle.integers.proofs.Solver.{ring, #, _⊞_, _⊟_, _⊠_, _≈_}
-use Rattle.model.specs.Content.{vertex, Part}
-use Rattle.model.specs.Geometry.{direction, along, clearance}
-use Rattle.model.specs.Lists.{smallestZ}
-use Rattle.geometry.specs.Reach.{Small, reachOf}
+use Rattle.model.specs.Geometry.{direction, clearance}
+use Rattle.geometry.specs.Reach.{Small}
 
 -- a number of w bits is at most half the width's range
 pub size-of : (w : Width) (z : ℤ) → SFits w z → natAbs z ≤ 2 ^ hbits w
@@ -28,30 +27,50 @@ size-of w z h = natAbs-le z (h .sfits)
 pub fits-64 : (z : ℤ) → natAbs z ≤ 2 ^ 62 → SFits w64 z
 fits-64 z h = fits-natAbs w64 z (lt-of-le-of-lt h (lit< tt))
 
--- ---- a × x + b × y
-
-module _ (a b x y : ℤ) (ha : SFits w32 a) (hb : SFits w32 b) (hx : SFits w16 x) (hy : SFits w16 y) where
-  pub projection-size : natAbs (a *ℤ x +ℤ b *ℤ y) ≤ 2 ^ 47
-  projection-size =
-      bounded (2 ^ 31 ∷ 2 ^ 31 ∷ 2 ^ 15 ∷ 2 ^ 15 ∷ []) 4 (λ a b x y. a ⊠ x ⊞ b ⊠ y) a b x y (size-of w32 a ha) (size-of w32 b hb) (size-of w16 x hx) (size-of w16 y hy)
-
-  pub projection-fits : SFits w64 (a *ℤ x +ℤ b *ℤ y)
-  projection-fits = fits-64 _ (le-trans projection-size (lit≤ tt))
-
-pub scaled-fits-64 : (a x : ℤ) → SFits w32 a → SFits w16 x → SFits w64 (a *ℤ x)
-scaled-fits-64 a x ha hx = fits-64 (a *ℤ x) (le-trans (bounded (2 ^ 31 ∷ 2 ^ 15 ∷ []) 2 (λ a x. a ⊠ x) a x (size-of w32 a ha) (size-of w16 x hx)) (lit≤ tt))
-
-pub ruleset projections = (widened, scaled-fits-64, projection-fits, projection-size, needs)
-
 -- ---- results that are small
 
 -- the same result, under another name for its value
 pub small-as : {u v : ℤ} {k : ℕ} {r : ℤ} → u ≡ v → Small u k r → Small v k r
 small-as e h = record { value = h .value ∙ e; size = h .size }
 
--- a result that went through the bits of a local
-pub small-read : {v : ℤ} {k : ℕ} {x z : ℤ} → SFits w64 x → x ≡ z → Small v k z → Small v k (toZ w64 (ofZ w64 x))
-small-read {v} {k} {x} {z} f e h = subst (Small v k) (sym e ∙ sym (toZ-ofZ w64 x f)) h
+-- the same value, under another name for the result
+pub small-at : {v : ℤ} {k : ℕ} {x z : ℤ} → x ≡ z → Small v k z → Small v k x
+small-at {v} {k} {x} {z} e h = subst (Small v k) (sym e) h
+
+pub small-more : {v : ℤ} {k : ℕ} {r : ℤ} → Small v k r → Small v (suc k) r
+small-more {v} {k} {r} h = record { value = h .value; size = le-trans (h .size) (pow-mono (le-suc k)) }
+
+-- it fits 64 bits, so it is what the bits of a local say
+module _ {v : ℤ} {k : ℕ} {r : ℤ} (h : Small v k r) (t : T (leb k 62)) where
+  pub small-fits : SFits w64 r
+  small-fits = fits-64 r (le-trans (h .size) (pow-mono (leb→le k 62 t)))
+
+  pub small-read : toZ w64 (ofZ w64 r) ≡ r
+  small-read = toZ-ofZ w64 r small-fits
+
+-- sums and differences of two
+module _ {u v : ℤ} {k : ℕ} {x y : ℤ} (h : Small u k x) (g : Small v k y) where
+  both : (n : ℕ) → n ≤ natAbs x + natAbs y → n ≤ 2 ^ suc k
+  both n l = omega (arith, h .size, g .size, pow-succ' 2 k)
+
+  pub small-sum : Small (u +ℤ v) (suc k) (x +ℤ y)
+  small-sum = record { value = λ i. h .value i +ℤ g .value i; size = both (natAbs (x +ℤ y)) (natAbs-+ℤ x y) }
+
+  pub small-difference : Small (u -ℤ v) (suc k) (x -ℤ y)
+  small-difference =
+      record { value = λ i. h .value i -ℤ g .value i; size = both (natAbs (x -ℤ y)) (le-trans (natAbs-+ℤ x (negℤ y)) (le-of-eq (ap (λ n. natAbs x + n) (natAbs-negℤ y)))) }
+
+-- ---- a × x + b × y
+
+pub dot-small : {a b x y r : ℤ} → SFits w32 a → SFits w32 b → SFits w16 x → SFits w16 y
+    → r ≡ toZ w32 (ofZ w32 a) *ℤ toZ w16 (ofZ w16 x) +ℤ toZ w32 (ofZ w32 b) *ℤ toZ w16 (ofZ w16 y) → Small (a *ℤ x +ℤ b *ℤ y) 47 r
+dot-small {a} {b} {x} {y} {r} ha hb hx hy e = small-at is (record { value = refl; size = size })
+  where
+    is : r ≡ a *ℤ x +ℤ b *ℤ y
+    is = e ∙ (λ i. toZ-ofZ w32 a ha i *ℤ toZ-ofZ w16 x hx i +ℤ toZ-ofZ w32 b hb i *ℤ toZ-ofZ w16 y hy i)
+
+    size : natAbs (a *ℤ x +ℤ b *ℤ y) ≤ 2 ^ 47
+    size = bounded (2 ^ 31 ∷ 2 ^ 31 ∷ 2 ^ 15 ∷ 2 ^ 15 ∷ []) 4 (λ a b x y. a ⊠ x ⊞ b ⊠ y) a b x y (size-of w32 a ha) (size-of w32 b hb) (size-of w16 x hx) (size-of w16 y hy)
 
 -- ---- the size of a number
 
@@ -63,76 +82,91 @@ pub from-zero : (a : ℤ) → SFits w32 a → pos 0 ≤ℤ a → Small (pos (nat
 from-zero (pos n) f h = record { value = refl; size = size-of w32 (pos n) f }
 from-zero (negsuc n) f h = absurd (h .le)
 
-pub opposite-fits : (a : ℤ) → SFits w32 a → SFits w64 (pos 0 -ℤ a)
-opposite-fits a f = fits-64 (pos 0 -ℤ a) (le-trans (bounded (2 ^ 31 ∷ []) 1 (λ a. # (pos 0) ⊟ a) a (size-of w32 a f)) (lit≤ tt))
-
-pub ruleset opposites = (widened, opposite-fits, needs)
-
 -- ---- the gap along a direction
 
-module _ (gap : ℕ) (a b m n : ℤ) (hg : Fits w16 gap) (hm : Small (pos (natAbs a)) 31 m) (hn : Small (pos (natAbs b)) 31 n) where
-  pub magnitudes-fit : SFits w64 (m +ℤ n)
-  magnitudes-fit = fits-64 (m +ℤ n) (le-trans (bounded (2 ^ 31 ∷ 2 ^ 31 ∷ []) 2 (λ m n. m ⊞ n) m n (hm .size) (hn .size)) (lit≤ tt))
+pub gap-read : {gap : ℕ} → Fits w16 gap → toZ w64 gap ≡ pos gap
+gap-read {gap} h = toZ-pos w64 gap (lt-of-lt-of-le (h .fits) (lit≤ tt))
 
-  gap-size : natAbs (pos gap *ℤ (m +ℤ n)) ≤ 2 ^ 48
-  gap-size = bounded (2 ^ 16 ∷ 2 ^ 31 ∷ 2 ^ 31 ∷ []) 3 (λ g m n. g ⊠ (m ⊞ n)) (pos gap) m n (le-of-lt (hg .fits)) (hm .size) (hn .size)
+pub gap-small : {gap : ℕ} (a b : ℤ) {s : ℤ} → Fits w16 gap → Small (pos (natAbs a) +ℤ pos (natAbs b)) 32 s → Small (clearance gap (direction a b)) 48 (pos gap *ℤ s)
+unfolding clearance
+gap-small {gap} a b {s} hg h =
+    record {
+      value = ap (λ z. pos gap *ℤ z) (h .value);
+      size = bounded (2 ^ 16 ∷ 2 ^ 32 ∷ []) 2 (λ g s. g ⊠ s) (pos gap) s (le-of-lt (hg .fits)) (h .size);
+    }
 
-  pub gap-fits : SFits w64 (pos gap *ℤ (m +ℤ n))
-  gap-fits = fits-64 (pos gap *ℤ (m +ℤ n)) (le-trans gap-size (lit≤ tt))
+-- ---- how far a part may lie
 
-  pub gap-small : Small (clearance gap (direction a b)) 48 (pos gap *ℤ (m +ℤ n))
-  unfolding clearance
-  gap-small =
-      record {
-        value = ap (λ s. pos gap *ℤ (s +ℤ n)) (hm .value) ∙ ap (λ s. pos gap *ℤ (pos (natAbs a) +ℤ s)) (hn .value);
-        size = gap-size;
-      }
+-- a number as it is read from the bits of a local
+abbrev read : ℤ → ℤ
+read z = toZ w64 (ofZ w64 z)
 
-pub natural-fits : (n : ℕ) → Fits w16 n → SFits w64 (pos n)
-natural-fits n h = record { sfits = lt-of-lt-of-le (h .fits) (lit≤ tt) }
+-- a least distance and the way of a move
+module _ {L P l p : ℤ} (hl : Small L 47 l) (hp : Small P 47 p) where
+  pub there-fits : SFits w64 (read l +ℤ read p)
+  there-fits = op-fits (small-read hl tt) (small-read hp tt) _+ℤ_ (small-fits (small-sum hl hp) tt)
 
--- ---- differences
+  there : read (read l +ℤ read p) ≡ l +ℤ p
+  there = op-gives (small-read hl tt) (small-read hp tt) _+ℤ_ (small-fits (small-sum hl hp) tt)
+
+  -- less the way of another move
+  module _ {Q q : ℤ} (hq : Small Q 47 q) where
+    apart : Small (L +ℤ P -ℤ Q) 49 (l +ℤ p -ℤ q)
+    apart = small-difference (small-sum hl hp) (small-more hq)
+
+    pub back-fits : SFits w64 (read (read l +ℤ read p) -ℤ read q)
+    back-fits = op-fits there (small-read hq tt) _-ℤ_ (small-fits apart tt)
+
+    back : read (read (read l +ℤ read p) -ℤ read q) ≡ l +ℤ p -ℤ q
+    back = op-gives there (small-read hq tt) _-ℤ_ (small-fits apart tt)
+
+    -- less the gap
+    module _ {G g : ℤ} (hg : Small G 48 g) where
+      rest : Small (L +ℤ P -ℤ Q -ℤ G) 50 (l +ℤ p -ℤ q -ℤ g)
+      rest = small-difference apart (small-more hg)
+
+      pub reach-fits : SFits w64 (read (read (read l +ℤ read p) -ℤ read q) -ℤ read g)
+      reach-fits = op-fits back (small-read hg tt) _-ℤ_ (small-fits rest tt)
+
+      pub reach-gives : read (read (read (read l +ℤ read p) -ℤ read q) -ℤ read g) ≡ L +ℤ P -ℤ Q -ℤ G
+      reach-gives = op-gives back (small-read hg tt) _-ℤ_ (small-fits rest tt) ∙ rest .value
+
+-- the move of the second part less that of the first is their difference
+pub one-move : (S C a b qx qy px py : ℤ) → S +ℤ (a *ℤ qx +ℤ b *ℤ qy) -ℤ (a *ℤ px +ℤ b *ℤ py) -ℤ C ≡ S +ℤ (a *ℤ (qx -ℤ px) +ℤ b *ℤ (qy -ℤ py)) -ℤ C
+one-move = ring 8 (λ S C a b qx qy px py. S ⊞ (a ⊠ qx ⊞ b ⊠ qy) ⊟ (a ⊠ px ⊞ b ⊠ py) ⊟ C ≈ S ⊞ (a ⊠ (qx ⊟ px) ⊞ b ⊠ (qy ⊟ py)) ⊟ C) tt
+
+-- ---- differences and sums of coordinates
+
+pub opposite-fits : (a : ℤ) → SFits w32 a → SFits w64 (pos 0 -ℤ a)
+opposite-fits = sized w32 w64 1 (λ a. # (pos 0) ⊟ a) tt
 
 pub difference-fits : (u w : ℤ) → SFits w16 u → SFits w16 w → SFits w32 (u -ℤ w)
 difference-fits = sized w16 w32 2 (λ u w. u ⊟ w) tt
 
-pub ruleset differences = (widened, difference-fits, needs)
+-- a coordinate that was cast
+abbrev cast : ℤ → ℤ
+cast z = toZ w64 (ofZ w64 (toZ w16 (ofZ w16 z)))
 
--- ---- how far a part may lie
+-- an end and its move
+module _ {h f : ℤ} (hh : SFits w16 h) (hf : SFits w16 f) where
+  ends : SFits w64 (h +ℤ f)
+  ends = sized w16 w64 2 (λ h f. h ⊞ f) tt h f hh hf
 
-module _ (l p q g : ℤ) (hl : natAbs l ≤ 2 ^ 47) (hp : natAbs p ≤ 2 ^ 47) where
-  pub reach-sum-fits : SFits w64 (l +ℤ p)
-  reach-sum-fits = fits-64 (l +ℤ p) (le-trans (bounded (2 ^ 47 ∷ 2 ^ 47 ∷ []) 2 (λ l p. l ⊞ p) l p hl hp) (lit≤ tt))
+  pub end-fits : SFits w64 (cast h +ℤ cast f)
+  end-fits = op-fits (cast-gives w64 hh tt) (cast-gives w64 hf tt) _+ℤ_ ends
 
-  pub reach-difference-fits : natAbs q ≤ 2 ^ 47 → SFits w64 (l +ℤ p -ℤ q)
-  reach-difference-fits hq = fits-64 (l +ℤ p -ℤ q) (le-trans (bounded (2 ^ 47 ∷ 2 ^ 47 ∷ 2 ^ 47 ∷ []) 3 (λ l p q. l ⊞ p ⊟ q) l p q hl hp hq) (lit≤ tt))
+  pub end-gives : read (cast h +ℤ cast f) ≡ h +ℤ f
+  end-gives = op-gives (cast-gives w64 hh tt) (cast-gives w64 hf tt) _+ℤ_ ends
 
-  pub reach-fits : natAbs q ≤ 2 ^ 47 → natAbs g ≤ 2 ^ 48 → SFits w64 (l +ℤ p -ℤ q -ℤ g)
-  reach-fits hq hg =
-      fits-64 (l +ℤ p -ℤ q -ℤ g) (le-trans (bounded (2 ^ 47 ∷ 2 ^ 47 ∷ 2 ^ 47 ∷ 2 ^ 48 ∷ []) 4 (λ l p q g. l ⊞ p ⊟ q ⊟ g) l p q g hl hp hq hg) (lit≤ tt))
+  -- and the gap
+  module _ {gap : ℕ} (hg : Fits w16 gap) where
+    padded : SFits w64 (h +ℤ f +ℤ pos gap)
+    padded =
+        fits-64 (h +ℤ f +ℤ pos gap)
+        (le-trans (bounded (2 ^ 15 ∷ 2 ^ 15 ∷ 2 ^ 16 ∷ []) 3 (λ h f g. h ⊞ f ⊞ g) h f (pos gap) (size-of w16 h hh) (size-of w16 f hf) (le-of-lt (hg .fits))) (lit≤ tt))
 
-pub ruleset reaches = (reach-sum-fits, reach-difference-fits, reach-fits, needs)
+    pub padded-fits : SFits w64 (read (cast h +ℤ cast f) +ℤ toZ w64 gap)
+    padded-fits = op-fits end-gives (gap-read hg) _+ℤ_ padded
 
--- the sum is the model's, with the two moves as one
-pub reach-is : (gap : ℕ) (Q : Part) (a b qx qy px py l p q g : ℤ) → l ≡ smallestZ (map (along (direction a b)) Q) → p ≡ a *ℤ qx +ℤ b *ℤ qy → q ≡ a *ℤ px +ℤ b *ℤ py
-    → g ≡ clearance gap (direction a b) → l +ℤ p -ℤ q -ℤ g ≡ reachOf gap Q (vertex (qx -ℤ px) (qy -ℤ py)) (direction a b)
-unfolding reachOf along
-reach-is gap Q a b qx qy px py l p q g el ep eq eg =
-    ap (λ s. s +ℤ p -ℤ q -ℤ g) el
-    ∙ ap (λ s. smallestZ (map (along (direction a b)) Q) +ℤ s -ℤ q -ℤ g) ep
-    ∙ ap (λ s. smallestZ (map (along (direction a b)) Q) +ℤ (a *ℤ qx +ℤ b *ℤ qy) -ℤ s -ℤ g) eq
-    ∙ ap (λ s. smallestZ (map (along (direction a b)) Q) +ℤ (a *ℤ qx +ℤ b *ℤ qy) -ℤ (a *ℤ px +ℤ b *ℤ py) -ℤ s) eg
-    ∙ ring 8 (λ S C a b qx qy px py. S ⊞ (a ⊠ qx ⊞ b ⊠ qy) ⊟ (a ⊠ px ⊞ b ⊠ py) ⊟ C ≈ S ⊞ (a ⊠ (qx ⊟ px) ⊞ b ⊠ (qy ⊟ py)) ⊟ C) tt
-    (smallestZ (map (along (direction a b)) Q)) (clearance gap (direction a b)) a b qx qy px py
-
--- ---- one axis
-
-pub ends-fit : (h f : ℤ) → SFits w16 h → SFits w16 f → SFits w64 (h +ℤ f)
-ends-fit = sized w16 w64 2 (λ h f. h ⊞ f) tt
-
-pub padded-fits : (h f : ℤ) (gap : ℕ) → SFits w16 h → SFits w16 f → Fits w16 gap → SFits w64 (h +ℤ f +ℤ pos gap)
-padded-fits h f gap hh hf g =
-    fits-64 (h +ℤ f +ℤ pos gap)
-    (le-trans (bounded (2 ^ 15 ∷ 2 ^ 15 ∷ 2 ^ 16 ∷ []) 3 (λ h f g. h ⊞ f ⊞ g) h f (pos gap) (size-of w16 h hh) (size-of w16 f hf) (le-of-lt (g .fits))) (lit≤ tt))
-
-pub ruleset axis = (widened, ends-fit, needs)
+    pub padded-gives : read (read (cast h +ℤ cast f) +ℤ toZ w64 gap) ≡ h +ℤ f +ℤ pos gap
+    padded-gives = op-gives end-gives (gap-read hg) _+ℤ_ padded

@@ -15,6 +15,10 @@ use Rattle.geometry.specs.declared.extents.Extents.{Extents}
 abbrev pub box : ℤ → ℤ → ℤ → ℤ → Extents
 box lowX highX lowY highY = record { «min_x» = lowX; «max_x» = highX; «min_y» = lowY; «max_y» = highY }
 
+-- The box of one vertex.
+abbrev pub boxOf : Vertex → Extents
+boxOf v = box (v .x) (v .x) (v .y) (v .y)
+
 -- The least and the largest x and y of some vertices. (Of none, 0.)
 unfoldable pub extentsOf : List Vertex → Extents
 extentsOf vs = box (smallestZ (map (λ v. v .x) vs)) (largestZ (map (λ v. v .x) vs)) (smallestZ (map (λ v. v .y) vs)) (largestZ (map (λ v. v .y) vs))

@@ -2,7 +2,7 @@
 ghost use mathlib.Core.List.{map};
 ghost use mathlib.Core.Path.{_≡_};
 ghost use Prim.Native.Nat.{_+_, _*_, _<_};
-ghost use lib.IntN.{natAbs, pos, _+ℤ_, _-ℤ_, _*ℤ_};
+ghost use lib.IntN.{natAbs, pos, _-ℤ_};
 ghost use lib.ListN.{length};
 ghost use Rattle.integers.specs.Extrema.{minZ};
 ghost use Rattle.model.specs.Content.{vertex};
@@ -11,23 +11,18 @@ ghost use Rattle.model.specs.Geometry.{direction, vertexAt, clearance};
 ghost use Rattle.model.specs.Lists.{smallestZ};
 ghost use Rattle.geometry.specs.Flat.{partOf};
 ghost use Rattle.geometry.specs.Reach.{Small, reachOf};
-
-// a × x + b × y.
-pub fn project(a: i32, b: i32, x: i16, y: i16) -> i64
-    ensures { λ r. ⌜ Small (a *ℤ x +ℤ b *ℤ y) 47 r ⌝ }
-{
-    (a as i64) * (x as i64) + (b as i64) * (y as i64)
-}
+use super::vertices::coordinate;
+use integers::dot;
 
 // The size of a number, whatever its sign.
-pub fn magnitude(a: i32) -> i64
+fn magnitude(a: i32) -> i64
     ensures { λ r. ⌜ Small (pos (natAbs a)) 31 r ⌝ }
 {
     if a < 0 { 0 - (a as i64) } else { a as i64 }
 }
 
 // How far the gap reaches along (a, b): gap × (|a| + |b|).
-pub fn gap_along(gap: u16, a: i32, b: i32) -> i64
+fn gap_along(gap: u16, a: i32, b: i32) -> i64
     ensures { λ r. ⌜ Small (clearance gap (direction a b)) 48 r ⌝ }
 {
     (gap as i64) * (magnitude(a) + magnitude(b))
@@ -38,18 +33,18 @@ pub fn vertex_along(p: &[i16], k: usize, a: i32, b: i32) -> i64
     requires { ⌜ 2 * k + 1 < length (now p) ⌝ }
     ensures { λ r. ⌜ Small (Geometry.along (direction a b) (vertexAt (partOf (now (p .entry))) k)) 47 r ⌝ }
 {
-    project(a, b, p[2 * k], p[2 * k + 1])
+    dot(a, b, coordinate(p, k, 0), coordinate(p, k, 1))
 }
 
 // The smaller of two numbers.
-pub fn lesser(a: i64, b: i64) -> i64
+fn lesser(a: i64, b: i64) -> i64
     ensures { λ r. ⌜ r ≡ minZ a b ⌝ }
 {
     if a <= b { a } else { b }
 }
 
 // The least that a vertex of the part lies along (a, b); 0 if it has none.
-pub fn lowest(p: &[i16], a: i32, b: i32) -> i64
+fn lowest(p: &[i16], a: i32, b: i32) -> i64
     ensures { λ r. ⌜ Small (smallestZ (map (Geometry.along (direction a b)) (partOf (now (p .entry))))) 47 r ⌝ }
 {
     let n = p.len() / 2;
@@ -69,5 +64,5 @@ pub fn lowest(p: &[i16], a: i32, b: i32) -> i64
 pub fn reach(q: &[i16], qx: i16, qy: i16, px: i16, py: i16, a: i32, b: i32, gap: u16) -> i64
     ensures { λ r. ⌜ r ≡ reachOf gap (partOf (now (q .entry))) (vertex (qx -ℤ px) (qy -ℤ py)) (direction a b) ⌝ }
 {
-    lowest(q, a, b) + project(a, b, qx, qy) - project(a, b, px, py) - gap_along(gap, a, b)
+    lowest(q, a, b) + dot(a, b, qx, qy) - dot(a, b, px, py) - gap_along(gap, a, b)
 }

@@ -4,44 +4,28 @@ ghost use Prim.Native.Nat.{_+_, _*_, _<_};
 ghost use lib.IntN.{_-ℤ_};
 ghost use lib.ListN.{length};
 ghost use Rattle.model.specs.Content.{vertex};
-ghost use Rattle.model.specs.Geometry.{following, normals};
+ghost use Rattle.model.specs.Geometry.{vertexAt, following, normals};
 ghost use Rattle.model.specs.Lists.{any};
-ghost use Rattle.geometry.specs.Flat.{partOf, normalOf};
+ghost use Rattle.geometry.specs.Flat.{partOf, coordinateOf};
 ghost use Rattle.geometry.specs.Reach.{clears};
 use super::along::reach;
 use super::along::vertex_along;
+use super::vertices::coordinate;
 
-// The difference of two numbers.
-pub fn difference(u: i16, w: i16) -> i32
-    ensures { λ r. ⌜ r ≡ u -ℤ w ⌝ }
+// Coordinate c of vertex m less that of vertex k.
+fn difference(p: &[i16], m: usize, k: usize, c: usize) -> i32
+    requires { ⌜ (2 * m + 1 < length (now p)) × (2 * k + 1 < length (now p)) × (c < 2) ⌝ }
+    ensures { λ r. ⌜ r ≡ coordinateOf c (vertexAt (partOf (now (p .entry))) m) -ℤ coordinateOf c (vertexAt (partOf (now (p .entry))) k) ⌝ }
 {
-    (u as i32) - (w as i32)
+    (coordinate(p, m, c) as i32) - (coordinate(p, k, c) as i32)
 }
 
 // The vertex after vertex k: the first one after the last.
-pub fn next_vertex(p: &[i16], k: usize) -> usize
+fn next_vertex(p: &[i16], k: usize) -> usize
     requires { ⌜ 2 * k + 1 < length (now p) ⌝ }
     ensures { λ r. ⌜ (r ≡ following (partOf (now (p .entry))) k) × (2 * r + 1 < length (now (p .entry))) ⌝ }
 {
     if 2 * k + 3 < p.len() { k + 1 } else { 0 }
-}
-
-// The outward normal of the edge from vertex k to the next one: its x.
-pub fn normal_x(p: &[i16], k: usize) -> i32
-    requires { ⌜ 2 * k + 1 < length (now p) ⌝ }
-    ensures { λ r. ⌜ r ≡ normalOf (partOf (now (p .entry))) k .a ⌝ }
-{
-    let m = next_vertex(p, k);
-    difference(p[2 * m + 1], p[2 * k + 1])
-}
-
-// And its y.
-pub fn normal_y(p: &[i16], k: usize) -> i32
-    requires { ⌜ 2 * k + 1 < length (now p) ⌝ }
-    ensures { λ r. ⌜ r ≡ normalOf (partOf (now (p .entry))) k .b ⌝ }
-{
-    let m = next_vertex(p, k);
-    difference(p[2 * k], p[2 * m])
 }
 
 // Whether the outward normal of an edge of p separates p, moved by (px, py), from q, moved by (qx, qy). The first one that does ends the
@@ -50,21 +34,20 @@ pub fn edges_separate(p: &[i16], px: i16, py: i16, q: &[i16], qx: i16, qy: i16, 
     ensures { λ r. ⌜ r ≡ any (clears gap (partOf (now (p .entry))) (partOf (now (q .entry))) (vertex (qx -ℤ px) (qy -ℤ py))) (normals (partOf (now (p .entry)))) ⌝ }
 {
     let n = p.len() / 2;
-    let mut found = false;
     let mut k: usize = 0;
-    'directions: while k < n {
-        let a = normal_x(p, k);
-        let b = normal_y(p, k);
+    while k < n {
+        let m = next_vertex(p, k);
+        let a = difference(p, m, k, 1);
+        let b = difference(p, k, m, 0);
         let limit = reach(q, qx, qy, px, py, a, b, gap);
         let mut i: usize = 0;
         while vertex_along(p, i, a, b) <= limit {
             i += 1;
             if i == n {
-                found = true;
-                break 'directions;
+                return true;
             }
         }
         k += 1;
     }
-    found
+    false
 }

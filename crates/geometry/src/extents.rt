@@ -1,8 +1,12 @@
 // The bounding box of a part.
 ghost use mathlib.Core.Path.{_≡_};
+ghost use Prim.Native.Nat.{_+_, _*_, _<_};
+ghost use lib.ListN.{length};
 ghost use Rattle.integers.specs.Extrema.{maxZ, minZ};
+ghost use Rattle.model.specs.Geometry.{vertexAt};
 ghost use Rattle.geometry.specs.Flat.{partOf};
-ghost use Rattle.geometry.specs.Boxes.{box, extentsOf, joined};
+ghost use Rattle.geometry.specs.Boxes.{box, boxOf, extentsOf, joined};
+use super::vertices::coordinate;
 
 // The least and the largest x and y.
 pub struct Extents {
@@ -13,14 +17,14 @@ pub struct Extents {
 }
 
 // The smaller of two coordinates.
-pub fn smaller(a: i16, b: i16) -> i16
+fn smaller(a: i16, b: i16) -> i16
     ensures { λ r. ⌜ r ≡ minZ a b ⌝ }
 {
     if a <= b { a } else { b }
 }
 
 // The larger of two coordinates.
-pub fn larger(a: i16, b: i16) -> i16
+fn larger(a: i16, b: i16) -> i16
     ensures { λ r. ⌜ r ≡ maxZ a b ⌝ }
 {
     if a <= b { b } else { a }
@@ -50,6 +54,14 @@ pub fn join(e: Extents, f: Extents) -> Extents
     }
 }
 
+// The box of vertex k.
+fn corner(p: &[i16], k: usize) -> Extents
+    requires { ⌜ 2 * k + 1 < length (now p) ⌝ }
+    ensures { λ r. ⌜ r ≡ boxOf (vertexAt (partOf (now (p .entry))) k) ⌝ }
+{
+    point(coordinate(p, k, 0), coordinate(p, k, 1))
+}
+
 // The box of a part; of no vertex, all 0.
 pub fn bounds(p: &[i16]) -> Extents
     ensures { λ r. ⌜ r ≡ extentsOf (partOf (now (p .entry))) ⌝ }
@@ -58,10 +70,10 @@ pub fn bounds(p: &[i16]) -> Extents
     if n == 0 {
         return point(0, 0);
     }
-    let mut e = point(p[0], p[1]);
+    let mut e = corner(p, 0);
     let mut k: usize = 1;
     while k < n {
-        e = join(e, point(p[2 * k], p[2 * k + 1]));
+        e = join(e, corner(p, k));
         k += 1;
     }
     e

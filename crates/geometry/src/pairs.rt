@@ -9,14 +9,14 @@ use super::extents::Extents;
 use super::extents::bounds;
 
 // Whether what ends at `high` and is moved by `from` clears, by the gap, what begins at `low` and is moved by `to`.
-pub fn clear_of(high: i16, from: i16, low: i16, to: i16, gap: u16) -> bool
+fn clear_of(high: i16, from: i16, low: i16, to: i16, gap: u16) -> bool
     ensures { λ r. ⌜ r ≡ clearOf gap high from low to ⌝ }
 {
     (high as i64) + (from as i64) + (gap as i64) <= (low as i64) + (to as i64)
 }
 
 // Whether an axis direction separates parts of these boxes, the second moved by (dx, dy).
-pub fn axes_separate(e: Extents, f: Extents, dx: i16, dy: i16, gap: u16) -> bool
+fn axes_separate(e: Extents, f: Extents, dx: i16, dy: i16, gap: u16) -> bool
     ensures { λ r. ⌜ r ≡ boxesApart gap e f dx dy ⌝ }
 {
     clear_of(e.max_x, 0, f.min_x, dx, gap)
@@ -26,7 +26,7 @@ pub fn axes_separate(e: Extents, f: Extents, dx: i16, dy: i16, gap: u16) -> bool
 }
 
 // The axis directions are cheap and decide most pairs, so they are tried first. Then the normals of p, and those of q.
-pub fn apart_at(p: &[i16], q: &[i16], dx: i16, dy: i16, gap: u16) -> bool
+fn apart_at(p: &[i16], q: &[i16], dx: i16, dy: i16, gap: u16) -> bool
     ensures { λ r. ⌜ r ≡ apartAt gap (partOf (now (p .entry))) (partOf (now (q .entry))) dx dy ⌝ }
 {
     if axes_separate(bounds(p), bounds(q), dx, dy, gap) {

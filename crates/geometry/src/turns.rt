@@ -8,7 +8,7 @@ ghost use Rattle.model.specs.Geometry.{rotated};
 ghost use Rattle.geometry.specs.Flat.{withVertex};
 
 // The x of the vertex (x, y) after so many quarter turns.
-pub fn rotated_x(x: i16, y: i16, rotation: usize) -> i16
+fn rotated_x(x: i16, y: i16, rotation: usize) -> i16
     requires { ⌜ (rotation < 4) × (natAbs x < 32768) × (natAbs y < 32768) ⌝ }
     ensures { λ r. ⌜ r ≡ rotated rotation (vertex x y) .x ⌝ }
 {
@@ -20,24 +20,11 @@ pub fn rotated_x(x: i16, y: i16, rotation: usize) -> i16
     }
 }
 
-// And its y, which is the x after one turn less.
-pub fn rotated_y(x: i16, y: i16, rotation: usize) -> i16
-    requires { ⌜ (rotation < 4) × (natAbs x < 32768) × (natAbs y < 32768) ⌝ }
-    ensures { λ r. ⌜ r ≡ rotated rotation (vertex x y) .y ⌝ }
-{
-    match rotation {
-        0 => y,
-        1 => x,
-        2 => 0 - y,
-        _ => 0 - x,
-    }
-}
-
-// Writes the vertex (x, y), turned, at `at`. (-32768 has no opposite of 16 bits; the coordinates of a job are from -127 to 127.)
+// Writes the vertex (x, y), turned, at `at`: its y is the x after one turn less. (-32768 has no opposite of 16 bits; the coordinates of a job are from -127 to 127.)
 pub fn put_rotated(dst: &mut [i16], at: usize, x: i16, y: i16, rotation: usize)
     requires { ⌜ (at + 1 < length (now dst)) × (rotation < 4) × (natAbs x < 32768) × (natAbs y < 32768) ⌝ }
     ensures { λ _. ⌜ now (dst .exit) ≡ withVertex (now (dst .entry)) at (rotated rotation (vertex x y)) ⌝ }
 {
     dst[at] = rotated_x(x, y, rotation);
-    dst[at + 1] = rotated_y(x, y, rotation);
+    dst[at + 1] = rotated_x(x, y, (rotation + 3) % 4);
 }

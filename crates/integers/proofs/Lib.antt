@@ -8,7 +8,7 @@ pub mod Absolute
 pub mod Extrema
 pub mod Linear
 pub mod Sizes
-pub mod Machine
 pub mod Products
+pub mod Machine
 pub mod Bytes
 pub mod Examples

@@ -6,17 +6,18 @@ ghost use lib.ListN.{length, getD};
 ghost use Rattle.integers.specs.Byte.{signed};
 
 // The dot product of the vectors (ax, ay) and (bx, by).
-pub fn dot(ax: i16, ay: i16, bx: i16, by: i16) -> i64
+pub fn dot(ax: i32, ay: i32, bx: i16, by: i16) -> i64
     ensures { λ r. ⌜ r ≡ ax *ℤ bx +ℤ ay *ℤ by ⌝ }
 {
     (ax as i64) * (bx as i64) + (ay as i64) * (by as i64)
 }
 
-// The cross product of the vectors (ax, ay) and (bx, by): twice the signed area that they span.
+// The cross product of the vectors (ax, ay) and (bx, by), twice the signed area that they span: the dot product of the first and the
+// second turned a quarter back.
 pub fn cross(ax: i16, ay: i16, bx: i16, by: i16) -> i64
     ensures { λ r. ⌜ r ≡ ax *ℤ by -ℤ ay *ℤ bx ⌝ }
 {
-    (ax as i64) * (by as i64) - (ay as i64) * (bx as i64)
+    dot(by as i32, 0 - (bx as i32), ax, ay)
 }
 
 // A byte as a signed number.

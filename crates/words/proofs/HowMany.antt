@@ -40,17 +40,6 @@ unfolding howMany
 howMany-none zero p h = refl
 howMany-none (suc n) p h = rw (h n (omega arith), howMany-none n p (λ i l. h i (omega arith)))
 
--- The count is 0: none is met.
-pub none-of-howMany : (n : ℕ) (p : ℕ → Bool) → howMany n p ≡ 0 → (i : ℕ) → i < n → p i ≡ false
-unfolding howMany
-none-of-howMany zero p e i h = absurd (omega arith)
-none-of-howMany (suc n) p e i h = go (p n) refl e (eq-or-ne i n) (none-of-howMany n p)
-  where
-    go : (b : Bool) → p n ≡ b → cond b 1 0 + howMany n p ≡ 0 → (i ≡ n) ⊎ (i ≡ n → ⊥) → (howMany n p ≡ 0 → (j : ℕ) → j < n → p j ≡ false) → p i ≡ false
-    go true q z d rest = absurd (omega arith)
-    go false q z (inl d) rest = ap p d ∙ q
-    go false q z (inr d) rest = rest (omega arith) i (omega arith)
-
 -- One more number meets q than p: the count is one more.
 pub howMany-more : (n m : ℕ) (p q : ℕ → Bool) → m < n → ((i : ℕ) → (i ≡ m → ⊥) → q i ≡ p i) → p m ≡ false → q m ≡ true → howMany n q ≡ howMany n p + 1
 unfolding howMany

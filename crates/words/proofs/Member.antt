@@ -6,7 +6,7 @@ use mathlib.Core.Logic.{_⊎_, inl, inr}
 use Prim.Native.Nat.{ℕ, _+_, _*_, _/_, _%_, _^_, _≤_, _<_}
 use native.Mathlib.Nat.{mod-eq-of-lt, lt-of-le-of-lt}
 use native.Mathlib.Omega.{arith}
-use lib.Count.{ones, ones-le}
+use lib.Count.{ones}
 use lib.Dec.{eqb}
 use lib.ListN.{length, take, drop, replicate, length-replicate, getD-replicate, replicate-append-replicate}
 use borrow.Author.Tests.{eq-eqb, ne-eqb}
@@ -17,8 +17,8 @@ use Rattle.words.specs.Sets.{wordOffset, member, changed, withMember, wi
 use Rattle.words.proofs.Cases.{eq-or-ne, le-or-lt}
 use Rattle.words.proofs.Place.{numberAt-drop, numberAt-take, length-withNumber, withNumber-bytes, withNumber-numberAt, numberAt-lt, numberAt-same, numberAt-other}
 use Rattle.words.proofs.Row.{filled-none, filled-more, length-filled, filled-bytes, numberAt-filled, numberAt-behind-filled}
-use Rattle.words.proofs.Bit.{bits-same, testBit-none, testBit-with, testBit-without, withBit-lt, withoutBit-le}
-use Rattle.words.proofs.HowMany.{howMany-cong, howMany-add, howMany-none, none-of-howMany, howMany-more, howMany-bits}
+use Rattle.words.proofs.Bit.{testBit-none, testBit-with, testBit-without, withBit-lt, withoutBit-le}
+use Rattle.words.proofs.HowMany.{howMany-cong, howMany-add, howMany-none, howMany-more, howMany-bits}
 
 -- A word of a list of bytes fits 64 bits.
 pub word-lt : (s : List ℕ) (i : ℕ) → AreBytes s → numberAt 8 s i < 2 ^ 64
@@ -126,15 +126,10 @@ module _ (s : List ℕ) (n : ℕ) (h : AreBytes s) (fits : wordOffset n + 8 ≤ 
 
 -- ---- the count
 
--- It is 0 where no number is a member,
+-- It is 0 where no number is a member.
 pub count-none : (k : ℕ) (s : List ℕ) → ((i : ℕ) → i < k → member s i ≡ false) → countMembers k s ≡ 0
 unfolding countMembers
 count-none k s h = howMany-none k (member s) h
-
--- and only there.
-pub none-of-count : (k : ℕ) (s : List ℕ) → countMembers k s ≡ 0 → (i : ℕ) → i < k → member s i ≡ false
-unfolding countMembers
-none-of-count k s e = none-of-howMany k (member s) e
 
 -- Number i of word k is bit i of that word.
 pub member-word : (s : List ℕ) (k i : ℕ) → i < 64 → member s (k * 64 + i) ≡ testBit (numberAt 8 s (k * 8)) i
@@ -158,16 +153,6 @@ count-word s k h =
     ∙ ap (λ (x : ℕ). howMany (k * 64) (member s) + x)
     (howMany-cong 64 (λ i. member s (k * 64 + i)) (testBit (numberAt 8 s (k * 8))) (member-word s k)
     ∙ howMany-bits 64 (numberAt 8 s (k * 8)) (word-lt s (k * 8) h))
-
--- A word that is 0 has no member.
-pub count-zero-word : (s : List ℕ) (k : ℕ) → AreBytes s → countMembers (k * 64) s ≡ 0 → numberAt 8 s (k * 8) ≡ 0 → countMembers ((k + 1) * 64) s ≡ 0
-count-zero-word s k h e z = rw (count-word s k h, e, z) (omega (arith, ones-le 0 0 (omega arith)))
-
--- Where the first words have no member, each of them is 0.
-pub word-of-none : (s : List ℕ) (k words : ℕ) → AreBytes s → k < words → countMembers (words * 64) s ≡ 0 → numberAt 8 s (k * 8) ≡ 0
-word-of-none s k words h l e =
-    bits-same 64 (numberAt 8 s (k * 8)) 0 (word-lt s (k * 8) h) (omega arith)
-    (λ i j. sym (member-word s k i j) ∙ none-of-count (words * 64) s e (k * 64 + i) (omega arith) ∙ sym (testBit-none i))
 
 -- ---- words that became zero
 

@@ -1,11 +1,11 @@
 -- A number of k bytes read and written at a place of a list of bytes, at every k.
 use mathlib.Core.Path.{_≡_, refl, sym, ap, _∙_, subst}
 use mathlib.Core.Logic.{_⊎_, inl, inr}
-use mathlib.Core.List.{List, [], _∷_, _++_, append-assoc}
+use mathlib.Core.List.{List, [], _∷_, _++_, append-assoc, append-nil}
 use Prim.Native.Nat.{ℕ, zero, suc, _+_, _-_, _*_, _/_, _%_, _^_, _≤_, _<_}
 use native.Mathlib.Nat.{one-mul, mul-assoc, add-assoc, zero-add, add-sub-of-le, pow-succ', add-zero, suc-add, add-suc, mod-eq-of-lt}
 use native.Mathlib.Omega.{arith}
-use lib.ListN.{length, getD, take, drop, length-append, length-drop, take-append-drop}
+use lib.ListN.{length, getD, set, take, drop, length-append, length-drop, length-set, take-append-drop}
 use lib.Seq.{take-all, take-add, take-at, drop-at, length-take-le, drop-drop, getD-take, getD-drop, sets, sets-eq, take-nil}
 use Rattle.words.specs.Number.{value, bytes, numberAt, withNumber}
 use Rattle.words.specs.Bytes.{AreBytes}
@@ -155,6 +155,23 @@ pub withNumber-add : (j k : ℕ) (s : List ℕ) (i n : ℕ) → i + j ≤ length
 unfolding withNumber
 withNumber-add j k s i n fits =
     rw (two-writes j s i (n % 256 ^ j) fits, bytes-mod, bytes-add, ← add-assoc) (simp append-assoc)
+
+-- A write of no bytes changes nothing.
+pub withNumber-none : (s : List ℕ) (i n : ℕ) → withNumber 0 s i n ≡ s
+unfolding withNumber bytes
+withNumber-none s i n = rw (add-zero, append-nil) (take-append-drop i s)
+
+-- What is left of a write of m bytes after the first k is byte k and what is left then: the law of a loop that writes.
+pub withNumber-next : (m k : ℕ) (s : List ℕ) (i n : ℕ) → k < m → i + m ≤ length s
+    → withNumber (m - k) s (i + k) n ≡ withNumber (m - (k + 1)) (set s (i + k) (n % 256)) (i + (k + 1)) (n / 256)
+unfolding bytes
+withNumber-next m k s i n h fits =
+    let left : m - k ≡ suc (m - (k + 1)) = omega arith in
+    let next : suc (i + k) ≡ i + (k + 1) = omega arith in
+    ap (λ (j : ℕ). withNumber j s (i + k) n) left
+    ∙ withNumber-sets (suc (m - (k + 1))) s (i + k) n (omega arith)
+    ∙ ap (λ (j : ℕ). sets (set s (i + k) (n % 256)) j (bytes (m - (k + 1)) (n / 256))) next
+    ∙ sym (withNumber-sets (m - (k + 1)) (set s (i + k) (n % 256)) (i + (k + 1)) (n / 256) (rw length-set (omega arith)))
 
 -- A write of k bytes sees no more of the number than k bytes hold.
 pub withNumber-mod : (k : ℕ) (s : List ℕ) (i n : ℕ) → withNumber k s i (n % 256 ^ k) ≡ withNumber k s i n

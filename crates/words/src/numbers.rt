@@ -55,11 +55,11 @@ pub fn put_u64(s: &mut [u8], i: usize, n: u64)
     requires { ⌜ i + 8 ≤ length (now s) ⌝ }
     ensures { λ _. ⌜ now (s .exit) ≡ withNumber 8 (now (s .entry)) i n ⌝ }
 {
-    let second = n / 65536;
-    let third = second / 65536;
-    let fourth = third / 65536;
-    put_u16(s, i, (n % 65536) as u16);
-    put_u16(s, i + 2, (second % 65536) as u16);
-    put_u16(s, i + 4, (third % 65536) as u16);
-    put_u16(s, i + 6, (fourth % 65536) as u16);
+    let mut rest = n;
+    let mut k: usize = 0;
+    while k < 8 {
+        s[i + k] = (rest % 256) as u8;
+        rest = rest / 256;
+        k += 1;
+    }
 }

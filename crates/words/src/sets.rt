@@ -1,10 +1,9 @@
 // Sets of numbers kept in words of 64 bits within a byte slice: n is bit n mod 64 of word n div 64.
 ghost use mathlib.Core.Path.{_≡_};
 ghost use Prim.Native.Nat.{_+_, _*_, _≤_};
-ghost use lib.Dec.{eqb};
 ghost use lib.ListN.{length};
 ghost use Rattle.words.specs.Bits.{assignedBit};
-ghost use Rattle.words.specs.Sets.{wordOffset, member, changed, withMember, withoutMember, countMembers, clearedWords, nextMember};
+ghost use Rattle.words.specs.Sets.{wordOffset, member, changed, countMembers, clearedWords, nextMember};
 use crate::bits;
 use crate::numbers;
 
@@ -26,22 +25,6 @@ pub fn assign(s: &mut [u8], n: usize, on: bool)
     numbers::put_u64(s, at, bits::assign_bit(w, n as u64, on));
 }
 
-// n becomes a member.
-pub fn insert(s: &mut [u8], n: usize)
-    requires { ⌜ wordOffset n + 8 ≤ length (now s) ⌝ }
-    ensures { λ _. ⌜ now (s .exit) ≡ withMember (now (s .entry)) n ⌝ }
-{
-    assign(s, n, true);
-}
-
-// n ceases to be a member.
-pub fn remove(s: &mut [u8], n: usize)
-    requires { ⌜ wordOffset n + 8 ≤ length (now s) ⌝ }
-    ensures { λ _. ⌜ now (s .exit) ≡ withoutMember (now (s .entry)) n ⌝ }
-{
-    assign(s, n, false);
-}
-
 // How many numbers of the first words are members. (words is a u32, so that the count fits; likewise below.)
 pub fn count(s: &[u8], words: u32) -> u64
     requires { ⌜ words * 8 ≤ length (now s) ⌝ }
@@ -54,21 +37,6 @@ pub fn count(s: &[u8], words: u32) -> u64
         k += 1;
     }
     r
-}
-
-// No number of the first words is a member.
-pub fn is_empty(s: &[u8], words: usize) -> bool
-    requires { ⌜ words * 8 ≤ length (now s) ⌝ }
-    ensures { λ r. ⌜ r ≡ eqb (countMembers (words * 64) (now (s .entry))) 0 ⌝ }
-{
-    let mut k = 0;
-    while k < words {
-        if numbers::get_u64(s, k * 8) != 0 {
-            return false;
-        }
-        k += 1;
-    }
-    true
 }
 
 // The first words become zero.

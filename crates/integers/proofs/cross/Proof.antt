@@ -1,31 +1,39 @@
--- `integers::cross` meets its contract: products of 16-bit numbers and their difference fit 64 bits. Assumes nothing.
-use Rattle.integers.proofs.Products.{products}
+-- `integers::cross` meets its contract: the opposite of a 16-bit number fits 32 bits, and the dot product with the turned vector is the cross product. Assumes nothing.
+use mathlib.Core.Path.{refl, _∙_}
+use borrow.Author.Needs.{sfits-of}
+use lib.IntN.{ℤ, pos, _+ℤ_, _-ℤ_, _*ℤ_}
+use mir.Syntax.{w16, w32, w64}
+use mir.Val.{SFits}
+use mir.ValLaws.{toZ-ofZ}
+use Rattle.integers.proofs.Machine.{cast-fits, cast-gives, op-fits, op-gives}
+use Rattle.integers.proofs.Sizes.{sized}
+use Rattle.integers.proofs.Solver.{ring, #, _⊞_, _⊟_, _⊠_, _≈_}
 use Rattle.integers.proofs.cross.Statement.{statement}
 use Rattle.integers.proofs.cross.Tie as tie
 
-cast-result : tie.Need-cast-result
-cast-result c = search products
+-- the opposite of a number of 16 bits
+opposite-fits : (z : ℤ) → SFits w16 z → SFits w32 (pos 0 -ℤ z)
+opposite-fits = sized w16 w32 1 (λ z. # (pos 0) ⊟ z) tt
 
-cast-result-2 : tie.Need-cast-result-2
-cast-result-2 c = search products
+cast-dot : tie.Need-cast-dot
+cast-dot c = cast-fits _ (c .fits .by) tt
 
-mul-result : tie.Need-mul-result
-mul-result c = search products
+cast-dot-2 : tie.Need-cast-dot-2
+cast-dot-2 c = cast-fits _ (c .fits .bx) tt
 
-cast-result-3 : tie.Need-cast-result-3
-cast-result-3 c = search products
+sub-dot : tie.Need-sub-dot
+sub-dot c = op-fits {x = pos 0} refl (cast-gives _ (c .fits .bx) tt) _-ℤ_ (opposite-fits (c .args .bx) (c .fits .bx))
 
-cast-result-4 : tie.Need-cast-result-4
-cast-result-4 c = search products
-
-mul-result-2 : tie.Need-mul-result-2
-mul-result-2 c = search products
-
-sub-result : tie.Need-sub-result
-sub-result c = search products
+dot-requires : tie.Need-dot-requires
+dot-requires c κs = tt
 
 returns : tie.Need-returns
-returns c = search products
+returns c =
+    let s = c .before in
+    toZ-ofZ w64 (c .dot .result) (sfits-of (c .dot .ok)) ∙ c .dot .ensures
+    ∙ (λ i. cast-gives w32 (s .fits .by) tt i *ℤ toZ-ofZ w16 (s .args .ax) (s .fits .ax) i
+    +ℤ op-gives {x = pos 0} refl (cast-gives w32 (s .fits .bx) tt) _-ℤ_ (opposite-fits (s .args .bx) (s .fits .bx)) i *ℤ toZ-ofZ w16 (s .args .ay) (s .fits .ay) i)
+    ∙ ring 4 (λ ax ay bx by. by ⊠ ax ⊞ (# (pos 0) ⊟ bx) ⊠ ay ≈ ax ⊠ by ⊟ ay ⊠ bx) tt (s .args .ax) (s .args .ay) (s .args .bx) (s .args .by)
 
 pub cross-spec : {M : Type 1} → statement M
-cross-spec = tie.close (tie.spec cast-result cast-result-2 mul-result cast-result-3 cast-result-4 mul-result-2 sub-result returns)
+cross-spec = tie.close (tie.spec cast-dot cast-dot-2 sub-dot dot-requires returns)

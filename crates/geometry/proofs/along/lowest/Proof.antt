@@ -3,14 +3,15 @@ use mathlib.Core.List.{List, map}
 use mathlib.Core.Path.{_≡_, refl, _∙_, ap}
 use Prim.Native.Nat.{_-_, _/_, _≤_}
 use native.Mathlib.Omega.{arith}
-use borrow.Author.Needs.{needs, sfits-of}
+use borrow.Author.Needs.{sfits-of}
 use lib.IntN.{ℤ}
 use lib.ListN.{length}
 use denote.Ref.{now}
 use mir.Syntax.{w32, w64}
-use mir.Val.{toZ, ofZ}
+use mir.Val.{toZ}
 use mir.ValLaws.{toZ-ofZ}
 use Rattle.integers.specs.Extrema.{minZ}
+use Rattle.integers.proofs.Machine.{read₂}
 use Rattle.model.specs.Geometry.{along, direction}
 use Rattle.model.specs.Lists.{smallestZ}
 use Rattle.geometry.specs.Flat.{partOf}
@@ -31,7 +32,7 @@ returns : tie.Need-returns Inv-loop μ-loop
 returns c = lowest-none (along (direction (c .before .args .a) (c .before .args .b))) (partOf (now (c .before .args .p))) (omega (arith, part-length (now (c .before .args .p))))
 
 vertex-along-requires : tie.Need-vertex-along-requires Inv-loop μ-loop
-vertex-along-requires c κs = search needs
+vertex-along-requires c κs = omega arith
 
 loop-holds : tie.Need-loop-holds Inv-loop μ-loop
 loop-holds c = (
@@ -42,16 +43,16 @@ loop-holds c = (
 )
 
 vertex-along-requires-2 : tie.Need-vertex-along-requires-2 Inv-loop μ-loop
-vertex-along-requires-2 c κs = search needs
+vertex-along-requires-2 c κs = omega arith
 
 lesser-requires : tie.Need-lesser-requires Inv-loop μ-loop
-lesser-requires c κs = search needs
+lesser-requires c κs = tt
 
 add-k : tie.Need-add-k Inv-loop μ-loop
-add-k c = search needs
+add-k c = omega arith
 
 loop-less : tie.Need-loop-less Inv-loop μ-loop
-loop-less c = search needs
+loop-less c = omega arith
 
 loop-again : tie.Need-loop-again Inv-loop μ-loop
 loop-again c = (
@@ -66,13 +67,10 @@ loop-again c = (
 
 returns-2 : tie.Need-returns-2 Inv-loop μ-loop
 returns-2 c =
-    small-as
-    (ap (λ s. smallestZ (map (along (direction s (toZ w32 (ofZ w32 (c .before .before .before .before .args .b))))) (partOf (now (c .before .before .before .before .args .p)))))
-    (toZ-ofZ w32 (c .before .before .before .before .args .a) (c .before .before .before .before .fits .a))
-    ∙ ap (λ s. smallestZ (map (along (direction (c .before .before .before .before .args .a) s)) (partOf (now (c .before .before .before .before .args .p)))))
-    (toZ-ofZ w32 (c .before .before .before .before .args .b) (c .before .before .before .before .fits .b)))
-    (lowest-last _ (partOf (now (c .before .before .before .before .args .p))) _ (c .before .loop .k)
-    (omega (arith, part-length (now (c .before .before .before .before .args .p)))) (c .before .loop .inv .2))
+    let s = c .before .before .before .before in
+    let p = now (s .args .p) in
+    small-as (read₂ w32 (s .args .a) (s .args .b) (s .fits .a) (s .fits .b) (λ a b. smallestZ (map (along (direction a b)) (partOf p))))
+    (lowest-last _ (partOf p) _ (c .before .loop .k) (omega (arith, part-length p)) (c .before .loop .inv .2))
 
 pub lowest-spec : {M : Type 1} → statement M
 lowest-spec =

@@ -1,52 +1,29 @@
--- `geometry::along::vertex_along` meets its contract: vertex k stands at 2 k and 2 k + 1. Assumes nothing.
-use mathlib.Core.Path.{refl, sym, _∙_, ap}
-use Rattle.model.specs.Geometry.{along, direction}
-use Rattle.geometry.proofs.Flat.{part-at}
-use borrow.Author.Needs.{needs, sfits-of}
-use Rattle.geometry.proofs.Sizes.{small-as, small-read}
+-- `geometry::along::vertex_along` meets its contract: the dot product of the direction and the vertex is small. Assumes nothing.
+use native.Mathlib.Omega.{arith}
+use borrow.Author.Needs.{sfits-of}
+use lib.IntN.{_+ℤ_, _*ℤ_}
+use Rattle.model.specs.Geometry.{along}
+use Rattle.geometry.proofs.Sizes.{small-as, small-at, small-read, dot-small}
 use Rattle.geometry.proofs.along.vertex_along.Statement.{statement}
 use Rattle.geometry.proofs.along.vertex_along.Tie as tie
 
-mul-project : tie.Need-mul-project
-mul-project c = search needs
+coordinate-requires : tie.Need-coordinate-requires
+coordinate-requires c κs = (c .pre, omega arith)
 
-mul-project-2 : tie.Need-mul-project-2
-mul-project-2 c = search needs
+coordinate-requires-2 : tie.Need-coordinate-requires-2
+coordinate-requires-2 c κs = (c .before .pre, omega arith)
 
-shared-slice-copy-out-project : tie.Need-shared-slice-copy-out-project
-shared-slice-copy-out-project c = search needs
-
-mul-project-3 : tie.Need-mul-project-3
-mul-project-3 c = search needs
-
-add-project : tie.Need-add-project
-add-project c = search needs
-
-mul-project-4 : tie.Need-mul-project-4
-mul-project-4 c = search needs
-
-shared-slice-copy-out-project-2 : tie.Need-shared-slice-copy-out-project-2
-shared-slice-copy-out-project-2 c = search needs
-
-project-requires : tie.Need-project-requires
-project-requires c κs = search needs
+dot-requires : tie.Need-dot-requires
+dot-requires c κs = tt
 
 returns : tie.Need-returns
 unfolding along
 returns c =
-    small-read (sfits-of (c .project .ok)) refl
-    (small-as ((search needs) ∙ sym (ap (along (direction (c .before .before .before .args .a) (c .before .before .before .args .b))) (part-at _ (c .before .before .before .args .k) (c .before .before .before .pre)))) (c .project .ensures))
+    let y = c .before in
+    let x = y .before in
+    let s = x .before in
+    let r = dot-small (s .fits .a) (s .fits .b) (sfits-of (x .coordinate .ok)) (sfits-of (y .coordinate2 .ok)) (c .dot .ensures) in
+    small-at (small-read r tt) (small-as (λ i. s .args .a *ℤ x .coordinate .ensures i +ℤ s .args .b *ℤ y .coordinate2 .ensures i) r)
 
 pub vertex-along-spec : {M : Type 1} → statement M
-vertex-along-spec =
-    tie.close
-    (tie.spec
-    mul-project
-    mul-project-2
-    shared-slice-copy-out-project
-    mul-project-3
-    add-project
-    mul-project-4
-    shared-slice-copy-out-project-2
-    project-requires
-    returns)
+vertex-along-spec = tie.close (tie.spec coordinate-requires coordinate-requires-2 dot-requires returns)

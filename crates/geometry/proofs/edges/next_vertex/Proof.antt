@@ -4,18 +4,17 @@ use denote.Ref.{now}
 use Rattle.geometry.specs.Flat.{partOf}
 use Rattle.geometry.proofs.EdgeLaws.{next-inside, next-first}
 use Rattle.geometry.proofs.Flat.{part-length}
-use borrow.Author.Needs.{needs}
 use Rattle.geometry.proofs.edges.next_vertex.Statement.{statement}
 use Rattle.geometry.proofs.edges.next_vertex.Tie as tie
 
 mul-if1 : tie.Need-mul-if1
-mul-if1 c = search needs
+mul-if1 c = omega arith
 
 add-if1 : tie.Need-add-if1
-add-if1 c = search needs
+add-if1 c = omega arith
 
 add-result : tie.Need-add-result
-add-result c = search needs
+add-result c = omega arith
 
 returns : tie.Need-returns
 returns c = (next-inside (partOf (now (c .before .args .p))) (c .before .args .k) (omega (arith, part-length (now (c .before .args .p)))), omega arith)

@@ -2,13 +2,12 @@
 use mathlib.Core.Path.{_≡_, refl, sym, _∙_, ap, subst}
 use Prim.Native.Nat.{_+_, _-_, _/_, _≤_}
 use native.Mathlib.Omega.{arith}
-use borrow.Author.Needs.{needs}
 use denote.Ref.{now}
 use lib.ListN.{length}
 use Rattle.geometry.specs.Boxes.{joined}
 use Rattle.geometry.specs.Flat.{partOf}
-use Rattle.geometry.proofs.BoxLaws.{Covering, at, covers-none, covers-first, covers-next, covers-last}
-use Rattle.geometry.proofs.Flat.{part-at, part-length}
+use Rattle.geometry.proofs.BoxLaws.{Covering, covers-none, covers-first, covers-next, covers-last}
+use Rattle.geometry.proofs.Flat.{part-length}
 use Rattle.geometry.proofs.extents.bounds.Statement.{statement}
 use Rattle.geometry.proofs.extents.bounds.Tie as tie
 
@@ -19,99 +18,46 @@ abbrev μ-loop : tie.MeasureT-loop
 μ-loop p n e₀ k₀ e k = n - k
 
 point-requires : tie.Need-point-requires Inv-loop μ-loop
-point-requires c κs = search needs
+point-requires c κs = tt
 
 returns : tie.Need-returns Inv-loop μ-loop
 returns c = c .point .ensures ∙ covers-none (partOf (now (c .before .before .args .p))) (omega (arith, part-length (now (c .before .before .args .p))))
 
-shared-slice-copy-out-point : tie.Need-shared-slice-copy-out-point Inv-loop μ-loop
-shared-slice-copy-out-point c = search needs
-
-shared-slice-copy-out-point-2 : tie.Need-shared-slice-copy-out-point-2 Inv-loop μ-loop
-shared-slice-copy-out-point-2 c = search needs
-
-point-requires-2 : tie.Need-point-requires-2 Inv-loop μ-loop
-point-requires-2 c κs = search needs
+corner-requires : tie.Need-corner-requires Inv-loop μ-loop
+corner-requires c κs = omega arith
 
 loop-holds : tie.Need-loop-holds Inv-loop μ-loop
 loop-holds c =
-    let p = now (c .before .before .before .before .args .p) in (
-      refl,
-      omega arith,
-      subst (Covering (partOf p) 1) (sym (c .point2 .ensures ∙ (search needs) ∙ ap at (sym (part-at p 0 (omega arith))))) (covers-first (partOf p) (omega (arith, part-length p))),
-    )
+    let p = now (c .before .before .args .p) in
+    (refl, omega arith, subst (Covering (partOf p) 1) (sym (c .corner .ensures)) (covers-first (partOf p) (omega (arith, part-length p))))
 
-mul-point : tie.Need-mul-point Inv-loop μ-loop
-mul-point c = search needs
-
-mul-point-2 : tie.Need-mul-point-2 Inv-loop μ-loop
-mul-point-2 c = search needs
-
-shared-slice-copy-out-point-3 : tie.Need-shared-slice-copy-out-point-3 Inv-loop μ-loop
-shared-slice-copy-out-point-3 c = search needs
-
-mul-point-3 : tie.Need-mul-point-3 Inv-loop μ-loop
-mul-point-3 c = search needs
-
-add-point : tie.Need-add-point Inv-loop μ-loop
-add-point c = search needs
-
-mul-point-4 : tie.Need-mul-point-4 Inv-loop μ-loop
-mul-point-4 c = search needs
-
-shared-slice-copy-out-point-4 : tie.Need-shared-slice-copy-out-point-4 Inv-loop μ-loop
-shared-slice-copy-out-point-4 c = search needs
-
-point-requires-3 : tie.Need-point-requires-3 Inv-loop μ-loop
-point-requires-3 c κs = search needs
+corner-requires-2 : tie.Need-corner-requires-2 Inv-loop μ-loop
+corner-requires-2 c κs = omega arith
 
 join-requires : tie.Need-join-requires Inv-loop μ-loop
-join-requires c κs = search needs
+join-requires c κs = tt
 
 add-k : tie.Need-add-k Inv-loop μ-loop
-add-k c = search needs
+add-k c = omega arith
 
 loop-less : tie.Need-loop-less Inv-loop μ-loop
-loop-less c = search needs
+loop-less c = omega arith
 
 loop-again : tie.Need-loop-again Inv-loop μ-loop
 loop-again c =
-    let p = now (c .before .before .before .before .before .before .before .before .before .before .args .p) in
-    let k = c .before .before .before .before .before .loop .k in (
+    let l = c .before .before .before .loop in
+    let p = now (c .before .before .before .before .before .before .args .p) in (
       refl,
       omega arith,
-      subst (Covering (partOf p) (k + 1))
-          (sym (c .join .ensures ∙ ap (joined (c .before .before .before .before .before .loop .e)) (c .before .point3 .ensures ∙ (search needs) ∙ ap at (sym (part-at p k (omega arith))))))
-          (covers-next (partOf p) k (c .before .before .before .before .before .loop .e) (omega (arith, part-length p)) (c .before .before .before .before .before .loop .inv .2)),
+      subst (Covering (partOf p) (l .k + 1)) (sym (c .join .ensures ∙ ap (joined (l .e)) (c .before .corner2 .ensures))) (covers-next (partOf p) (l .k) (l .e) (omega (arith, part-length p)) (l .inv .2)),
     )
 
 returns-2 : tie.Need-returns-2 Inv-loop μ-loop
 returns-2 c =
-    let p = now (c .before .before .before .before .before .before .args .p) in
+    let p = now (c .before .before .before .before .args .p) in
     covers-last (partOf p) (c .before .loop .k) (c .before .loop .e) (omega (arith, part-length p)) (c .before .loop .inv .2)
 
 pub bounds-spec : {M : Type 1} → statement M
 bounds-spec =
     tie.close
-    (tie.spec
-    Inv-loop
-    μ-loop
-    point-requires
-    returns
-    shared-slice-copy-out-point
-    shared-slice-copy-out-point-2
-    point-requires-2
-    loop-holds
-    mul-point
-    mul-point-2
-    shared-slice-copy-out-point-3
-    mul-point-3
-    add-point
-    mul-point-4
-    shared-slice-copy-out-point-4
-    point-requires-3
-    join-requires
-    add-k
-    loop-less
-    loop-again
-    returns-2)
+    (tie.spec Inv-loop μ-loop point-requires returns corner-requires loop-holds corner-requires-2 join-requires add-k loop-less loop-again returns-2)

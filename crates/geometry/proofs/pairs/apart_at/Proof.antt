@@ -3,6 +3,9 @@ use mathlib.Core.Bool.{Bool}
 use mathlib.Core.Path.{_≡_, sym, _∙_}
 use denote.Ref.{now}
 use lib.IntN.{pos, _-ℤ_}
+use mir.Syntax.{w16}
+use mir.Val.{toZ, ofZ}
+use mir.ValLaws.{toZ-ofZ}
 use Rattle.model.specs.Content.{vertex}
 use Rattle.model.specs.Geometry.{normals}
 use Rattle.model.specs.Lists.{any}
@@ -10,18 +13,17 @@ use Rattle.geometry.specs.Boxes.{extentsOf, boxesApart, apartAt}
 use Rattle.geometry.specs.Flat.{partOf}
 use Rattle.geometry.specs.Reach.{clears}
 use Rattle.geometry.proofs.PairLaws.{first-held, second-held, third-decides}
-use borrow.Author.Needs.{needs}
 use Rattle.geometry.proofs.pairs.apart_at.Statement.{statement}
 use Rattle.geometry.proofs.pairs.apart_at.Tie as tie
 
 bounds-requires : tie.Need-bounds-requires
-bounds-requires c κs = search needs
+bounds-requires c κs = tt
 
 bounds-requires-2 : tie.Need-bounds-requires-2
-bounds-requires-2 c κs = search needs
+bounds-requires-2 c κs = tt
 
 axes-separate-requires : tie.Need-axes-separate-requires
-axes-separate-requires c κs = search needs
+axes-separate-requires c κs = tt
 
 -- ---- what the three tests say, free of the bits of the locals
 
@@ -35,14 +37,28 @@ module _ (e : tie.Start) where
   abbrev normalsQ : Bool
   normalsQ = any (clears (e .args .gap) (partOf (now (e .args .q))) (partOf (now (e .args .p))) (vertex (pos 0 -ℤ e .args .dx) (pos 0 -ℤ e .args .dy))) (normals (partOf (now (e .args .q))))
 
+  dx : toZ w16 (ofZ w16 (e .args .dx)) ≡ e .args .dx
+  dx = toZ-ofZ w16 (e .args .dx) (e .fits .dx)
+
+  dy : toZ w16 (ofZ w16 (e .args .dy)) ≡ e .args .dy
+  dy = toZ-ofZ w16 (e .args .dy) (e .fits .dy)
+
 axes-say : (c : tie.After-axes-separate) → c .axes-separate .result ≡ boxes (c .before .before .before)
-axes-say c = c .axes-separate .ensures ∙ search (c .before .before .bounds .ensures, c .before .bounds2 .ensures, needs)
+axes-say c =
+    let s = c .before .before .before in
+    c .axes-separate .ensures ∙ (λ i. boxesApart (s .args .gap) (c .before .before .bounds .ensures i) (c .before .bounds2 .ensures i) (dx s i) (dy s i))
 
 first-say : (c : tie.After-edges-separate) → c .edges-separate .result ≡ normalsP (c .before .before .before .before .before)
-first-say c = c .edges-separate .ensures ∙ search needs
+first-say c =
+    let s = c .before .before .before .before .before in
+    c .edges-separate .ensures
+    ∙ (λ i. any (clears (s .args .gap) (partOf (now (s .args .p))) (partOf (now (s .args .q))) (vertex (dx s i -ℤ pos 0) (dy s i -ℤ pos 0))) (normals (partOf (now (s .args .p)))))
 
 second-say : (c : tie.After-edges-separate2) → c .edges-separate2 .result ≡ normalsQ (c .before .before .before .before .before .before .before)
-second-say c = c .edges-separate2 .ensures ∙ search needs
+second-say c =
+    let s = c .before .before .before .before .before .before .before in
+    c .edges-separate2 .ensures
+    ∙ (λ i. any (clears (s .args .gap) (partOf (now (s .args .q))) (partOf (now (s .args .p))) (vertex (pos 0 -ℤ dx s i) (pos 0 -ℤ dy s i))) (normals (partOf (now (s .args .q)))))
 
 returns : tie.Need-returns
 unfolding apartAt
@@ -51,7 +67,7 @@ returns c =
     first-held (boxes e) (normalsP e) (normalsQ e) (sym (axes-say (c .before)) ∙ c .if1 .taken)
 
 edges-separate-requires : tie.Need-edges-separate-requires
-edges-separate-requires c κs = search needs
+edges-separate-requires c κs = tt
 
 returns-2 : tie.Need-returns-2
 unfolding apartAt
@@ -60,7 +76,7 @@ returns-2 c =
     second-held (boxes e) (normalsP e) (normalsQ e) (sym (axes-say (c .before .before .before)) ∙ c .before .before .if1 .left) (sym (first-say (c .before)) ∙ c .if2 .taken)
 
 edges-separate-requires-2 : tie.Need-edges-separate-requires-2
-edges-separate-requires-2 c κs = search needs
+edges-separate-requires-2 c κs = tt
 
 returns-3 : tie.Need-returns-3
 unfolding apartAt

@@ -1,40 +1,44 @@
 -- `geometry::pairs::axes_separate` meets its contract: the four tests are the definition's four. Assumes nothing.
-use mathlib.Core.Path.{_≡_, _∙_}
+use mathlib.Core.Path.{_∙_}
 use lib.IntN.{pos}
+use mir.Syntax.{w16}
+use mir.ValLaws.{toZ-ofZ}
 use Rattle.geometry.specs.Boxes.{clearOf, boxesApart}
 use Rattle.geometry.proofs.BoxLaws.{or-four}
-use borrow.Author.Needs.{needs}
+use borrow.Author.Needs.{sfits-of}
 use Rattle.geometry.proofs.pairs.axes_separate.Statement.{statement}
 use Rattle.geometry.proofs.pairs.axes_separate.Tie as tie
 
 clear-of-requires : tie.Need-clear-of-requires
-clear-of-requires c κs = search needs
+clear-of-requires c κs = tt
 
 clear-of-requires-2 : tie.Need-clear-of-requires-2
-clear-of-requires-2 c κs = search needs
+clear-of-requires-2 c κs = tt
 
 clear-of-requires-3 : tie.Need-clear-of-requires-3
-clear-of-requires-3 c κs = search needs
+clear-of-requires-3 c κs = tt
 
 clear-of-requires-4 : tie.Need-clear-of-requires-4
-clear-of-requires-4 c κs = search needs
-
--- the four tests, free of the bits of the locals
-right : (c : tie.After-clear-of) → c .clear-of .result ≡ clearOf (c .before .before .before .args .gap) (c .before .before .before .args .e .«max_x») (pos 0) (c .before .before .before .args .f .«min_x») (c .before .before .before .args .dx)
-right c = c .clear-of .ensures ∙ search needs
-
-above : (c : tie.After-clear-of2) → c .clear-of2 .result ≡ clearOf (c .before .before .before .before .before .before .args .gap) (c .before .before .before .before .before .before .args .e .«max_y») (pos 0) (c .before .before .before .before .before .before .args .f .«min_y») (c .before .before .before .before .before .before .args .dy)
-above c = c .clear-of2 .ensures ∙ search needs
-
-left : (c : tie.After-clear-of3) → c .clear-of3 .result ≡ clearOf (c .before .before .before .before .before .before .before .before .before .args .gap) (c .before .before .before .before .before .before .before .before .before .args .f .«max_x») (c .before .before .before .before .before .before .before .before .before .args .dx) (c .before .before .before .before .before .before .before .before .before .args .e .«min_x») (pos 0)
-left c = c .clear-of3 .ensures ∙ search needs
-
-below : (c : tie.After-clear-of4) → c .clear-of4 .result ≡ clearOf (c .before .before .before .before .before .before .before .before .before .before .before .before .args .gap) (c .before .before .before .before .before .before .before .before .before .before .before .before .args .f .«max_y») (c .before .before .before .before .before .before .before .before .before .before .before .before .args .dy) (c .before .before .before .before .before .before .before .before .before .before .before .before .args .e .«min_y») (pos 0)
-below c = c .clear-of4 .ensures ∙ search needs
+clear-of-requires-4 c κs = tt
 
 returns : tie.Need-returns
 unfolding boxesApart
-returns c = or-four (right (c .before .before .before .before .before .before .before .before .before)) (above (c .before .before .before .before .before .before)) (left (c .before .before .before)) (below c)
+returns c =
+    let left = c .before .before .before in
+    let above = left .before .before .before in
+    let right = above .before .before .before in
+    let s = right .before .before .before in
+    let e = right .before .before .struct-told .given in
+    let f = right .before .struct-told2 .given in
+    let dx = toZ-ofZ w16 (s .args .dx) (s .fits .dx) in
+    let dy = toZ-ofZ w16 (s .args .dy) (s .fits .dy) in
+    or-four
+    (right .clear-of .ensures ∙ (λ i. clearOf (s .args .gap) (toZ-ofZ w16 (s .args .e .«max_x») (sfits-of (e .1 .0 .1)) i) (pos 0) (toZ-ofZ w16 (s .args .f .«min_x») (sfits-of (f .0 .1)) i) (dx i)))
+    (above .clear-of2 .ensures
+    ∙ (λ i. clearOf (s .args .gap) (toZ-ofZ w16 (s .args .e .«max_y») (sfits-of (e .1 .1 .1 .0 .1)) i) (pos 0) (toZ-ofZ w16 (s .args .f .«min_y») (sfits-of (f .1 .1 .0 .1)) i) (dy i)))
+    (left .clear-of3 .ensures ∙ (λ i. clearOf (s .args .gap) (toZ-ofZ w16 (s .args .f .«max_x») (sfits-of (f .1 .0 .1)) i) (dx i) (toZ-ofZ w16 (s .args .e .«min_x») (sfits-of (e .0 .1)) i) (pos 0)))
+    (c .clear-of4 .ensures
+    ∙ (λ i. clearOf (s .args .gap) (toZ-ofZ w16 (s .args .f .«max_y») (sfits-of (f .1 .1 .1 .0 .1)) i) (dy i) (toZ-ofZ w16 (s .args .e .«min_y») (sfits-of (e .1 .1 .0 .1)) i) (pos 0)))
 
 pub axes-separate-spec : {M : Type 1} → statement M
 axes-separate-spec =

@@ -10,13 +10,13 @@ use Rattle.geometry.proofs.pairs.separated.Statement.{statement}
 use Rattle.geometry.proofs.pairs.separated.Tie as tie
 
 apart-at-requires : tie.Need-apart-at-requires
-apart-at-requires c κs = search needs
+apart-at-requires c κs = tt
 
 returns : tie.Need-returns
 returns c = c .apart-at .ensures ∙ apart-empty (c .before .before .args .gap) (partOf (now (c .before .before .args .p))) (partOf (now (c .before .before .args .q))) (c .before .before .args .dx) (c .before .before .args .dy) (omega (arith, part-length (now (c .before .before .args .q))))
 
 apart-at-requires-2 : tie.Need-apart-at-requires-2
-apart-at-requires-2 c κs = search needs
+apart-at-requires-2 c κs = tt
 
 returns-2 : tie.Need-returns-2
 returns-2 c = c .apart-at2 .ensures ∙ (search needs) ∙ apart-moved (c .before .before .args .gap) (partOf (now (c .before .before .args .p))) (partOf (now (c .before .before .args .q))) (c .before .before .args .dx) (c .before .before .args .dy) (omega (arith, part-length (now (c .before .before .args .q))))

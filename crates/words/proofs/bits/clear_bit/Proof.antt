@@ -6,7 +6,7 @@ use Rattle.words.proofs.bits.clear_bit.Statement.{statement}
 use Rattle.words.proofs.bits.clear_bit.Tie as tie
 
 one-bit-requires : tie.Need-one-bit-requires
-one-bit-requires c κs = omega arith
+one-bit-requires c κs = tt
 
 returns : tie.Need-returns
 returns c =

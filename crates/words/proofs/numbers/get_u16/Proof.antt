@@ -19,7 +19,7 @@ shared-slice-read-wide : tie.Need-shared-slice-read-wide
 shared-slice-read-wide c = omega arith
 
 wide-requires : tie.Need-wide-requires
-wide-requires c κs = omega arith
+wide-requires c κs = tt
 
 add-wide : tie.Need-add-wide
 add-wide c = omega arith
@@ -28,7 +28,7 @@ shared-slice-read-wide-2 : tie.Need-shared-slice-read-wide-2
 shared-slice-read-wide-2 c = omega arith
 
 wide-requires-2 : tie.Need-wide-requires-2
-wide-requires-2 c κs = omega arith
+wide-requires-2 c κs = tt
 
 mul-result : tie.Need-mul-result
 mul-result c = omega arith

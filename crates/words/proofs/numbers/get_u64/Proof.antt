@@ -38,7 +38,7 @@ get-u16-requires-4 : tie.Need-get-u16-requires-4
 get-u16-requires-4 c κs = omega arith
 
 joined-requires : tie.Need-joined-requires
-joined-requires c κs = omega arith
+joined-requires c κs = tt
 
 returns : tie.Need-returns
 returns c =

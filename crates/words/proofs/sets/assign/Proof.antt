@@ -11,7 +11,7 @@ get-u64-requires : tie.Need-get-u64-requires
 get-u64-requires c κs = omega arith
 
 assign-bit-requires : tie.Need-assign-bit-requires
-assign-bit-requires c κs = omega arith
+assign-bit-requires c κs = tt
 
 put-u64-requires : tie.Need-put-u64-requires
 put-u64-requires c κs = omega arith

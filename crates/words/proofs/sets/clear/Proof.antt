@@ -1,9 +1,11 @@
 -- `words::sets::clear` meets its contract. The invariant: the words passed are zero, and nothing else changed.
 use borrow.Author.Needs.{needs}
-use mathlib.Core.Path.{_≡_, sym}
-use Prim.Native.Nat.{_≤_, _-_}
+use mathlib.Core.List.{List}
+use mathlib.Core.Path.{_≡_, sym, ap, _∙_}
+use Prim.Native.Nat.{ℕ, _*_, _≤_, _-_}
 use native.Mathlib.Omega.{arith}
 use lib.ListN.{length}
+use Rattle.words.specs.Number.{withNumber}
 use Rattle.words.specs.Sets.{clearedWords}
 use Rattle.words.proofs.Member.{cleared-none, cleared-more}
 use Rattle.words.proofs.sets.clear.Statement.{statement}
@@ -33,14 +35,19 @@ loop-less c = omega arith
 loop-again : tie.Need-loop-again Inv-loop μ-loop
 loop-again c =
     let k = c .before .before .before .before .before .loop .done in
-    let s = c .before .before .before .before .before .before .before .args .s .now in
-    (omega arith, search needs, cc (cleared-more k s))
+    let s = c .before .before .before .before .before .before .before .args .s .now in (
+      omega arith,
+      search needs,
+      c .before .before .put-u64 .ensures ∙ ap (λ (t : List ℕ). withNumber 8 t (k * 8) 0) (c .before .before .before .before .before .loop .inv .2) ∙ sym (cleared-more k s),
+    )
 
 same-length : tie.Need-same-length Inv-loop μ-loop
 same-length c = omega arith
 
 returns : tie.Need-returns Inv-loop μ-loop
-returns c = let e : c .before .loop .done ≡ c .before .before .before .args .words = omega arith in cc
+returns c =
+    let e : c .before .loop .done ≡ c .before .before .before .args .words = omega arith in
+    c .before .loop .inv .2 ∙ ap (λ n. clearedWords n (c .before .before .before .args .s .now)) e
 
 pub clear-spec : {M : Type 1} → statement M
 clear-spec =

@@ -11,7 +11,7 @@ get-u64-requires : tie.Need-get-u64-requires
 get-u64-requires c κs = omega arith
 
 test-bit-requires : tie.Need-test-bit-requires
-test-bit-requires c κs = omega arith
+test-bit-requires c κs = tt
 
 returns : tie.Need-returns
 unfolding member

@@ -30,7 +30,7 @@ shr-rest : tie.Need-shr-rest Inv-loop μ-loop
 shr-rest c = omega arith
 
 lowest-bit-requires : tie.Need-lowest-bit-requires Inv-loop μ-loop
-lowest-bit-requires c κs = omega arith
+lowest-bit-requires c κs = tt
 
 add-result : tie.Need-add-result Inv-loop μ-loop
 add-result c = omega arith
