@@ -34,8 +34,9 @@ pub fn edges_separate(p: &[i16], px: i16, py: i16, q: &[i16], qx: i16, qy: i16, 
     ensures { λ r. ⌜ r ≡ any (clears gap (partOf (now (p .entry))) (partOf (now (q .entry))) (vertex (qx -ℤ px) (qy -ℤ py))) (normals (partOf (now (p .entry)))) ⌝ }
 {
     let n = p.len() / 2;
+    let mut found = false;
     let mut k: usize = 0;
-    while k < n {
+    'directions: while k < n {
         let m = next_vertex(p, k);
         let a = difference(p, m, k, 1);
         let b = difference(p, k, m, 0);
@@ -44,10 +45,11 @@ pub fn edges_separate(p: &[i16], px: i16, py: i16, q: &[i16], qx: i16, qy: i16, 
         while vertex_along(p, i, a, b) <= limit {
             i += 1;
             if i == n {
-                return true;
+                found = true;
+                break 'directions;
             }
         }
         k += 1;
     }
-    false
+    found
 }
