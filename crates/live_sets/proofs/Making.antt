@@ -20,10 +20,10 @@ use Rattle.model.specs.Search.{copiesLeft}
 use Rattle.model.specs.Services.{workWords}
 use Rattle.model.proofs.Lists.{or-right}
 use Rattle.stepping.specs.LiveSets.{setOf, membersOf, Keeps, enough}
-use Rattle.stepping.specs.Levels.{pieceKind, piecesFrom, placedBelow}
+use Rattle.stepping.specs.Levels.{pieceKind, piecesFrom, placedBelow, numbersAt, placedOf}
 use Rattle.live_sets.specs.Narrowing.{stays, Filled}
 use Rattle.stepping.specs.Slots.{setStart, slotOf, KeepsSince, Frame}
-use Rattle.live_sets.specs.Settled.{numbersAt, placedOf, SetsKept, Placeable, Made, enoughOf, KindSettled, Settled}
+use Rattle.live_sets.specs.Settled.{SetsKept, Placeable, Made, enoughOf, KindSettled, Settled}
 use Rattle.live_sets.proofs.Filling.{drop-later}
 use Rattle.stepping.proofs.Kept.{keeps-count}
 use Rattle.stepping.proofs.Levels.{copies-next, placed-next}

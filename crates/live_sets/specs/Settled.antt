@@ -12,16 +12,8 @@ use Rattle.model.specs.Layout.{Layout}
 use Rattle.model.specs.Search.{copiesLeft}
 use Rattle.model.specs.Services.{workWords}
 use Rattle.stepping.specs.LiveSets.{setOf, membersOf, Keeps, enough}
-use Rattle.stepping.specs.Levels.{pieceKind, piecesFrom, placedBelow}
+use Rattle.stepping.specs.Levels.{pieceKind, piecesFrom, placedBelow, numbersAt, placedOf}
 use Rattle.stepping.specs.Slots.{setStart, slotOf, KeepsSince, Frame}
-
--- The number at a level.
-abbrev pub numbersAt : List ℕ → ℕ → ℕ
-numbersAt ns l = getD ns l 0
-
--- The pieces placed below a level, by their numbers.
-abbrev pub placedOf : Job → List ℕ → ℕ → Layout
-placedOf j ns l = placedBelow j (numbersAt ns) l
 
 -- The sets of the levels below `depth` are kept, each since some earlier bound.
 abbrev pub SetsKept : Job → List ℕ → ℕ → ℕ → List ℕ → Type 0

@@ -20,11 +20,10 @@ use Rattle.model.specs.Services.{RunOutcome, runOutcome, wordsIn, numbersIn, wo
 use Rattle.model.specs.declared.RunAnswer.{RunAnswer}
 use Rattle.model.specs.declared.RunAnswer.the-variants as R
 use Rattle.model.proofs.Accepted.{accepted-kinds, accepted-sensible}
-use Rattle.stepping.specs.Levels.{placedBelow, goOnLevel, walkSpent}
+use Rattle.stepping.specs.Levels.{placedBelow, goOnLevel, walkSpent, numbersAt}
 use Rattle.stepping.specs.LiveSets.{boundOf}
 use Rattle.search.specs.Run.{told, RoomFor, Walked}
 use Rattle.stepping.specs.Spending.{Spent, answerOf}
-use Rattle.live_sets.specs.Settled.{numbersAt}
 use Rattle.walks.specs.Walk.{heldOf, Ready, Taken, Left}
 use Rattle.walks.specs.declared.walk.Progress.{Progress}
 use Rattle.stepping.proofs.Answer.{layout-none}

@@ -19,10 +19,10 @@ use Rattle.model.specs.Services.{layoutIn, withLayout, numbersIn}
 use Rattle.model.proofs.Lists.{and-left, and-right, length-below, getD-map-below}
 use Rattle.model.proofs.ReadBack.{Small, read-layout}
 use Rattle.stepping.specs.LiveSets.{setOf, boundOf, enough}
-use Rattle.stepping.specs.Levels.{pieceKind, piecesFrom, placedBelow, tryLevel, goOnLevel}
+use Rattle.stepping.specs.Levels.{pieceKind, piecesFrom, placedBelow, tryLevel, goOnLevel, numbersAt, placedOf}
 use Rattle.stepping.specs.Slots.{slotOf, KeepsSince, Frame}
 use Rattle.stepping.specs.Spending.{Spent, spent}
-use Rattle.live_sets.specs.Settled.{numbersAt, placedOf, Placeable, Settled}
+use Rattle.live_sets.specs.Settled.{Placeable, Settled}
 use Rattle.walks.specs.Walk.{heldOf, layoutOf, Recordable, Ready, Taken, Left}
 use Rattle.walks.specs.declared.walk.Progress.{Progress}
 use Rattle.stepping.proofs.Extents.{candidate-entry, candidate-below, candidate-bounds, bounds-small}

@@ -22,11 +22,11 @@ use Rattle.model.specs.Services.{entryIn, layoutIn, withLayout, numbersIn, work
 use Rattle.model.proofs.Lists.{length-below}
 use Rattle.model.proofs.Search.Completions.{length-cons}
 use Rattle.stepping.specs.LiveSets.{setOf, boundOf, Keeps}
-use Rattle.stepping.specs.Levels.{pieceKind, piecesFrom, placedBelow, tryLevel, goOnLevel}
+use Rattle.stepping.specs.Levels.{pieceKind, piecesFrom, placedBelow, tryLevel, goOnLevel, numbersAt, placedOf}
 use Rattle.stepping.specs.Slots.{slotOf, KeepsSince, Frame}
 use Rattle.stepping.specs.Spending.{Spent, spent}
 use Rattle.stepping.specs.Steps.{Entries}
-use Rattle.live_sets.specs.Settled.{numbersAt, placedOf, SetsKept}
+use Rattle.live_sets.specs.Settled.{SetsKept}
 use Rattle.walks.specs.Walk.{heldOf, NextLive, Ready, Taken, Left}
 use Rattle.walks.specs.declared.walk.Progress.{Progress}
 use Rattle.stepping.proofs.Answer.{layout-after}

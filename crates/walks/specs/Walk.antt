@@ -11,8 +11,8 @@ use Rattle.model.specs.Layout.{Layout, entryOf, isEntry, layoutLength}
 use Rattle.model.specs.Lists.{all, below}
 use Rattle.model.specs.Services.{layoutIn, withLayout, numbersIn, workWords}
 use Rattle.stepping.specs.LiveSets.{setOf, boundOf}
-use Rattle.stepping.specs.Levels.{pieceKind}
-use Rattle.live_sets.specs.Settled.{numbersAt, placedOf, SetsKept}
+use Rattle.stepping.specs.Levels.{pieceKind, numbersAt, placedOf}
+use Rattle.live_sets.specs.Settled.{SetsKept}
 use Rattle.stepping.specs.Slots.{Frame}
 use Rattle.stepping.specs.Spending.{Spent}
 use Rattle.walks.specs.declared.walk.Progress.{Progress}

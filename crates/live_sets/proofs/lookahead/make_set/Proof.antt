@@ -11,10 +11,9 @@ use Rattle.model.specs.Format.{content}
 use Rattle.model.specs.Grid.{setWords}
 use Rattle.model.specs.Search.{copiesLeft}
 use Rattle.model.proofs.Accepted.{accepted-kinds}
-use Rattle.stepping.specs.Levels.{pieceKind, piecesFrom}
+use Rattle.stepping.specs.Levels.{pieceKind, piecesFrom, numbersAt, placedOf}
 use Rattle.live_sets.specs.Narrowing.{stays, Filled}
 use Rattle.stepping.specs.Slots.{setStart, slotOf, KeepsSince}
-use Rattle.live_sets.specs.Settled.{numbersAt, placedOf}
 use Rattle.stepping.proofs.Levels.{piece-kind}
 use Rattle.stepping.proofs.Limits.{few-pieces, few-words}
 use Rattle.stepping.proofs.LiveSets.{member-parts}

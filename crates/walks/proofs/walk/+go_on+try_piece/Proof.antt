@@ -15,9 +15,8 @@ use Rattle.model.specs.Layout.{entryOf, entryExtent}
 use Rattle.model.specs.Search.{copiesLeft}
 use Rattle.model.specs.Services.{workWords}
 use Rattle.model.proofs.Accepted.{accepted-kinds, accepted-dots}
-use Rattle.stepping.specs.Levels.{pieceKind, piecesFrom}
+use Rattle.stepping.specs.Levels.{pieceKind, piecesFrom, numbersAt, placedOf}
 use Rattle.stepping.specs.Slots.{setStart, slotOf, KeepsSince}
-use Rattle.live_sets.specs.Settled.{numbersAt, placedOf}
 use Rattle.walks.specs.Walk.{NextLive}
 use Rattle.walks.proofs.GoingOn.{record-ready, go-last, settle-ready, go-back, deep-ready, go-deep}
 use Rattle.stepping.proofs.Levels.{piece-kind}
