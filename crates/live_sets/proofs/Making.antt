@@ -21,8 +21,8 @@ use Rattle.model.specs.Services.{workWords}
 use Rattle.model.proofs.Lists.{or-right}
 use Rattle.stepping.specs.LiveSets.{setOf, membersOf, Keeps, enough}
 use Rattle.stepping.specs.Levels.{pieceKind, piecesFrom, placedBelow, numbersAt, placedOf}
-use Rattle.live_sets.specs.Narrowing.{stays, Filled}
-use Rattle.stepping.specs.Slots.{setStart, slotOf, KeepsSince, Frame}
+use Rattle.live_sets.specs.Narrowing.{stays, Filled, Narrowable}
+use Rattle.stepping.specs.Slots.{setStart, slotOf, KeepsSince, Frame, SetPlace}
 use Rattle.live_sets.specs.Settled.{SetsKept, Placeable, Made, enoughOf, KindSettled, Settled}
 use Rattle.live_sets.proofs.Filling.{drop-later}
 use Rattle.stepping.proofs.Kept.{keeps-count}
@@ -57,39 +57,70 @@ module _ (j : Job) where
   -- ---- The set of one kind made
 
   -- A set that was written keeps what it is to keep, if it was written by the right test.
-  pub made-of : (ns : List ℕ) (level bound u at : ℕ) (test : ℕ → Bool) (work work′ : List ℕ) → at ≡ setStart j level u
-      → level < pieceCount j → u < kindCount j → Filled at (setWords (j .sheet)) test work work′
+  made-of : (ns : List ℕ) (level bound u at words : ℕ) (test : ℕ → Bool) (work work′ : List ℕ) → at ≡ setStart j level u → words ≡ setWords (j .sheet)
+      → level < pieceCount j → u < kindCount j → Filled at words test work work′
       → ((m : ℕ) → m < setWords (j .sheet) * 64 → test m ≡ setOf j (placedOf j ns level) bound u m) → Made j ns level bound u work work′
-  made-of ns level bound u at test work work′ q h g f e =
+  made-of ns level bound u at words test work work′ q w h g f e =
       record {
-        kept = λ m l. slot-member j work′ level u m ∙ ap (λ (a : ℕ). member work′ (a * 64 + m)) (sym q) ∙ f .inside m l ∙ e m l;
+        kept = λ m l. slot-member j work′ level u m ∙ ap (λ (a : ℕ). member work′ (a * 64 + m)) (sym q) ∙ f .inside m (rw w l) ∙ e m l;
         outside = λ m o. f .outside m (turn m o);
-        behind = drop-later ((at + setWords (j .sheet)) * 8) (workWords j * 8) work′ work (omega (arith, start-fits j level u h g)) (f .behind);
+        behind = drop-later ((at + words) * 8) (workWords j * 8) work′ work (omega (arith, start-fits j level u h g)) (f .behind);
       }
     where
-      turn : (m : ℕ) → (m < setStart j level u * 64) ⊎ (setStart j level (u + 1) * 64 ≤ m) → (m < at * 64) ⊎ ((at + setWords (j .sheet)) * 64 ≤ m)
+      turn : (m : ℕ) → (m < setStart j level u * 64) ⊎ (setStart j level (u + 1) * 64 ≤ m) → (m < at * 64) ⊎ ((at + words) * 64 ≤ m)
       turn m (inl o) = inl (omega arith)
       turn m (inr o) = inr (omega (arith, start-next j level u))
 
   -- At the first level that is the test for a candidate.
-  pub test-first : (ns : List ℕ) (level bound u m : ℕ) → level ≡ 0 → bound ≡ j .sheet .L + 1 → isCandidate j u m ≡ setOf j (placedOf j ns level) bound u m
+  pub made-first : (ns : List ℕ) (u at words : ℕ) (work work′ : List ℕ) → at ≡ setStart j 0 u → words ≡ setWords (j .sheet) → 0 < pieceCount j → u < kindCount j
+      → Filled at words (isCandidate j u) work work′ → Made j ns 0 (j .sheet .L + 1) u work work′
   unfolding placedBelow
-  test-first ns level bound u m z b = rw (z, b) (sym (set-begin j u m))
+  made-first ns u at words work work′ q w h g f =
+      made-of ns 0 (j .sheet .L + 1) u at words (isCandidate j u) work work′ q w h g f (λ m l. sym (set-begin j u m))
 
   -- At a later one, being a member before and staying.
-  pub test-next : (ns : List ℕ) (level bound u from m : ℕ) (work : List ℕ) → 0 < level → from ≡ setStart j (level - 1) u
-      → KeepsSince j (placedOf j ns (level - 1)) bound u (slotOf j work (level - 1) u)
-      → setOf j (placedOf j ns (level - 1)) bound (pieceKind j (level - 1)) (numbersAt ns (level - 1)) ≡ true → m < setWords (j .sheet) * 64
-      → (member work (from * 64 + m) && stays j bound (pieceKind j (level - 1)) (numbersAt ns (level - 1)) u m) ≡ setOf j (placedOf j ns level) bound u m
-  test-next ns level bound u from m work p q k e h =
-      let l : ℕ = level - 1 in
-      let s : suc l ≡ level = omega arith in
-      let member-is : member work (from * 64 + m) ≡ setOf j (placedOf j ns l) (k .0) u m =
-      ap (λ (a : ℕ). member work (a * 64 + m)) q ∙ sym (slot-member j work l u m) ∙ k .2 m h in
-      ap (λ (b : Bool). b && stays j bound (pieceKind j l) (numbersAt ns l) u m) member-is
-      ∙ stays-member (placedOf j ns l) bound (k .0) (pieceKind j l) (numbersAt ns l) u m (k .1) e
-      ∙ ap (λ (es : Layout). setOf j es bound u m) (sym (placed-next j (numbersAt ns) l))
-      ∙ ap (λ (i : ℕ). setOf j (placedOf j ns i) bound u m) s
+  module _ (ns : List ℕ) (level bound u to from words t : ℕ) (work : List ℕ) (p : Placeable j ns level bound work) (g : u < kindCount j)
+      (copies : 0 < copiesLeft u (piecesFrom j level)) (w : words ≡ setWords (j .sheet)) (to-place : SetPlace j level u to) (from-place : SetPlace j (level - 1) u from)
+      (kind : t ≡ pieceKind j (level - 1)) where
+    -- The set of the level before is kept.
+    kept-before : KeepsSince j (placedOf j ns (level - 1)) bound u (slotOf j work (level - 1) u)
+    kept-before =
+        let e : suc (level - 1) ≡ level = omega (arith, p .later) in
+        p .sets (level - 1) u (omega (arith, p .later)) g (copies-before u (level - 1) (rw e (p .within)) (rw e copies))
+
+    -- The latest piece is a candidate.
+    latest-is : isCandidate j t (numbersAt ns (level - 1)) ≡ true
+    latest-is = rw kind (member-parts j (placedOf j ns (level - 1)) bound (pieceKind j (level - 1)) (numbersAt ns (level - 1)) (p .latest) .0)
+
+    -- The set can be made from it.
+    pub set-narrowable : setWords (j .sheet) ≤ 64 → Narrowable j t (numbersAt ns (level - 1)) u from to words work
+    set-narrowable few =
+        record {
+          placed = latest-is;
+          few = rw w few;
+          behind = omega (arith, w, to-place .place, from-place .place, start-lower j (level - 1) level u (omega (arith, p .later)) g, start-kinds j level 0 u (omega arith));
+          fits = omega (arith, w, to-place .within, p .fits);
+          admitted = λ m h e. kept-candidate (placedOf j ns (level - 1)) bound u (slotOf j work (level - 1) u) kept-before m (rw (← w) h) (slot-member j work (level - 1) u m ∙ ap (λ (a : ℕ). member work (a * 64 + m)) (sym (from-place .place)) ∙ e);
+        }
+
+    -- What is left of it is the set of this level.
+    test-next : (m : ℕ) → m < setWords (j .sheet) * 64
+        → (member work (from * 64 + m) && stays j bound t (numbersAt ns (level - 1)) u m) ≡ setOf j (placedOf j ns level) bound u m
+    test-next m h =
+        let k = kept-before in
+        let s : suc (level - 1) ≡ level = omega (arith, p .later) in
+        let member-is : member work (from * 64 + m) ≡ setOf j (placedOf j ns (level - 1)) (k .0) u m =
+        ap (λ (a : ℕ). member work (a * 64 + m)) (from-place .place) ∙ sym (slot-member j work (level - 1) u m) ∙ k .2 m h in
+        ap (λ (b : Bool). b && stays j bound t (numbersAt ns (level - 1)) u m) member-is
+        ∙ ap (λ (t : ℕ). setOf j (placedOf j ns (level - 1)) (k .0) u m && stays j bound t (numbersAt ns (level - 1)) u m) kind
+        ∙ stays-member (placedOf j ns (level - 1)) bound (k .0) (pieceKind j (level - 1)) (numbersAt ns (level - 1)) u m (k .1) (p .latest)
+        ∙ ap (λ (es : Layout). setOf j es bound u m) (sym (placed-next j (numbersAt ns) (level - 1)))
+        ∙ ap (λ (i : ℕ). setOf j (placedOf j ns i) bound u m) s
+
+    pub made-next : (work′ : List ℕ) → Filled to words (λ m. member work (from * 64 + m) && stays j bound t (numbersAt ns (level - 1)) u m) work work′
+        → Made j ns level bound u work work′
+    made-next work′ f =
+        made-of ns level bound u to words (λ m. member work (from * 64 + m) && stays j bound t (numbersAt ns (level - 1)) u m) work work′ (to-place .place) w (p .within) g f test-next
 
   -- ---- One kind settled
 
@@ -104,15 +135,20 @@ module _ (j : Job) where
       }
 
   -- The set is made, and its members are counted. (No copies are never too many.)
-  pub kind-made : (ns : List ℕ) (level bound u copies members : ℕ) (work work′ : List ℕ) → copies ≡ copiesLeft u (piecesFrom j level) → Made j ns level bound u work work′
-      → members ≡ countMembers (setWords (j .sheet) * 64) (slotOf j work′ level u) → KindSettled j ns level bound u work work′ (leb copies members)
-  kind-made ns level bound u copies members work work′ q m e =
+  pub kind-made : (ns : List ℕ) (level bound u at words copies : ℕ) (work work′ : List ℕ) (told : Bool) → at ≡ setStart j level u → words ≡ setWords (j .sheet)
+      → copies ≡ copiesLeft u (piecesFrom j level) → Made j ns level bound u work work′ → told ≡ leb copies (countMembers (words * 64) (drop (at * 8) work′))
+      → KindSettled j ns level bound u work work′ told
+  unfolding slotOf
+  kind-made ns level bound u at words copies work work′ told q w r m e =
       record {
         answer =
-            ap (λ (n : ℕ). leb n members) q
-            ∙ ap (leb (copiesLeft u (piecesFrom j level))) (e ∙ keeps-count j (placedOf j ns level) bound u (slotOf j work′ level u) (m .kept))
+            e
+            ∙ ap (λ (n : ℕ). leb n (countMembers (words * 64) (drop (at * 8) work′))) r
+            ∙ ap (λ (n : ℕ). leb (copiesLeft u (piecesFrom j level)) (countMembers (n * 64) (drop (at * 8) work′))) w
+            ∙ ap (λ (a : ℕ). leb (copiesLeft u (piecesFrom j level)) (countMembers (setWords (j .sheet) * 64) (drop (a * 8) work′))) q
+            ∙ ap (leb (copiesLeft u (piecesFrom j level))) (keeps-count j (placedOf j ns level) bound u (slotOf j work′ level u) (m .kept))
             ∙ sym (none-or (copiesLeft u (piecesFrom j level)) (membersOf j (placedOf j ns level) bound u));
-        kept = λ q. m .kept;
+        kept = λ c. m .kept;
         outside = m .outside;
         behind = m .behind;
       }
@@ -121,8 +157,8 @@ module _ (j : Job) where
       none-or n k = go (eq-or-ne n 0)
         where
           go : (n ≡ 0) ⊎ (n ≡ 0 → ⊥) → (eqb n 0 || leb n k) ≡ leb n k
-          go (inl q) = rw (eq-eqb n 0 q) (sym (le-leb n k (omega arith)))
-          go (inr q) = rw (ne-eqb n 0 q)
+          go (inl c) = rw (eq-eqb n 0 c) (sym (le-leb n k (omega arith)))
+          go (inr c) = rw (ne-eqb n 0 c)
 
   -- ---- Kind after kind
 

@@ -11,14 +11,15 @@ ghost use Rattle.shapes.specs.Boxes.{BoxesOf};
 ghost use Rattle.shapes.specs.Turned.{Viewed};
 ghost use Rattle.plans.specs.Known.{PlanOf};
 ghost use Rattle.live_sets.specs.Narrowing.{Filled, Fillable};
-ghost use Rattle.live_sets.specs.Settled.{KindSettled, Settled};
+ghost use Rattle.live_sets.specs.Settled.{Settled};
+use crate::lookahead::has_members;
+use plans::lookup::set_start;
 use plans::plan::Plan;
 use shapes::boxes::Boxes;
 use candidates::placements::is_candidate;
 use job::View;
 use words::bits;
 use words::numbers;
-use words::sets;
 
 // The bits of a word whose candidates exist.
 fn fill_word(job: &[u8], view: View, boxes: Boxes, u: usize, first: usize) -> u64
@@ -49,38 +50,19 @@ fn fill(job: &[u8], view: View, boxes: Boxes, u: usize, work: &mut [u8], to: usi
     }
 }
 
-// The first set of a kind, and whether it has members for its copies.
-fn settle_first_kind(
-    job: &[u8],
-    view: View,
-    boxes: Boxes,
-    plan: Plan,
-    u: usize,
-    work: &mut [u8],
-) -> bool
-    requires { ⌜ Viewed (now job) view × BoxesOf (now job) boxes × PlanOf (now job) plan ⌝ }
-    requires { ⌜ (u < kindCount (content (now job))) × (workWords (content (now job)) * 8 ≤ length (now work)) ⌝ }
-    ensures { λ r. ⌜ KindSettled (content (now (job .entry))) (replicate 12 0) 0 (content (now (job .entry)) .sheet .L + 1) u (now (work .entry)) (now (work .exit)) r ⌝ }
-{
-    let words = plan.words;
-    let to = u * words;
-    fill(job, view, boxes, u, work, to, words);
-    let members = sets::count(&work[to * 8..], words as u32);
-    let table = plan.copies;
-    let copies = table[u];
-    copies as u64 <= members
-}
-
 // The sets of the first level, and look-ahead. It ends at the first kind with too few members.
 pub fn settle_first(job: &[u8], view: View, boxes: Boxes, plan: Plan, work: &mut [u8]) -> bool
     requires { ⌜ Viewed (now job) view × BoxesOf (now job) boxes × PlanOf (now job) plan ⌝ }
     requires { ⌜ workWords (content (now job)) * 8 ≤ length (now work) ⌝ }
     ensures { λ r. ⌜ Settled (content (now (job .entry))) (replicate 12 0) 0 (content (now (job .entry)) .sheet .L + 1) (now (work .entry)) (now (work .exit)) r ⌝ }
 {
-    let kinds = view.kinds;
+    let kinds = plan.types;
+    let copies = plan.copies;
     let mut u = 0;
     while u < kinds {
-        if !settle_first_kind(job, view, boxes, plan, u, work) {
+        let to = set_start(job, plan, 0, u);
+        fill(job, view, boxes, u, work, to, plan.words);
+        if !has_members(work, to, plan.words, copies[u]) {
             return false;
         }
         u += 1;

@@ -1,37 +1,32 @@
 // The live sets of a level behind the first, one for each kind with copies left, and look-ahead: whether each has members for its copies.
 ghost use mathlib.Core.Path.{_≡_};
 ghost use Prim.Native.Nat.{_+_, _*_, _≤_, _<_};
-ghost use lib.ListN.{length};
-ghost use Rattle.model.specs.Content.{kindCount, pieceCount};
+ghost use lib.Dec.{leb};
+ghost use lib.ListN.{length, drop};
+ghost use Rattle.words.specs.Sets.{countMembers};
+ghost use Rattle.model.specs.Content.{kindCount};
 ghost use Rattle.model.specs.Format.{content};
 ghost use Rattle.model.specs.Search.{copiesLeft};
-ghost use Rattle.model.specs.Services.{workWords};
 ghost use Rattle.plans.specs.Known.{Known};
 ghost use Rattle.stepping.specs.Levels.{piecesFrom};
 ghost use Rattle.stepping.specs.Slots.{SetPlace};
 ghost use Rattle.live_sets.specs.Settled.{Placeable, Made, KindSettled, Settled};
 use crate::narrowing::narrow;
+use plans::lookup::set_start;
 use plans::plan::Plan;
 use nofit::offsets::Window;
 use words::sets;
 
-// The word at which the set of level l and kind u begins.
-pub fn set_start(
-    job: &[u8],
-    plan: Plan,
-    window: Window,
-    turned: &[i16],
-    conflicts: &[u8],
-    l: usize,
-    u: usize,
-) -> usize
-    requires { ⌜ Known (now job) plan window (now turned) (now conflicts) × (l < pieceCount (content (now job))) × (u < kindCount (content (now job))) ⌝ }
-    ensures { λ r. ⌜ SetPlace (content (now (job .entry))) l u r ⌝ }
+// Whether the set of so many words, from word `at` on, has members for so many copies.
+pub fn has_members(work: &[u8], at: usize, words: usize, copies: u8) -> bool
+    requires { ⌜ (words ≤ 64) × (at ≤ 6144) × ((at + words) * 8 ≤ length (now work)) ⌝ }
+    ensures { λ r. ⌜ r ≡ leb copies (countMembers (words * 64) (drop (at * 8) (now (work .entry)))) ⌝ }
 {
-    (l * plan.types + u) * plan.words
+    let members = sets::count(&work[at * 8..], words as u32);
+    copies as u64 <= members
 }
 
-// The set of this level and kind: what is left of the set of the level before.
+// The set of this level and kind, at word `to`: what is left of the set of the level before.
 fn make_set(
     job: &[u8],
     plan: Plan,
@@ -43,16 +38,15 @@ fn make_set(
     level: usize,
     u: usize,
     work: &mut [u8],
+    to: usize,
 )
     requires { ⌜ Known (now job) plan window (now turned) (now conflicts) ⌝ }
     requires { ⌜ Placeable (content (now job)) numbers level bound (now work) ⌝ }
-    requires { ⌜ (u < kindCount (content (now job))) × (0 < copiesLeft u (piecesFrom (content (now job)) level)) ⌝ }
+    requires { ⌜ (u < kindCount (content (now job))) × (0 < copiesLeft u (piecesFrom (content (now job)) level)) × SetPlace (content (now job)) level u to ⌝ }
     ensures { λ _. ⌜ Made (content (now (job .entry))) numbers level bound u (now (work .entry)) (now (work .exit)) ⌝ }
 {
-    let words = plan.words;
-    let to = set_start(job, plan, window, turned, conflicts, level, u);
     let before = level - 1;
-    let from = set_start(job, plan, window, turned, conflicts, before, u);
+    let from = set_start(job, plan, before, u);
     let kinds = plan.kinds;
     let kind = kinds[before];
     narrow(
@@ -68,7 +62,7 @@ fn make_set(
         work,
         from,
         to,
-        words,
+        plan.words,
     );
 }
 
@@ -95,6 +89,7 @@ fn settle_kind(
     if copies == 0 {
         return true;
     }
+    let at = set_start(job, plan, level, u);
     make_set(
         job,
         plan,
@@ -106,10 +101,9 @@ fn settle_kind(
         level,
         u,
         work,
+        at,
     );
-    let at = set_start(job, plan, window, turned, conflicts, level, u) * 8;
-    let members = sets::count(&work[at..], plan.words as u32);
-    copies as u64 <= members
+    has_members(work, at, plan.words, copies)
 }
 
 // The sets of this level, and look-ahead. It ends at the first kind with too few members.

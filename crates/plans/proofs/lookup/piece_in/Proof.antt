@@ -1,4 +1,4 @@
--- `search::plan::piece_in` meets its contract. The invariant: the sizes passed are those of the kind's parts.
+-- `plans::lookup::piece_in` meets its contract. The invariant: the sizes passed are those of the kind's parts.
 use mathlib.Core.List.{[]}
 use mathlib.Core.Path.{_≡_, refl}
 use Prim.Native.Nat.{ℕ, _+_, _-_, _*_, _≤_, _<_}
@@ -12,8 +12,8 @@ use Rattle.shapes.specs.Turned.{Viewed}
 use Rattle.shapes.proofs.PieceLaws.{written-more}
 use Rattle.shapes.proofs.ViewLaws.{few-kinds, kind-in, some-part, part-in}
 use Rattle.plans.proofs.PlanLaws.{plan-viewed}
-use Rattle.plans.proofs.plan.piece_in.Statement.{statement}
-use Rattle.plans.proofs.plan.piece_in.Tie as tie
+use Rattle.plans.proofs.lookup.piece_in.Statement.{statement}
+use Rattle.plans.proofs.lookup.piece_in.Tie as tie
 
 abbrev Inv-loop : tie.InvT-loop
 Inv-loop job kind all n sizes₀ i₀ sizes i =
