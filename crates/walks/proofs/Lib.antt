@@ -1,4 +1,3 @@
-pub mod Trying
-pub mod Writing
-pub mod Passing
 pub mod GoingOn
+pub mod Passing
+pub mod Trying
