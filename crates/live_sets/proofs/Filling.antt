@@ -1,10 +1,9 @@
 -- A set written word by word: what one word more changes.
-use mathlib.Core.Bool.{Bool, true, false, cond, _&&_}
+use mathlib.Core.Bool.{Bool, true, false, _&&_}
 use mathlib.Core.List.{List, _++_}
 use mathlib.Core.Logic.{_⊎_, inl, inr}
 use mathlib.Core.Path.{_≡_, refl, sym, ap, _∙_, subst}
-use Prim.Native.Nat.{ℕ, zero, suc, _+_, _*_, _/_, _%_, _-_, _^_, _≤_, _<_}
-use native.Mathlib.Nat.{mod-eq-of-lt}
+use Prim.Native.Nat.{ℕ, _+_, _*_, _%_, _-_, _^_, _≤_, _<_}
 use native.Mathlib.Numerals.{add-one}
 use native.Mathlib.Omega.{arith}
 use lib.ListN.{length, take, drop, length-append}
@@ -14,7 +13,7 @@ use Rattle.words.specs.Bytes.{AreBytes}
 use Rattle.words.specs.Number.{bytes, numberAt, withNumber}
 use Rattle.words.specs.Sets.{member, wordOffset}
 use Rattle.words.proofs.Bit.{testBit-above, bitsWhere-lt, testBit-bitsWhere}
-use Rattle.words.proofs.Cases.{eq-or-ne, le-or-lt}
+use Rattle.words.proofs.Cases.{le-or-lt}
 use Rattle.words.proofs.Member.{member-word, word-lt}
 use Rattle.words.proofs.Place.{numberAt-written, numberAt-other}
 use Rattle.words.proofs.Value.{length-bytes}

@@ -1,34 +1,25 @@
 -- Where the search meets the geometry: what the tables of a run say of the model's candidates, ends and conflicts.
 use mathlib.Core.Bool.{Bool, true, false, not, _&&_, _||_, and-false}
 use mathlib.Core.List.{List}
-use mathlib.Core.Path.{_≡_, refl, sym, ap, _∙_, subst}
-use Prim.Native.Nat.{ℕ, _+_, _*_, _/_, _%_, _≤_, _<_}
-use native.Mathlib.Omega.{arith}
-use borrow.Author.Tests.{le-ltb, lt-ltb, le-leb, lt-leb, eqb-true, leb-true, leb-false}
+use mathlib.Core.Path.{_≡_, refl, sym, ap, _∙_}
+use Prim.Native.Nat.{ℕ, _≤_, _<_}
+use borrow.Author.Tests.{le-ltb, lt-ltb, leb-true, leb-false}
 use lib.Dec.{leb, ltb, eqb}
-use lib.IntN.{ℤ, pos, _+ℤ_}
-use lib.ListN.{getD}
-use Rattle.model.specs.Candidate.{isCandidate, natural, extent}
+use lib.IntN.{ℤ}
 use Rattle.model.specs.Content.{Job, kindAt, kindCount}
 use Rattle.model.specs.Format.{content}
 use Rattle.model.specs.Gap.{pairGap}
-use Rattle.model.specs.Grid.{placement, placementOf, rows, numberLimit}
-use Rattle.model.specs.Layout.{entryOf, entryKind, entryExtent, conflict}
-use Rattle.model.proofs.Accepted.{accepted-kinds}
+use Rattle.model.specs.Layout.{entryOf, entryExtent, conflict}
 use Rattle.model.proofs.Lists.{and-left, and-right}
-use Rattle.model.proofs.Search.Pieces.{entry-kind}
 use Rattle.shapes.specs.Pieces.{PieceOf}
-use Rattle.candidates.specs.Placements.{Bounded, extentAt}
-use Rattle.candidates.specs.Conflicts.{placedOf, Near, conflictBetween}
-use Rattle.shapes.specs.Turned.{Viewed}
+use Rattle.candidates.specs.Conflicts.{placedOf, conflictBetween}
 use Rattle.nofit.specs.declared.offsets.Window.{Window}
 use Rattle.shapes.specs.declared.pieces.Piece.{Piece}
-use Rattle.candidates.proofs.PreparedLaws.{bounded, extent-is, numbers-conflict, number-near, candidate-number}
+use Rattle.candidates.proofs.PreparedLaws.{numbers-conflict}
 use Rattle.plans.specs.Known.{Known}
 use Rattle.plans.proofs.PlanLaws.{plan-viewed}
 use Rattle.live_sets.specs.Narrowing.{stays}
 use Rattle.plans.specs.declared.plan.Plan.{Plan}
-use Rattle.stepping.proofs.Extents.{candidate-entry}
 
 module _ (s : List ℕ) (p : Plan) (w : Window) (table : List ℤ) (bits : List ℕ) (k : Known s p w table bits) where
   -- The conflict of two candidates, by the corners of their kinds.

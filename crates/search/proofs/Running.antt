@@ -24,7 +24,7 @@ use Rattle.stepping.specs.Levels.{placedBelow, goOnLevel, walkSpent, numbersAt}
 use Rattle.stepping.specs.LiveSets.{boundOf}
 use Rattle.search.specs.Run.{told, RoomFor, Walked}
 use Rattle.stepping.specs.Spending.{Spent, answerOf}
-use Rattle.walks.specs.Walk.{heldOf, Ready, Taken, Left}
+use Rattle.walks.specs.Walk.{heldOf, Ready, Left}
 use Rattle.walks.specs.declared.walk.Progress.{Progress}
 use Rattle.stepping.proofs.Answer.{layout-none}
 use Rattle.stepping.proofs.Levels.{start-admitted, start-below, walk-level, run-walk}
@@ -65,8 +65,9 @@ module _ (j : Job) (budget bound : ℕ) (work out ns : List ℕ) (e : bound ≡ 
         sets = λ l u h. absurd (omega arith);
       }
 
-  pub begin-taken : Taken j ns 0 0 (beginning budget bound)
-  begin-taken = record { within = omega arith; below = omega arith; first = λ z. e; latest = λ p. absurd (omega arith) }
+  -- Nothing placed ends below it.
+  pub begin-below : 0 < bound
+  begin-below = omega arith
 
   pub walked : (work′ out′ : List ℕ) (st : Progress)
       → Left j work out work′ out′ 0 (beginning budget bound) st (goOnLevel j (numbersAt ns) 0 budget none) → Walked j budget work out work′ out′ st

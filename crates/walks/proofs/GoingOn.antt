@@ -1,28 +1,27 @@
 -- What follows a candidate taken: a complete layout, look-ahead that fails, or the next piece.
 use mathlib.Core.Bool.{Bool, true, false}
-use mathlib.Core.List.{List, [], _∷_, map, reverse}
+use mathlib.Core.List.{List, reverse}
 use mathlib.Core.Logic.{_⊎_, inl, inr}
-use mathlib.Core.Option.{Option, none, some}
+use mathlib.Core.Option.{some}
 use mathlib.Core.Path.{_≡_, refl, sym, ap, _∙_, subst}
-use Prim.Native.Nat.{ℕ, zero, suc, _+_, _*_, _-_, _≤_, _<_}
-use native.Mathlib.Numerals.{add-one}
+use Prim.Native.Nat.{ℕ, zero, suc, _+_, _-_, _≤_, _<_}
 use native.Mathlib.Omega.{arith}
-use lib.ListN.{length, getD, length-map}
+use lib.ListN.{length, length-map}
 use Rattle.words.proofs.Cases.{eq-or-ne}
 use Rattle.model.specs.Candidate.{isCandidate}
 use Rattle.model.specs.Content.{Job, kindCount, pieceCount}
 use Rattle.model.specs.Grid.{dots, numberLimit}
-use Rattle.model.specs.Layout.{Entry, Layout, entryOf, entryAt, noEntry, isEntry, layoutLength}
+use Rattle.model.specs.Layout.{Layout, entryOf, entryAt, noEntry, isEntry, layoutLength}
 use Rattle.model.specs.Lists.{all, below}
 use Rattle.model.specs.Search.{copiesLeft}
-use Rattle.model.specs.Services.{layoutIn, withLayout, numbersIn}
+use Rattle.model.specs.Services.{layoutIn, withLayout}
 use Rattle.model.proofs.Lists.{and-left, and-right, length-below, getD-map-below}
 use Rattle.model.proofs.ReadBack.{Small, read-layout}
-use Rattle.stepping.specs.LiveSets.{setOf, boundOf, enough}
+use Rattle.stepping.specs.LiveSets.{boundOf, enough}
 use Rattle.stepping.specs.Levels.{pieceKind, piecesFrom, placedBelow, tryLevel, goOnLevel, numbersAt, placedOf}
-use Rattle.stepping.specs.Slots.{slotOf, KeepsSince, Frame}
-use Rattle.stepping.specs.Spending.{Spent, spent}
-use Rattle.live_sets.specs.Settled.{Placeable, Settled}
+use Rattle.stepping.specs.Slots.{slotOf, KeepsSince}
+use Rattle.stepping.specs.Spending.{spent}
+use Rattle.lookahead.specs.Settled.{Placeable, Settled}
 use Rattle.plans.specs.Recording.{layoutOf, Recordable}
 use Rattle.walks.specs.Walk.{heldOf, Ready, Taken, Left}
 use Rattle.walks.specs.declared.walk.Progress.{Progress}

@@ -1,3 +1,2 @@
 pub mod GoingOn
-pub mod Passing
 pub mod Trying

@@ -30,9 +30,9 @@ use Rattle.stepping.proofs.LiveSets.{placed-admitted, placed-below}
 use Rattle.stepping.proofs.PieceOrder.{copies-here}
 use Rattle.stepping.proofs.Slots.{keeps-frame, frame-same, frame-then}
 use Rattle.stepping.proofs.Steps.{spent-skip-to}
-use Rattle.walks.specs.Choosing.{NextLive}
+use Rattle.branching.specs.Choosing.{NextLive}
 use Rattle.walks.specs.Walk.{heldOf, Ready, Taken, Left}
-use Rattle.walks.specs.declared.choosing.Next.{Next}
+use Rattle.branching.specs.declared.choosing.Next.{Next}
 use Rattle.walks.specs.declared.walk.Progress.{Progress}
 
 -- ---- The layout held

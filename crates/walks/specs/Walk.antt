@@ -1,18 +1,17 @@
 -- What the walk in code asks and promises at each level.
 use mathlib.Core.Bool.{Bool, true, false}
-use mathlib.Core.List.{List, map}
+use mathlib.Core.List.{List}
 use mathlib.Core.Option.{Option, none, some}
 use mathlib.Core.Path.{_≡_}
-use Prim.Native.Nat.{ℕ, _+_, _*_, _-_, _≤_, _<_}
+use Prim.Native.Nat.{ℕ, _*_, _-_, _≤_, _<_}
 use lib.ListN.{length}
 use Rattle.model.specs.Content.{Job, pieceCount}
-use Rattle.model.specs.Grid.{setWords}
-use Rattle.model.specs.Layout.{Layout, entryOf, isEntry, layoutLength}
+use Rattle.model.specs.Layout.{Layout, isEntry, layoutLength}
 use Rattle.model.specs.Lists.{all, below}
 use Rattle.model.specs.Services.{layoutIn, withLayout, numbersIn, workWords}
 use Rattle.stepping.specs.LiveSets.{setOf, boundOf}
 use Rattle.stepping.specs.Levels.{pieceKind, numbersAt, placedOf}
-use Rattle.live_sets.specs.Settled.{SetsKept}
+use Rattle.lookahead.specs.Settled.{SetsKept}
 use Rattle.stepping.specs.Slots.{Frame}
 use Rattle.stepping.specs.Spending.{Spent}
 use Rattle.walks.specs.declared.walk.Progress.{Progress}

@@ -1,13 +1,12 @@
 // The walk over the pieces: a piece tries its candidates, and a candidate taken passes the walk to the next piece.
-ghost use mathlib.Core.Path.{_≡_};
 ghost use Prim.Native.Nat.{_+_, _<_};
 ghost use Rattle.model.specs.Content.{pieceCount};
 ghost use Rattle.model.specs.Format.{content};
 ghost use Rattle.plans.specs.Known.{Known};
 ghost use Rattle.stepping.specs.Levels.{tryLevel, goOnLevel, numbersAt};
 ghost use Rattle.walks.specs.Walk.{heldOf, Ready, Taken, Left};
-use crate::choosing::next_live;
-use live_sets::lookahead::settle;
+use branching::choosing::next_live;
+use lookahead::settling::settle;
 use nofit::offsets::Window;
 use plans::plan::Plan;
 use plans::recording::record_layout;

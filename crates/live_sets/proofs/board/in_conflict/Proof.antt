@@ -1,6 +1,6 @@
 -- `live_sets::board::in_conflict` meets its contract.
-use mathlib.Core.Path.{_≡_, sym, ap, _∙_, subst}
-use Prim.Native.Nat.{ℕ, _<_}
+use mathlib.Core.Path.{sym, ap, _∙_, subst}
+use Prim.Native.Nat.{_<_}
 use borrow.Author.Tests.{leb-true}
 use lib.Dec.{leb}
 use Rattle.model.specs.Content.{kindCount}

@@ -1,10 +1,9 @@
 -- `live_sets::board::still_live` meets its contract.
 use mathlib.Core.Bool.{not}
-use mathlib.Core.Path.{_≡_, sym, ap, _∙_}
+use mathlib.Core.Path.{ap, _∙_}
 use Rattle.model.specs.Format.{content}
 use Rattle.plans.proofs.PlanLaws.{some-row}
 use Rattle.live_sets.proofs.Meeting.{stays-not-above, stays-not-below, stays-conflict}
-use borrow.Author.Needs.{needs}
 use Rattle.live_sets.proofs.board.still_live.Statement.{statement}
 use Rattle.live_sets.proofs.board.still_live.Tie as tie
 

@@ -1,16 +1,13 @@
 -- `plans::lookup::set_start` meets its contract.
-use mathlib.Core.Path.{_≡_, refl, sym, ap, _∙_}
-use Prim.Native.Nat.{ℕ, _+_, _*_, _≤_, _<_}
+use mathlib.Core.Path.{_≡_}
+use Prim.Native.Nat.{_+_, _*_, _≤_}
 use native.Mathlib.Nat.{mul-le-mul}
 use native.Mathlib.Omega.{arith}
-use Rattle.model.specs.Content.{kindCount}
 use Rattle.model.specs.Format.{content}
-use Rattle.model.specs.Grid.{setWords}
 use Rattle.model.proofs.Accepted.{accepted-kinds}
 use Rattle.stepping.specs.Slots.{setStart}
 use Rattle.stepping.proofs.Limits.{few-pieces, few-words}
 use Rattle.stepping.proofs.Slots.{start-fits}
-use borrow.Author.Needs.{needs}
 use Rattle.plans.proofs.lookup.set_start.Statement.{statement}
 use Rattle.plans.proofs.lookup.set_start.Tie as tie
 

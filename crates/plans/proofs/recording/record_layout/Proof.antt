@@ -1,8 +1,8 @@
 -- `plans::recording::record_layout` meets its contract. The invariant: the entries passed are written.
 use mathlib.Core.Path.{_≡_, refl, sym, ap, _∙_}
-use Prim.Native.Nat.{ℕ, _+_, _*_, _-_, _≤_, _<_}
+use Prim.Native.Nat.{ℕ, _*_, _-_, _≤_, _<_}
 use native.Mathlib.Omega.{arith}
-use lib.ListN.{length, getD}
+use lib.ListN.{length}
 use Rattle.words.specs.Number.{count, withNumber}
 use Rattle.model.specs.Content.{pieceCount}
 use Rattle.model.specs.Format.{content}
@@ -16,7 +16,6 @@ use Rattle.stepping.proofs.Levels.{piece-kind}
 use Rattle.stepping.proofs.Limits.{few-pieces}
 use Rattle.plans.specs.Recording.{layoutOf}
 use Rattle.plans.proofs.Writing.{written, written-none, entry-written}
-use borrow.Author.Needs.{needs}
 use Rattle.plans.proofs.recording.record_layout.Statement.{statement}
 use Rattle.plans.proofs.recording.record_layout.Tie as tie
 

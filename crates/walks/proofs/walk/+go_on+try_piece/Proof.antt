@@ -14,9 +14,9 @@ use Rattle.model.proofs.Accepted.{accepted-kinds, accepted-dots}
 use Rattle.stepping.proofs.Limits.{few-pieces, few-words}
 use Rattle.walks.proofs.GoingOn.{record-ready, go-last, settle-ready, go-back, deep-ready, go-deep}
 use Rattle.walks.proofs.Trying.{Trying, trying-begin, trying-keeps, trying-past, trying-stops, taken-ready, taken-taken, trying-ends, trying-goes}
-use Rattle.live_sets.proofs.lookahead.settle.Reads as settle-reads
+use Rattle.lookahead.proofs.settling.settle.Reads as settle-reads
 use Rattle.plans.proofs.recording.record_layout.Reads as record-layout-reads
-use Rattle.walks.proofs.choosing.next_live.Reads as next-live-reads
+use Rattle.branching.proofs.choosing.next_live.Reads as next-live-reads
 use Rattle.walks.proofs.walk.go_on.Reads as go-on
 use Rattle.walks.proofs.walk.go_on.Kinds as go-on-kinds
 use Rattle.walks.proofs.walk.+go_on+try_piece.Lts-go_on as go-on-lts
