@@ -10,10 +10,10 @@ ghost use Rattle.shapes.specs.Pieces.{Fitting};
 ghost use Rattle.candidates.specs.Placements.{Bounded};
 ghost use Rattle.candidates.specs.Conflicts.{Near, Numbered, placedOf, conflictBetween};
 ghost use Rattle.shapes.specs.Turned.{Viewed, TurnedOf};
+use job::View;
 use shapes::pieces::Piece;
 use shapes::pieces::piece_of;
 use shapes::pieces::pieces_conflict;
-use job::View;
 
 // A dot and a rotation.
 pub struct Placed {

@@ -4,9 +4,9 @@ ghost use Prim.Native.Nat.{_+_, _*_, _≤_, _<_};
 ghost use lib.IntN.{pos, _+ℤ_};
 ghost use Rattle.model.specs.Candidate.{natural};
 ghost use Rattle.candidates.specs.Placements.{Bounded, within, fitsAt, placeable, offered, extentAt};
-use shapes::boxes::Boxes;
 use geometry::extents::Extents;
 use job::View;
+use shapes::boxes::Boxes;
 
 // Whether what lies from low to high stays, moved by this much, within 0 and the limit.
 fn stays_within(low: i16, high: i16, by: usize, limit: usize) -> bool

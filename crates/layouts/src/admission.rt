@@ -8,9 +8,9 @@ ghost use Rattle.layouts.specs.Entries.{asEntry, entriesIn};
 ghost use Rattle.layouts.specs.Passing.{admittedBy};
 use crate::entries::Entry;
 use crate::entries::entry_at;
-use shapes::boxes::Boxes;
 use candidates::placements::is_placement;
 use job::View;
+use shapes::boxes::Boxes;
 
 // Whether an entry is a candidate. Any numbers may stand in it: of a kind past the last one there is none.
 fn is_admitted(view: View, boxes: Boxes, e: Entry) -> bool

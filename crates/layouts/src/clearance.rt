@@ -16,8 +16,8 @@ use crate::entries::entry_at;
 use candidates::conflicts::Placed;
 use candidates::conflicts::conflict_between;
 use candidates::conflicts::pair_gap;
-use shapes::pieces::piece_of;
 use job::View;
+use shapes::pieces::piece_of;
 
 // Where an entry stands.
 fn place_of(e: Entry) -> Placed

@@ -10,9 +10,9 @@ ghost use Rattle.layouts.specs.Entries.{asEntry, entriesIn};
 ghost use Rattle.layouts.specs.Passing.{admittedBy, extentBy};
 use crate::entries::Entry;
 use crate::entries::entry_at;
-use shapes::boxes::Boxes;
 use candidates::placements::extent;
 use job::View;
+use shapes::boxes::Boxes;
 
 fn larger(a: usize, b: usize) -> usize
     ensures { λ r. ⌜ r ≡ max a b ⌝ }

@@ -1,9 +1,9 @@
 // Layouts that are handed in: which of them pass, how long they are, and the check service.
 ghost use mathlib.Core.Path.{_≡_};
 ghost use Rattle.model.specs.Services;
+use model::Checked;
 use shapes::boxes::boxes_of;
 use shapes::turned::turn_all;
-use model::Checked;
 
 mod admission;
 mod clearance;

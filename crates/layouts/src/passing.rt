@@ -10,9 +10,9 @@ use crate::clearance::all_apart;
 use crate::demands::demand_met;
 use crate::extents::length_of;
 use crate::ordering::entries_in_order;
-use shapes::boxes::Boxes;
 use job::View;
 use model::Checked;
+use shapes::boxes::Boxes;
 
 // Whether a layout of n entries passes. Conflict is tested last: it is told of candidates only.
 fn passes(job: &[u8], view: View, turned: &[i16], boxes: Boxes, layout: &[u8], n: usize) -> bool

@@ -10,10 +10,10 @@ ghost use Rattle.candidates.specs.Conflicts.{placedOf};
 ghost use Rattle.plans.specs.Known.{Known};
 ghost use Rattle.live_sets.specs.Narrowing.{stays, BitsAdmitted, Filled, Narrowable};
 use crate::board;
-use plans::plan::Plan;
 use candidates::conflicts::Placed;
 use candidates::conflicts::placed_of;
 use nofit::offsets::Window;
+use plans::plan::Plan;
 use words::bits;
 use words::numbers;
 

@@ -12,9 +12,9 @@ ghost use Rattle.stepping.specs.Levels.{piecesFrom};
 ghost use Rattle.stepping.specs.Slots.{SetPlace};
 ghost use Rattle.lookahead.specs.Settled.{Placeable, Made, KindSettled, Settled};
 use live_sets::narrowing::narrow;
+use nofit::offsets::Window;
 use plans::lookup::set_start;
 use plans::plan::Plan;
-use nofit::offsets::Window;
 use words::sets;
 
 // Whether the set of so many words, from word `at` on, has members for so many copies.

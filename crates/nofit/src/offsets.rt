@@ -18,10 +18,10 @@ ghost use Rattle.candidates.specs.Conflicts.{placedOf};
 ghost use Rattle.shapes.specs.Turned.{Viewed, TurnedOf};
 use candidates::conflicts::Placed;
 use candidates::conflicts::pair_gap;
+use job::View;
 use shapes::pieces::Piece;
 use shapes::pieces::piece_of;
 use shapes::pieces::pieces_conflict;
-use job::View;
 
 // How many kinds a table of offsets has, and how many columns and rows each way.
 pub struct Window {

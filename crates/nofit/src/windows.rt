@@ -4,11 +4,11 @@ ghost use mathlib.Core.Path.{_≡_};
 ghost use Prim.Native.Nat.{_≤_};
 ghost use Rattle.nofit.specs.Offsets.{cells, Roomy, Growing};
 ghost use Rattle.candidates.specs.Placements.{Bounded};
-use shapes::boxes::Boxes;
 use crate::offsets::Window;
 use geometry::extents::Extents;
 use geometry::extents::join;
 use job::View;
+use shapes::boxes::Boxes;
 
 // How many cells a window has.
 fn cells_of(window: Window) -> usize

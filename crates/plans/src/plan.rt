@@ -5,15 +5,16 @@ ghost use lib.ListN.{getD};
 ghost use Rattle.model.specs.Content.{pieceCount};
 ghost use Rattle.model.specs.Format.{content};
 ghost use Rattle.model.specs.Search.{copiesLeft};
+ghost use Rattle.model.specs.Services.{workWords};
 ghost use Rattle.shapes.specs.Boxes.{BoxesOf};
 ghost use Rattle.shapes.specs.Pieces.{Fitting};
 ghost use Rattle.shapes.specs.Turned.{Viewed};
 ghost use Rattle.stepping.specs.Levels.{piecesFrom};
 ghost use Rattle.plans.specs.Known.{KindsOf, CopiesOf, EndsOf, SizesOf, PlanOf};
+use job::View;
 use shapes::boxes::Boxes;
 use shapes::pieces::Piece;
 use shapes::pieces::piece_of;
-use job::View;
 
 // The board's rows and step; how many kinds and pieces there are, and words in a set; the kind of each piece; the copies of each kind left at
 // each level, those of kind u at level l under l * 8 + u; where each kind ends at the first column, turned k quarter turns under t * 4 + k; its
@@ -163,4 +164,12 @@ pub fn make_plan(job: &[u8], view: View, boxes: Boxes) -> Plan
         parts: bytes_of(parts, view.kinds),
         sizes: sizes_of(job, view),
     }
+}
+
+// How many work words a run needs.
+pub fn work_words(job: &[u8], view: View) -> usize
+    requires { ⌜ Viewed (now job) view ⌝ }
+    ensures { λ r. ⌜ (r ≡ workWords (content (now (job .entry)))) × (r ≤ 6144) ⌝ }
+{
+    view.kinds * view.pieces * ((view.columns * view.rows + 15) / 16)
 }

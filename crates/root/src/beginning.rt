@@ -1,6 +1,6 @@
 // The live sets of the first level: all candidates of each kind, and look-ahead before the first step.
 ghost use mathlib.Core.Path.{_≡_};
-ghost use Prim.Native.Nat.{ℕ, _+_, _*_, _≤_, _<_};
+ghost use Prim.Native.Nat.{_+_, _*_, _≤_, _<_};
 ghost use lib.ListN.{length, replicate};
 ghost use Rattle.words.specs.Bits.{bitsWhere};
 ghost use Rattle.model.specs.Candidate.{isCandidate};
@@ -12,12 +12,12 @@ ghost use Rattle.shapes.specs.Turned.{Viewed};
 ghost use Rattle.plans.specs.Known.{PlanOf};
 ghost use Rattle.live_sets.specs.Narrowing.{Filled, Fillable};
 ghost use Rattle.lookahead.specs.Settled.{Settled};
+use candidates::placements::is_candidate;
+use job::View;
 use lookahead::settling::has_members;
 use plans::lookup::set_start;
 use plans::plan::Plan;
 use shapes::boxes::Boxes;
-use candidates::placements::is_candidate;
-use job::View;
 use words::bits;
 use words::numbers;
 

@@ -12,18 +12,18 @@ ghost use Rattle.model.specs.Lists.{below};
 ghost use Rattle.model.specs.Services.{withWords, rowWords, rowContent, conflictRow};
 ghost use Rattle.candidates.specs.Conflicts.{Prepared};
 ghost use Rattle.rows.specs.Rows.{RowAsked, RowReady, bitOf, wordOf};
-use shapes::boxes::Boxes;
-use shapes::boxes::boxes_of;
 use candidates::conflicts::Placed;
 use candidates::conflicts::conflict_between;
 use candidates::conflicts::pair_gap;
 use candidates::conflicts::placed_of;
-use shapes::pieces::Piece;
-use shapes::pieces::piece_of;
 use candidates::placements::is_candidate;
-use shapes::turned::turn_all;
 use job::View;
 use model::Written;
+use shapes::boxes::Boxes;
+use shapes::boxes::boxes_of;
+use shapes::pieces::Piece;
+use shapes::pieces::piece_of;
+use shapes::turned::turn_all;
 
 // Whether kind u has a candidate of number m, and that is in conflict, as the piece q, with the piece p at the place a.
 fn row_bit(

@@ -3,6 +3,7 @@ use mathlib.Core.Bool.{false, not}
 use mathlib.Core.List.{List, [], _∷_, map, List·Memᴰ, List·Memᴰ·head, List·Memᴰ·tail}
 use mathlib.Core.Path.{_≡_, refl}
 use Prim.Native.Nat.{ℕ, zero, suc, _≤_, _<_}
+use native.Mathlib.Nat.{mul-le-mul}
 use native.Mathlib.Omega.{arith}
 use borrow.Author.Tests.{ltb-false, leb-true, not-false}
 use lib.Dec.{leb, eqb}
@@ -11,6 +12,7 @@ use Rattle.model.specs.Content.{Kind, SpacingClass, kindAt, kindCount, pieceCou
 use Rattle.model.specs.Format.{Got, bad, got, content, refusal, cause4, cause6, boardOf, kindsUnfit, kindsIn, kindsGot, kindsStated, kindsLength, classesOf}
 use Rattle.model.specs.Grid.{setWords}
 use Rattle.model.specs.Lists.{between, sum}
+use Rattle.model.specs.Services.{workWords}
 use Rattle.model.proofs.Accepted.{accepted-kinds, accepted-dots, KindInRange}
 use Rattle.model.proofs.Causes.{no-cause}
 use Rattle.model.proofs.Lists.{and-right, or-left, or-right, not-both}
@@ -48,3 +50,8 @@ module _ (s : List ℕ) (accepted : refusal s ≡ 0) where
       go [] t h f = absurd (omega arith)
       go (k ∷ ks) zero h f = f k (List·Memᴰ·head refl) .demanded
       go (k ∷ ks) (suc t) h f = go ks t (omega arith) (λ l d. f l (List·Memᴰ·tail d))
+
+  -- The work words of a run are few.
+  pub few-work : workWords (content s) ≤ 6144
+  unfolding workWords
+  few-work = mul-le-mul (mul-le-mul (accepted-kinds s accepted .few-kinds) few-pieces) few-words

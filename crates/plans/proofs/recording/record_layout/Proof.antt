@@ -76,8 +76,8 @@ loop-again c =
       (omega (arith, c .before .before .before .before .before .before .loop .inv .0), c .before .before .before .before .before .before .loop .inv .0 .1, c .before .before .before .before .before .before .loop .inv .0 .2),
       (k ∙ c .before .before .before .before .before .before .loop .inv .1 .0, omega (arith, k, c .before .before .before .before .before .before .loop .inv .1)),
       c .before .before .put-u64 .ensures ∙ ap (withNumber 8 (c .before .before .before .before .before .before .loop .out) (c .before .before .before .before .before .before .loop .i * 8)) (c .before .before .before .entry-word .ensures)
-      ∙ entry-written (content (c .before .before .before .before .before .before .before .before .before .before .args .job .now)) (c .before .before .before .before .before .before .before .before .before .before .args .t3) (c .before .before .before .before .before .before .before .before .before .before .args .out .now) (c .before .before .before .before .before .before .loop .out) (c .before .before .before .before .before .before .loop .i) _ _ _
-      (kind-small (c .before .before .before .before .before .before .before .before .before .before) (c .before .before .before .before .before .before .loop .i) (inside (c .before .before .before .before .before))) (c .before .before .before .before .before .before .before .before .before .before .pre .1 .small (c .before .before .before .before .before .before .loop .i) (inside (c .before .before .before .before .before))) (c .before .before .before .before .before .before .before .before .before .before .pre .0 .kinds (c .before .before .before .before .before .before .loop .i) (inside (c .before .before .before .before .before))) refl (rows-are (c .before .before .before .before .before .before .before .before .before .before)) (c .before .before .before .before .before .before .loop .inv .2),
+          ∙ entry-written (content (c .before .before .before .before .before .before .before .before .before .before .args .job .now)) (c .before .before .before .before .before .before .before .before .before .before .args .t3) (c .before .before .before .before .before .before .before .before .before .before .args .out .now) (c .before .before .before .before .before .before .loop .out) (c .before .before .before .before .before .before .loop .i) _ _ _
+          (kind-small (c .before .before .before .before .before .before .before .before .before .before) (c .before .before .before .before .before .before .loop .i) (inside (c .before .before .before .before .before))) (c .before .before .before .before .before .before .before .before .before .before .pre .1 .small (c .before .before .before .before .before .before .loop .i) (inside (c .before .before .before .before .before))) (c .before .before .before .before .before .before .before .before .before .before .pre .0 .kinds (c .before .before .before .before .before .before .loop .i) (inside (c .before .before .before .before .before))) refl (rows-are (c .before .before .before .before .before .before .before .before .before .before)) (c .before .before .before .before .before .before .loop .inv .2),
     )
 
 same-length : tie.Need-same-length Inv-loop μ-loop

@@ -1,6 +1,6 @@
 -- `root::beginning::fill` meets its contract. The invariant: the words passed are made, and nothing else changed.
 use mathlib.Core.Path.{_≡_, refl}
-use Prim.Native.Nat.{ℕ, _+_, _-_, _*_, _^_, _≤_, _<_}
+use Prim.Native.Nat.{_+_, _-_, _*_, _^_, _≤_, _<_}
 use native.Mathlib.Omega.{arith}
 use lib.ListN.{length}
 use Rattle.model.specs.Candidate.{isCandidate}

@@ -1,10 +1,9 @@
 -- `root::beginning::fill_word` meets its contract. The invariant: the bits passed are those of the candidates.
-use mathlib.Core.Path.{_≡_, refl, sym, ap, _∙_}
+use mathlib.Core.Path.{_≡_, sym, ap, _∙_}
 use Prim.Native.Nat.{ℕ, _+_, _-_, _%_, _^_, _≤_, _<_}
 use native.Mathlib.Nat.{mod-eq-of-lt}
 use native.Mathlib.Omega.{arith}
 use Rattle.words.specs.Bits.{bitsWhere, assignedBit}
-use Rattle.words.proofs.Bit.{bitsWhere-lt}
 use Rattle.model.specs.Candidate.{isCandidate}
 use Rattle.model.specs.Format.{content}
 use Rattle.candidates.specs.Placements.{offered}

@@ -1,5 +1,5 @@
 -- `root::beginning::settle_first` meets its contract. The invariant: the kinds passed are settled and have enough members.
-use mathlib.Core.Path.{_≡_, refl, sym, ap, _∙_, subst}
+use mathlib.Core.Path.{_≡_, refl, _∙_, subst}
 use Prim.Native.Nat.{ℕ, _+_, _*_, _-_, _≤_, _<_}
 use native.Mathlib.Omega.{arith}
 use borrow.Author.Tests.{not-true, not-false}
@@ -7,13 +7,11 @@ use lib.ListN.{length, getD, replicate}
 use Rattle.model.specs.Content.{kindCount, pieceCount}
 use Rattle.model.specs.Format.{content}
 use Rattle.model.specs.Search.{copiesLeft}
-use Rattle.model.specs.Services.{workWords}
 use Rattle.model.proofs.Accepted.{accepted-sensible}
 use Rattle.plans.proofs.PlanLaws.{kinds-few, words-few}
 use Rattle.stepping.specs.Levels.{piecesFrom}
 use Rattle.lookahead.specs.Settled.{KindSettled}
 use Rattle.lookahead.proofs.Making.{made-first, kind-made, Settling, settling-begin, settling-next, settled-all, settled-few}
-use borrow.Author.Needs.{needs}
 use Rattle.root.proofs.beginning.settle_first.Statement.{statement}
 use Rattle.root.proofs.beginning.settle_first.Tie as tie
 

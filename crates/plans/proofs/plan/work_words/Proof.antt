@@ -1,18 +1,15 @@
--- `search::run::work_words` meets its contract.
-use mathlib.Core.Path.{_≡_, refl, sym, ap, _∙_}
-use Prim.Native.Nat.{ℕ, _+_, _*_, _/_, _≤_}
+-- `plans::plan::work_words` meets its contract.
+use mathlib.Core.Path.{_≡_}
+use Prim.Native.Nat.{_+_, _*_, _/_, _≤_}
 use native.Mathlib.Nat.{mul-le-mul}
 use native.Mathlib.Omega.{arith}
-use Rattle.model.specs.Content.{kindCount, pieceCount}
 use Rattle.model.specs.Format.{content}
 use Rattle.model.specs.Grid.{dots, setWords}
 use Rattle.model.specs.Services.{workWords}
 use Rattle.model.proofs.Accepted.{accepted-kinds, accepted-dots}
-use Rattle.stepping.proofs.Limits.{few-pieces}
-use Rattle.search.proofs.Running.{few-work}
-use borrow.Author.Needs.{needs}
-use Rattle.search.proofs.run.work_words.Statement.{statement}
-use Rattle.search.proofs.run.work_words.Tie as tie
+use Rattle.stepping.proofs.Limits.{few-pieces, few-work}
+use Rattle.plans.proofs.plan.work_words.Statement.{statement}
+use Rattle.plans.proofs.plan.work_words.Tie as tie
 
 -- The dots are few, and the sets.
 few-dots : (c : tie.Start) → c .args .view .columns * c .args .view .rows ≤ 1024
