@@ -1,10 +1,9 @@
 -- A set written word by word: what one word more changes.
-use mathlib.Core.Bool.{Bool, true, false, cond, _&&_}
+use mathlib.Core.Bool.{Bool, true, false, _&&_}
 use mathlib.Core.List.{List, _++_}
 use mathlib.Core.Logic.{_⊎_, inl, inr}
 use mathlib.Core.Path.{_≡_, refl, sym, ap, _∙_, subst}
-use Prim.Native.Nat.{ℕ, zero, suc, _+_, _*_, _/_, _%_, _-_, _^_, _≤_, _<_}
-use native.Mathlib.Nat.{mod-eq-of-lt}
+use Prim.Native.Nat.{ℕ, _+_, _*_, _%_, _-_, _^_, _≤_, _<_}
 use native.Mathlib.Numerals.{add-one}
 use native.Mathlib.Omega.{arith}
 use lib.ListN.{length, take, drop, length-append}
@@ -14,12 +13,13 @@ use Rattle.words.specs.Bytes.{AreBytes}
 use Rattle.words.specs.Number.{bytes, numberAt, withNumber}
 use Rattle.words.specs.Sets.{member, wordOffset}
 use Rattle.words.proofs.Bit.{testBit-above, bitsWhere-lt, testBit-bitsWhere}
-use Rattle.words.proofs.Cases.{eq-or-ne, le-or-lt}
+use Rattle.words.proofs.Cases.{le-or-lt}
 use Rattle.words.proofs.Member.{member-word, word-lt}
 use Rattle.words.proofs.Place.{numberAt-written, numberAt-other}
 use Rattle.words.proofs.Value.{length-bytes}
 use Rattle.model.proofs.Lists.{not-both}
-use Rattle.live_sets.specs.Narrowing.{Filled}
+use Rattle.model.specs.Content.{Job}
+use Rattle.live_sets.specs.Narrowing.{stays, BitsAdmitted, Filled, Narrowable}
 
 module _ (s : List ℕ) (k v : ℕ) (fits : k * 8 + 8 ≤ length s) (small : v < 2 ^ 64) where
   -- The members of a word written, and of every other.
@@ -101,3 +101,28 @@ bits-where p first v e i l = ap (λ (w : ℕ). testBit w i) e ∙ testBit-bitsWh
 pub bitsWhere-none : (p : ℕ → Bool) → bitsWhere 0 p ≡ 0
 unfolding bitsWhere
 bitsWhere-none p = refl
+
+-- ---- A set made from the one of the level before
+
+module _ (j : Job) (bound t n u from to words : ℕ) (work₀ work : List ℕ) (r : Narrowable j t n u from to words work₀) (k : ℕ) (h : k < words)
+    (f : Filled to k (λ m. member work₀ (from * 64 + m) && stays j bound t n u m) work₀ work) where
+  -- A word of the first set has the members that it had at the beginning.
+  word-same : (i : ℕ) → i < 64 → member work ((from + k) * 64 + i) ≡ member work₀ (from * 64 + (k * 64 + i))
+  word-same i l =
+      let e : (from + k) * 64 + i ≡ from * 64 + (k * 64 + i) = omega arith in
+      f .outside ((from + k) * 64 + i) (inl (omega (arith, r .behind))) ∙ ap (member work₀) e
+
+  module _ (w : ℕ) (e : w ≡ numberAt 8 work ((from + k) * 8)) where
+    -- Its bits are those of candidates.
+    pub word-admitted : AreBytes work → BitsAdmitted j u (k * 64) w
+    word-admitted a i q =
+        let b = bit-member work (from + k) i a (ap (λ (x : ℕ). testBit x i) (sym e) ∙ q) in
+        r .admitted (k * 64 + i) (omega (arith, b .0)) (sym (word-same i (b .0)) ∙ b .1)
+
+    -- The word that stays of it is the next of the second set.
+    pub word-narrowed : (v : ℕ) → ((i : ℕ) → testBit v i ≡ (testBit w i && stays j bound t n u (k * 64 + i))) → v < 2 ^ 64 → length work ≡ length work₀
+        → Filled to (k + 1) (λ m. member work₀ (from * 64 + m) && stays j bound t n u m) work₀ (withNumber 8 work ((to + k) * 8) v)
+    word-narrowed v bits small l =
+        filled-next to k (λ m. member work₀ (from * 64 + m) && stays j bound t n u m) work₀ work v f (omega (arith, r .fits, l)) small
+        (λ i q. bits i
+        ∙ ap (λ (b : Bool). b && stays j bound t n u (k * 64 + i)) (ap (λ (x : ℕ). testBit x i) e ∙ sym (member-word work (from + k) i q) ∙ word-same i q))

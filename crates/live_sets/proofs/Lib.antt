@@ -1,4 +1,3 @@
+pub mod Filling
 pub mod Meeting
 pub mod Sifting
-pub mod Filling
-pub mod Making

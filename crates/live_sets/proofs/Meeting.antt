@@ -1,74 +1,33 @@
 -- Where the search meets the geometry: what the tables of a run say of the model's candidates, ends and conflicts.
 use mathlib.Core.Bool.{Bool, true, false, not, _&&_, _||_, and-false}
 use mathlib.Core.List.{List}
-use mathlib.Core.Path.{_≡_, refl, sym, ap, _∙_, subst}
-use Prim.Native.Nat.{ℕ, _+_, _*_, _/_, _%_, _≤_, _<_}
-use native.Mathlib.Omega.{arith}
-use borrow.Author.Tests.{le-ltb, lt-ltb, le-leb, lt-leb, eqb-true, leb-true, leb-false}
+use mathlib.Core.Path.{_≡_, refl, sym, ap, _∙_}
+use Prim.Native.Nat.{ℕ, _≤_, _<_}
+use borrow.Author.Tests.{le-ltb, lt-ltb, leb-true, leb-false}
 use lib.Dec.{leb, ltb, eqb}
-use lib.IntN.{ℤ, pos, _+ℤ_}
-use lib.ListN.{getD}
-use Rattle.model.specs.Candidate.{isCandidate, natural, extent}
+use lib.IntN.{ℤ}
 use Rattle.model.specs.Content.{Job, kindAt, kindCount}
 use Rattle.model.specs.Format.{content}
 use Rattle.model.specs.Gap.{pairGap}
-use Rattle.model.specs.Grid.{placement, placementOf, rows, numberLimit}
-use Rattle.model.specs.Layout.{entryOf, entryKind, entryExtent, conflict}
-use Rattle.model.proofs.Accepted.{accepted-kinds}
+use Rattle.model.specs.Layout.{entryOf, entryExtent, conflict}
 use Rattle.model.proofs.Lists.{and-left, and-right}
-use Rattle.model.proofs.Search.Pieces.{entry-kind}
 use Rattle.shapes.specs.Pieces.{PieceOf}
-use Rattle.candidates.specs.Placements.{Bounded, extentAt}
-use Rattle.candidates.specs.Conflicts.{placedOf, Near, conflictBetween}
-use Rattle.shapes.specs.Turned.{Viewed}
+use Rattle.candidates.specs.Conflicts.{placedOf, conflictBetween}
 use Rattle.nofit.specs.declared.offsets.Window.{Window}
 use Rattle.shapes.specs.declared.pieces.Piece.{Piece}
-use Rattle.candidates.proofs.PreparedLaws.{bounded, extent-is, numbers-conflict, number-near, candidate-number}
+use Rattle.candidates.proofs.PreparedLaws.{numbers-conflict}
 use Rattle.plans.specs.Known.{Known}
+use Rattle.plans.proofs.PlanLaws.{plan-viewed}
 use Rattle.live_sets.specs.Narrowing.{stays}
 use Rattle.plans.specs.declared.plan.Plan.{Plan}
-use Rattle.stepping.proofs.Extents.{candidate-entry}
-
--- A candidate is one of a kind that exists.
-pub candidate-kind : (j : Job) (u m : ℕ) → isCandidate j u m ≡ true → u < kindCount j
-unfolding entryOf
-candidate-kind j u m e = entry-kind j (entryOf j u m) (candidate-entry j u m ∙ e)
 
 module _ (s : List ℕ) (p : Plan) (w : Window) (table : List ℤ) (bits : List ℕ) (k : Known s p w table bits) where
-  -- The job is accepted, and this is its view.
-  pub viewed : Viewed s (k .plan .view)
-  viewed = record { accepted = k .plan .accepted; view = k .plan .viewed }
-
-  limits : Bounded (k .plan .view)
-  limits = bounded s (k .plan .view) viewed
-
-  -- The board has a row.
-  pub some-row : 1 ≤ p .rows
-  some-row = rw (k .plan .rows) (limits .rows .0)
-
-  -- There are eight kinds at most.
-  pub few-kinds : kindCount (content s) ≤ 8
-  few-kinds = accepted-kinds s (k .plan .accepted) .few-kinds
-
-  module _ (u m : ℕ) (c : isCandidate (content s) u m ≡ true) where
-    -- It is near.
-    pub near : Near (p .step) (placedOf (p .rows) m)
-    near = rw (k .plan .step, k .plan .rows) (number-near s (k .plan .view) viewed m (candidate-number (content s) u m c))
-
-    -- Its end, by the end of its kind on the first column.
-    pub end-is : natural (getD (p .ends) (u * 4 + m % 4) (pos 0) +ℤ pos (m / 4 / p .rows * p .step)) ≡ entryExtent (content s) (entryOf (content s) u m)
-    unfolding entryExtent entryKind entryOf placementOf extentAt
-    end-is =
-        let h : u < kindCount (content s) = candidate-kind (content s) u m c in
-        rw (k .plan .ends u (m % 4) h (omega arith), k .plan .rows, k .plan .step, k .plan .viewed .rows)
-        (extent-is s (k .plan .view) (k .plan .boxes) viewed (k .plan .boxed) u h (m / 4 / rows (content s .sheet)) (m / 4 % rows (content s .sheet)) (m % 4) (omega arith))
-
   -- The conflict of two candidates, by the corners of their kinds.
   pub corners-conflict : (t n u m : ℕ) (first second : Piece) (gap : ℕ) → t < kindCount (content s) → u < kindCount (content s)
       → PieceOf s t first → PieceOf s u second → gap ≡ pairGap (content s) (kindAt (content s) t) (kindAt (content s) u)
       → conflictBetween table (p .step) first (placedOf (p .rows) n) second (placedOf (p .rows) m) gap ≡ conflict (content s) (entryOf (content s) t n) (entryOf (content s) u m)
   corners-conflict t n u m first second gap ht hu f g e =
-      rw (k .plan .step, k .plan .rows, e) (numbers-conflict s (k .plan .view) table viewed (k .table) t u ht hu first second f g n m)
+      rw (k .plan .step, k .plan .rows, e) (numbers-conflict s (k .plan .view) table (plan-viewed s p (k .plan)) (k .table) t u ht hu first second f g n m)
 
 -- ---- The three tests
 

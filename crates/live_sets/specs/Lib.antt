@@ -1,2 +1,1 @@
 pub mod Narrowing
-pub mod Settled

@@ -34,7 +34,6 @@ pub record Filled (to words : ℕ) (test : ℕ → Bool) (work work′ : List �
 -- only candidates of kind u, and the second lies behind it.
 pub record Narrowable (j : Job) (t n u from to words : ℕ) (work : List ℕ) : Type 0 where
   pub placed : isCandidate j t n ≡ true
-  pub kinds : (t < kindCount j) × (u < kindCount j)
   pub few : words ≤ 64
   pub behind : from + words ≤ to
   pub fits : (to + words) * 8 ≤ length work

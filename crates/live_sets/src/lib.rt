@@ -1,5 +1,3 @@
-// The live sets of each level of the walk, in the lent work words, and look-ahead over them.
-pub mod beginning;
-pub mod board;
-pub mod lookahead;
-mod narrowing;
+// Live sets, in the lent work words: which candidates stay once a piece is placed.
+mod board;
+pub mod narrowing;

@@ -1,12 +1,10 @@
 // The live sets of a later level: the members of the sets of the level before that stay once a piece is placed.
 ghost use mathlib.Core.Bool.{true, _&&_};
 ghost use mathlib.Core.Path.{_≡_};
-ghost use Prim.Native.Nat.{ℕ, _+_, _*_, _≤_, _<_};
-ghost use lib.ListN.{length};
-ghost use Rattle.words.specs.Bits.{testBit, bitsWhere};
+ghost use Prim.Native.Nat.{ℕ, _+_, _*_, _<_};
+ghost use Rattle.words.specs.Bits.{testBit};
 ghost use Rattle.words.specs.Sets.{member};
 ghost use Rattle.model.specs.Candidate.{isCandidate};
-ghost use Rattle.model.specs.Content.{kindCount};
 ghost use Rattle.model.specs.Format.{content};
 ghost use Rattle.candidates.specs.Conflicts.{placedOf};
 ghost use Rattle.plans.specs.Known.{Known};

@@ -2,11 +2,12 @@
 ghost use mathlib.Core.Path.{_≡_};
 ghost use Prim.Native.Nat.{ℕ, _≤_, _<_};
 ghost use lib.ListN.{getD};
-ghost use Rattle.model.specs.Content.{kindCount, pieceCount};
+ghost use Rattle.model.specs.Content.{pieceCount};
 ghost use Rattle.model.specs.Format.{content};
 ghost use Rattle.model.specs.Search.{copiesLeft};
+ghost use Rattle.model.specs.Services.{workWords};
 ghost use Rattle.shapes.specs.Boxes.{BoxesOf};
-ghost use Rattle.shapes.specs.Pieces.{Fitting, PieceOf};
+ghost use Rattle.shapes.specs.Pieces.{Fitting};
 ghost use Rattle.shapes.specs.Turned.{Viewed};
 ghost use Rattle.stepping.specs.Levels.{piecesFrom};
 ghost use Rattle.plans.specs.Known.{KindsOf, CopiesOf, EndsOf, SizesOf, PlanOf};
@@ -165,23 +166,10 @@ pub fn make_plan(job: &[u8], view: View, boxes: Boxes) -> Plan
     }
 }
 
-// The piece of a kind.
-pub fn piece_in(job: &[u8], plan: Plan, kind: usize) -> Piece
-    requires { ⌜ PlanOf (now job) plan × (kind < kindCount (content (now job))) ⌝ }
-    ensures { λ r. ⌜ PieceOf (now (job .entry)) kind r ⌝ }
+// How many work words a run needs.
+pub fn work_words(job: &[u8], view: View) -> usize
+    requires { ⌜ Viewed (now job) view ⌝ }
+    ensures { λ r. ⌜ (r ≡ workWords (content (now (job .entry)))) × (r ≤ 6144) ⌝ }
 {
-    let counts = plan.parts;
-    let all = plan.sizes;
-    let n = counts[kind] as usize;
-    let mut sizes = [0usize; 6];
-    let mut i: usize = 0;
-    while i < n {
-        sizes[i] = all[kind * 6 + i] as usize;
-        i += 1;
-    }
-    Piece {
-        first: kind * 96,
-        count: n,
-        sizes,
-    }
+    view.kinds * view.pieces * ((view.columns * view.rows + 15) / 16)
 }

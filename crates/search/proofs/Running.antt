@@ -1,89 +1,33 @@
--- The beginning of the walk, and what a run answers and leaves at its end.
+-- What a run answers and leaves at its end.
 use mathlib.Core.Bool.{Bool, true, false, cond}
 use mathlib.Core.List.{List, [], _++_}
-use mathlib.Core.Option.{Option, none, some}
-use mathlib.Core.Path.{_≡_, refl, sym, ap, ap₂, _∙_, subst}
-use Prim.Native.Nat.{ℕ, zero, suc, _+_, _*_, _-_, _/_, _≤_, _<_}
-use native.Mathlib.Nat.{mul-le-mul}
+use mathlib.Core.Option.{Option, none}
+use mathlib.Core.Path.{_≡_, refl, sym, ap, _∙_, subst}
+use Prim.Native.Nat.{ℕ, _+_, _*_, _-_, _/_, _≤_, _<_}
 use native.Mathlib.Omega.{arith}
-use borrow.Author.Tests.{eq-eqb, ne-eqb, lt-ltb, le-ltb}
-use lib.Dec.{ltb, eqb}
+use borrow.Author.Tests.{eq-eqb, ne-eqb, ltb-false}
+use lib.Dec.{ltb}
 use lib.ListN.{length, drop, replicate, length-replicate}
 use Rattle.words.specs.Number.{count, filled, bytesOf}
 use Rattle.words.specs.Sets.{clearedWords}
-use Rattle.model.specs.Content.{Job, kindCount, pieceCount}
+use Rattle.model.specs.Content.{Job, pieceCount}
 use Rattle.model.specs.Format.{content, refusal}
-use Rattle.model.specs.Grid.{dots, setWords}
-use Rattle.model.specs.Layout.{Layout, layoutLength}
-use Rattle.model.specs.Lists.{largest}
-use Rattle.model.specs.Services.{RunOutcome, runOutcome, wordsIn, numbersIn, workWords, withWords, cleared, withLayout, heldAs, finishedAs, runContent, run}
+use Rattle.model.specs.Layout.{Layout}
+use Rattle.model.specs.Services.{RunOutcome, runOutcome, wordsIn, numbersIn, workWords, withWords, cleared, heldAs, finishedAs, runContent, run}
 use Rattle.model.specs.declared.RunAnswer.{RunAnswer}
 use Rattle.model.specs.declared.RunAnswer.the-variants as R
-use Rattle.model.proofs.Accepted.{accepted-kinds, accepted-sensible}
-use Rattle.stepping.specs.Levels.{placedBelow, goOnLevel, walkSpent}
+use Rattle.model.proofs.Accepted.{accepted-sensible}
+use Rattle.stepping.specs.Levels.{walkSpent}
 use Rattle.stepping.specs.LiveSets.{boundOf}
-use Rattle.search.specs.Run.{told, RoomFor, Walked}
-use Rattle.stepping.specs.Spending.{Spent, answerOf}
-use Rattle.live_sets.specs.Settled.{numbersAt}
-use Rattle.walks.specs.Walk.{heldOf, Ready, Taken, Left}
+use Rattle.search.specs.Run.{told}
+use Rattle.root.specs.Walked.{RoomFor, Walked}
+use Rattle.stepping.specs.Spending.{answerOf}
+use Rattle.walks.specs.Walk.{heldOf}
 use Rattle.walks.specs.declared.walk.Progress.{Progress}
-use Rattle.stepping.proofs.Answer.{layout-none}
-use Rattle.stepping.proofs.Levels.{start-admitted, start-below, walk-level, run-walk}
-use Rattle.stepping.proofs.Limits.{few-pieces, few-words, short-board}
+use Rattle.stepping.proofs.Levels.{run-walk}
 use Rattle.stepping.proofs.Steps.{goOn-left-le}
-
--- ---- The work words
-
--- They are few.
-pub few-work : (s : List ℕ) → refusal s ≡ 0 → workWords (content s) ≤ 6144
-unfolding workWords
-few-work s a = mul-le-mul (mul-le-mul (accepted-kinds s a .few-kinds) (few-pieces s a)) (few-words s a)
-
--- ---- The beginning
-
--- Nothing placed has no length.
-no-length : (j : Job) → 0 ≡ layoutLength j []
-unfolding layoutLength largest
-no-length j = refl
-
--- The whole budget is left, nothing is held, and the bound bounds nothing.
-abbrev pub beginning : ℕ → ℕ → Progress
-beginning budget bound = record { left = budget; bound = bound; found = false; stopped = false }
-
-module _ (j : Job) (budget bound : ℕ) (work out ns : List ℕ) (e : bound ≡ j .sheet .L + 1) (m : length ns ≡ 12) (r : RoomFor j work out) where
-  pub begin-ready : Ready j work out ns 0 0 0 (beginning budget bound)
-  unfolding placedBelow boundOf
-  begin-ready =
-      record {
-        work-fits = r .work-fits;
-        out-fits = r .out-fits;
-        room = m;
-        admitted = start-admitted j;
-        len-is = no-length j;
-        bound-is = e;
-        written = layout-none out;
-        running = refl;
-        sets = λ l u h. absurd (omega arith);
-      }
-
-  pub begin-taken : Taken j ns 0 0 (beginning budget bound)
-  begin-taken = record { within = omega arith; below = omega arith; first = λ z. e; latest = λ p. absurd (omega arith) }
-
-  pub walked : (work′ out′ : List ℕ) (st : Progress)
-      → Left j work out work′ out′ 0 (beginning budget bound) st (goOnLevel j (numbersAt ns) 0 budget none) → Walked j budget work out work′ out′ st
-  walked work′ out′ st d =
-      let w : goOnLevel j (numbersAt ns) 0 budget none ≡ walkSpent j budget = sym (walk-level j (numbersAt ns) budget) in
-      record {
-        left = d .left ∙ ap (λ (w : Spent). w .left) w;
-        stopped = d .stopped ∙ ap (λ (w : Spent). w .stopped) w;
-        held = d .held ∙ ap (λ (w : Spent). w .held) w;
-        bound-is = d .bound-is ∙ ap (λ (w : Spent). boundOf j (w .held)) w;
-        lowered = rw (← e) (d .lowered);
-        written = d .written ∙ ap (λ (w : Spent). withLayout (w .held) out) w;
-        behind = d .frame .behind;
-      }
-
--- ---- The end
+-- The work words are few.
+pub use Rattle.stepping.proofs.Limits.{few-work}
 
 -- Clearing the needed words sees only what lies behind them.
 pub cleared-same : (j : Job) (words : ℕ) (work work′ : List ℕ) → words ≡ workWords j → drop (workWords j * 8) work′ ≡ drop (workWords j * 8) work
@@ -119,30 +63,60 @@ module _ (j : Job) (budget : ℕ) (work out work′ out′ : List ℕ) (st : Pro
       ∙ told-held j out′ (budget - st .left) (st .stopped) (st .found) (walkSpent j budget .held) (w .held)
       ∙ rw (w .stopped, w .left)
 
--- The outcome of an accepted run.
-module _ (s : List ℕ) (accepted : refusal s ≡ 0) (budget : ℕ) (work out : List ℕ) where
-  pub run-few-words : length work / 8 < workWords (content s) → runOutcome (R.Refused 8) work out ≡ runContent (content s) budget work out
-  unfolding runContent wordsIn count
-  run-few-words h = sym (rw (lt-ltb (length work / 8) (workWords (content s)) h, runContent))
+-- ---- The outcome
 
-  pub run-few-numbers : workWords (content s) ≤ length work / 8 → length out / 2 < 4 * pieceCount (content s)
-      → runOutcome (R.Refused 9) work out ≡ runContent (content s) budget work out
-  unfolding runContent wordsIn numbersIn count
-  run-few-numbers g h = sym (rw (le-ltb (length work / 8) (workWords (content s)) g, lt-ltb (length out / 2) (4 * pieceCount (content s)) h, runContent))
+-- This is what the model's run answers, and leaves in both buffers.
+abbrev pub Met : List ℕ → ℕ → List ℕ → List ℕ → RunOutcome → Type 0
+Met s budget work out o =
+    (o .answer ≡ run s budget work out .answer) × ((o .work ≡ run s budget work out .work) × (o .out ≡ run s budget work out .out))
 
-  pub run-done : (words : ℕ) (work′ out′ : List ℕ) (st : Progress) → words ≡ workWords (content s) → workWords (content s) ≤ length work / 8 → 4 * pieceCount (content s) ≤ length out / 2
-      → Walked (content s) budget work out work′ out′ st
-      → runOutcome (told (st .stopped) (st .found) (st .bound) (budget - st .left)) (clearedWords words work′) out′ ≡ runContent (content s) budget work out
-  unfolding wordsIn numbersIn count
-  run-done words work′ out′ st e g h w =
-      rw (told-is (content s) budget work out work′ out′ st w, cleared-same (content s) words work work′ e (w .behind), w .written)
-      (sym (run-walk (content s) (accepted-sensible s accepted .pieced) budget work out (le-ltb (length work / 8) (workWords (content s)) g) (le-ltb (length out / 2) (4 * pieceCount (content s)) h)))
+met : (s : List ℕ) (budget : ℕ) (work out : List ℕ) (o : RunOutcome) → o ≡ run s budget work out → Met s budget work out o
+met s budget work out o e = (ap (λ (o : RunOutcome). o .answer) e, (ap (λ (o : RunOutcome). o .work) e, ap (λ (o : RunOutcome). o .out) e))
 
-  -- The run of an accepted job, and of another.
-  pub run-accepts : run s budget work out ≡ runContent (content s) budget work out
+module _ (s : List ℕ) (budget : ℕ) (work out : List ℕ) where
+  -- The job is refused.
+  pub run-refuses : (number : ℕ) → number ≡ refusal s → (number ≡ 0 → ⊥) → Met s budget work out (runOutcome (R.Refused number) work out)
   unfolding run
-  run-accepts = rw (eq-eqb (refusal s) 0 accepted, run)
+  run-refuses number e h = met s budget work out _ (ap (λ (n : ℕ). runOutcome (R.Refused n) work out) e ∙ sym (rw (ne-eqb (refusal s) 0 (λ q. h (e ∙ q)), run)))
 
-pub run-refuses : (s : List ℕ) (budget : ℕ) (work out : List ℕ) → (refusal s ≡ 0 → ⊥) → run s budget work out ≡ runOutcome (R.Refused (refusal s)) work out
-unfolding run
-run-refuses s budget work out h = rw (ne-eqb (refusal s) 0 h, run)
+  module _ (accepted : refusal s ≡ 0) where
+    run-accepts : run s budget work out ≡ runContent (content s) budget work out
+    unfolding run
+    run-accepts = rw (eq-eqb (refusal s) 0 accepted, run)
+
+    module _ (words : ℕ) (words-are : words ≡ workWords (content s)) where
+      -- Too few words.
+      pub run-few-words : ltb (length work / 8) words ≡ true → Met s budget work out (runOutcome (R.Refused 8) work out)
+      unfolding runContent wordsIn count
+      run-few-words h = met s budget work out _ (sym (run-accepts ∙ rw (subst (λ (n : ℕ). ltb (length work / 8) n ≡ true) words-are h, runContent)))
+
+      module _ (numbers : ℕ) (numbers-are : numbers ≡ 4 * pieceCount (content s)) (enough : ltb (length work / 8) words ≡ false) where
+        -- Too few numbers.
+        pub run-few-numbers : ltb (length out / 2) numbers ≡ true → Met s budget work out (runOutcome (R.Refused 9) work out)
+        unfolding runContent wordsIn numbersIn count
+        run-few-numbers h =
+            met s budget work out _
+            (sym (run-accepts ∙ rw (subst (λ (n : ℕ). ltb (length work / 8) n ≡ false) words-are enough, subst (λ (n : ℕ). ltb (length out / 2) n ≡ true) numbers-are h, runContent)))
+
+        module _ (enough′ : ltb (length out / 2) numbers ≡ false) where
+          -- Enough of both.
+          pub run-room : RoomFor (content s) work out
+          unfolding numbersIn count
+          run-room =
+              record {
+                work-fits = omega (arith, words-are, ltb-false (length work / 8) words enough);
+                out-fits = omega (arith, numbers-are, ltb-false (length out / 2) numbers enough′);
+              }
+
+          -- What the walk leaves, with the needed words cleared.
+          pub run-done : (answer : RunAnswer) (work′ work″ out′ : List ℕ) (st : Progress) → Walked (content s) budget work out work′ out′ st
+              → answer ≡ told (st .stopped) (st .found) (st .bound) (budget - st .left) → work″ ≡ clearedWords words work′
+              → Met s budget work out (runOutcome answer work″ out′)
+          unfolding wordsIn numbersIn count
+          run-done answer work′ work″ out′ st w a c =
+              let t : answer ≡ answerOf (content s) budget (walkSpent (content s) budget) = a ∙ told-is (content s) budget work out work′ out′ st w in
+              let z : work″ ≡ cleared (content s) work = c ∙ cleared-same (content s) words work work′ words-are (w .behind) in
+              met s budget work out _
+              (rw (t, z, w .written)
+              (sym (run-accepts ∙ run-walk (content s) (accepted-sensible s accepted .pieced) budget work out
+              (subst (λ (n : ℕ). ltb (length work / 8) n ≡ false) words-are enough) (subst (λ (n : ℕ). ltb (length out / 2) n ≡ false) numbers-are enough′))))

@@ -1,102 +1,28 @@
 // The run service: a first of the shortest layouts, or the best of the steps that the budget allows.
 ghost use mathlib.Core.Path.{_≡_};
-ghost use Prim.Native.Nat.{_-_, _≤_};
-ghost use Rattle.model.specs.Format.{content};
+ghost use Prim.Native.Nat.{_-_, _/_, _≤_};
+ghost use lib.Dec.{ltb};
 ghost use Rattle.model.specs.Services;
-ghost use Rattle.model.specs.Services.{workWords, runOutcome, runContent};
-ghost use lib.ListN.{replicate};
-ghost use Rattle.shapes.specs.Turned.{Viewed, TurnedOf};
-ghost use Rattle.plans.specs.Known.{PlanOf};
-ghost use Rattle.stepping.specs.Levels.{tryLevel};
-ghost use Rattle.search.specs.Run.{RoomFor, Walked, told};
-ghost use Rattle.live_sets.specs.Settled.{numbersAt};
-ghost use Rattle.walks.specs.Walk.{heldOf, Ready, Left};
-use job::View;
-use live_sets::beginning::settle_first;
+ghost use Rattle.search.specs.Run.{told};
 use model::Held;
 use model::RunAnswer;
-use nofit::offsets::make_offsets;
-use nofit::windows::window_of;
-use plans::plan::Plan;
-use plans::plan::make_plan;
-use shapes::boxes::Boxes;
-use shapes::boxes::boxes_of;
-use shapes::turned::turn_all;
+use plans::plan::work_words;
+use root::walking::walk;
 use walks::walk::Progress;
-use walks::walk::try_piece;
 use words::sets;
 
-// How many work words a run needs.
-fn work_words(job: &[u8], view: View) -> usize
-    requires { ⌜ Viewed (now job) view ⌝ }
-    ensures { λ r. ⌜ (r ≡ workWords (content (now (job .entry)))) × (r ≤ 6144) ⌝ }
+// Whether a buffer of so many bytes has too few words. An incomplete last one does not count.
+fn lacks_words(bytes: usize, needed: usize) -> bool
+    ensures { λ r. ⌜ r ≡ ltb (bytes / 8) needed ⌝ }
 {
-    view.kinds * view.pieces * ((view.columns * view.rows + 15) / 16)
+    bytes / 8 < needed
 }
 
-// How many bits the table of conflicts may have. The fewer the steps, the fewer are worth their price; 196,608 fill its 24,576 bytes.
-fn table_limit(budget: u32) -> usize
-    ensures { λ r. ⌜ r ≤ 196608 ⌝ }
+// The same of numbers.
+fn lacks_numbers(bytes: usize, needed: usize) -> bool
+    ensures { λ r. ⌜ r ≡ ltb (bytes / 2) needed ⌝ }
 {
-    if budget < 3072 {
-        budget as usize * 64
-    } else {
-        196608
-    }
-}
-
-// The first piece tries its candidates, with the conflicts looked up in a table.
-fn try_first(
-    job: &[u8],
-    view: View,
-    boxes: Boxes,
-    plan: Plan,
-    turned: &[i16],
-    work: &mut [u8],
-    out: &mut [u8],
-    state: Progress,
-) -> Progress
-    requires { ⌜ Viewed (now job) view × PlanOf (now job) plan × TurnedOf (now job) (now turned) ⌝ }
-    requires { ⌜ Ready (content (now job)) (now work) (now out) (replicate 12 0) 0 1 0 state ⌝ }
-    ensures { λ r. ⌜ Left (content (now (job .entry))) (now (work .entry)) (now (out .entry)) (now (work .exit)) (now (out .exit)) 1 state r (tryLevel (content (now (job .entry))) (numbersAt (replicate 12 0)) 0 0 (state .left) (heldOf (content (now (job .entry))) (state .found) (now (out .entry)))) ⌝ }
-{
-    let window = window_of(view, boxes, table_limit(state.left));
-    let mut conflicts = [0u8; 24576];
-    make_offsets(job, view, turned, window, &mut conflicts);
-    try_piece(
-        job,
-        plan,
-        window,
-        turned,
-        &conflicts,
-        work,
-        out,
-        [0usize; 12],
-        0,
-        0,
-        state,
-    )
-}
-
-// The walk of an accepted job, in buffers that are large enough. What holds for the whole walk is computed first.
-fn walk(job: &[u8], view: View, budget: u32, work: &mut [u8], answer: &mut [u8]) -> Progress
-    requires { ⌜ Viewed (now job) view × RoomFor (content (now job)) (now work) (now answer) ⌝ }
-    ensures { λ r. ⌜ Walked (content (now (job .entry))) budget (now (work .entry)) (now (answer .entry)) (now (work .exit)) (now (answer .exit)) r ⌝ }
-{
-    let mut turned = [0i16; 4096];
-    turn_all(job, view, &mut turned);
-    let boxes = boxes_of(job, view, &turned);
-    let plan = make_plan(job, view, boxes);
-    let start = Progress {
-        left: budget,
-        bound: view.length + 1,
-        found: false,
-        stopped: false,
-    };
-    if settle_first(job, view, boxes, plan, work) {
-        return try_first(job, view, boxes, plan, &turned, work, answer, start);
-    }
-    start
+    bytes / 2 < needed
 }
 
 // What is answered where the walk came so far.
@@ -118,30 +44,7 @@ fn tell(budget: u32, st: Progress) -> RunAnswer
     RunAnswer::Infeasible(steps)
 }
 
-// The run of an accepted job. Afterwards the needed work words are cleared.
-fn run_accepted(
-    job: &[u8],
-    view: View,
-    budget: u32,
-    work: &mut [u8],
-    answer: &mut [u8],
-) -> RunAnswer
-    requires { ⌜ Viewed (now job) view ⌝ }
-    ensures { λ r. ⌜ runOutcome r (now (work .exit)) (now (answer .exit)) ≡ runContent (content (now (job .entry))) budget (now (work .entry)) (now (answer .entry)) ⌝ }
-{
-    let words = work_words(job, view);
-    if work.len() / 8 < words {
-        return RunAnswer::Refused(8);
-    }
-    if answer.len() / 2 < 4 * view.pieces {
-        return RunAnswer::Refused(9);
-    }
-    let st = walk(job, view, budget, work, answer);
-    sets::clear(work, words);
-    tell(budget, st)
-}
-
-// The run service.
+// The run service. Afterwards the needed work words are cleared.
 pub fn run(job: &[u8], budget: u32, work: &mut [u8], answer: &mut [u8]) -> RunAnswer
     ensures told { λ r. ⌜ r ≡ Services.run (now (job .entry)) budget (now (work .entry)) (now (answer .entry)) .answer ⌝ }
     ensures cleared { λ _. ⌜ now (work .exit) ≡ Services.run (now (job .entry)) budget (now (work .entry)) (now (answer .entry)) .work ⌝ }
@@ -153,5 +56,14 @@ pub fn run(job: &[u8], budget: u32, work: &mut [u8], answer: &mut [u8]) -> RunAn
         return RunAnswer::Refused(refusal);
     }
     let view = opened.view;
-    run_accepted(job, view, budget, work, answer)
+    let words = work_words(job, view);
+    if lacks_words(work.len(), words) {
+        return RunAnswer::Refused(8);
+    }
+    if lacks_numbers(answer.len(), 4 * view.pieces) {
+        return RunAnswer::Refused(9);
+    }
+    let st = walk(job, view, budget, work, answer);
+    sets::clear(work, words);
+    tell(budget, st)
 }

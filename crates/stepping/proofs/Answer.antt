@@ -2,15 +2,15 @@
 use mathlib.Core.List.{List, [], _∷_, _++_, append-assoc}
 use mathlib.Core.Option.{Option, none, some}
 use mathlib.Core.Path.{_≡_, refl, sym, ap}
-use Prim.Native.Nat.{ℕ, _*_, _≤_}
+use Prim.Native.Nat.{ℕ, _*_}
 use native.Mathlib.Omega.{arith}
 use lib.ListN.{length, drop}
 use lib.Seq.{drop-at}
-use Rattle.words.specs.Number.{bytesOf, count, filled}
-use Rattle.words.proofs.Row.{length-bytesOf, length-filled}
+use Rattle.words.specs.Number.{bytesOf, filled}
+use Rattle.words.proofs.Row.{length-bytesOf}
 use Rattle.model.specs.Layout.{Layout}
 use Rattle.model.specs.Lists.{concat}
-use Rattle.model.specs.Services.{entryNumbers, layoutNumbers, withNumbers, withLayout, numbersIn}
+use Rattle.model.specs.Services.{entryNumbers, layoutNumbers, withNumbers, withLayout}
 use Rattle.model.proofs.ReadBack.{length-numbers}
 use Rattle.stepping.specs.Steps.{Entries}
 
@@ -46,9 +46,3 @@ pub layout-after : (n : ℕ) (g h : Option Layout) (out : List ℕ) → Entries 
 unfolding withLayout
 layout-after n none h out p q f = ap (λ (x : Option Layout). withLayout x out) (f refl)
 layout-after n (some es) h out p q f = layout-over n es h out p q
-
--- The buffer stays as long.
-pub length-withLayout : (n : ℕ) (h : Option Layout) (out : List ℕ) → Entries n h → 4 * n ≤ numbersIn out → length (withLayout h out) ≡ length out
-unfolding withLayout withNumbers numbersIn count
-length-withLayout n none out p l = refl
-length-withLayout n (some es) out p l = length-filled 2 (layoutNumbers es) out (omega (arith, length-numbers es))

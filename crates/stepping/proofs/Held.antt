@@ -11,7 +11,7 @@ use Rattle.model.specs.Layout.{Layout, entryOf}
 use Rattle.model.specs.Search.{Step, Searched, then, candidateTable, live, forwardCheck, completed, tryCandidates, searchPieces, lengthOf, latest}
 use Rattle.model.proofs.Search.Equations.{tries-end, tries-dead}
 use Rattle.stepping.specs.Spending.{spend}
-use Rattle.stepping.specs.Steps.{remaining, goOn, tryFrom, goOnSpent, tryFromSpent, Entries}
+use Rattle.stepping.specs.Steps.{goOn, goOnSpent, Entries}
 use Rattle.stepping.proofs.Steps.{goes-back, goes-deep, tries-live}
 
 -- ---- None held at the end is none held at the start
@@ -28,12 +28,7 @@ spend-none k h [] e = e
 spend-none zero h (s ∷ ss) e = e
 spend-none (suc k) h (s ∷ ss) e = latest-none h (s .completes) (spend-none k (latest h (s .completes)) ss e)
 
--- Of the walk of one piece, and of what follows a candidate taken.
-pub try-none : (j : Job) (t : ℕ) (left : List ℕ) (placed : Layout) (n k : ℕ) (h : Option Layout)
-    → tryFromSpent j t left placed n k h .held ≡ none → h ≡ none
-unfolding tryFromSpent
-try-none j t left placed n k h e = spend-none k h _ e
-
+-- Of what follows a candidate taken.
 pub goOn-none : (j : Job) (left : List ℕ) (placed : Layout) (k : ℕ) (h : Option Layout) → goOnSpent j left placed k h .held ≡ none → h ≡ none
 unfolding goOnSpent
 goOn-none j left placed k h e = latest-none h (completed left placed) (spend-none k (latest h (completed left placed)) _ e)
@@ -105,12 +100,6 @@ module _ (j : Job) (cs : List (List ℕ)) (n : ℕ) where
   pieces-entries (t ∷ left) placed best e = tries-entries t left (pieces-entries left) (getD cs t []) placed best e
 
 -- The layout held at the end has an entry for each piece, if the one at the start has.
-pub try-entries : (j : Job) (t : ℕ) (left : List ℕ) (placed : Layout) (m k : ℕ) (h : Option Layout) (n : ℕ) → suc (length left) + length placed ≡ n
-    → Entries n h → Entries n (tryFromSpent j t left placed m k h .held)
-unfolding tryFromSpent tryFrom
-try-entries j t left placed m k h n e p =
-    spend-entries n k h _ p (tries-entries j (candidateTable j) n t left (pieces-entries j (candidateTable j) n left) (remaining j t m) placed (lengthOf j h) e)
-
 pub goOn-entries : (j : Job) (left : List ℕ) (placed : Layout) (k : ℕ) (h : Option Layout) (n : ℕ) → length left + length placed ≡ n
     → Entries n h → Entries n (goOnSpent j left placed k h .held)
 unfolding goOnSpent

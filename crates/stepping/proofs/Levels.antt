@@ -8,21 +8,19 @@ use native.Mathlib.Omega.{arith}
 use lib.Dec.{ltb, eqb}
 use lib.ListN.{length, getD, length-drop, drop-of-length-le}
 use lib.Seq.{drop-cons}
-use Rattle.words.specs.Sets.{nextMember}
-use Rattle.model.specs.Content.{Job, kindAt, kindCount, pieceCount}
-use Rattle.model.specs.Grid.{numberLimit, setWords}
+use Rattle.model.specs.Content.{Job, kindCount, pieceCount}
+use Rattle.model.specs.Grid.{numberLimit}
 use Rattle.model.specs.Layout.{Layout, entryOf, isEntry, layoutLength}
 use Rattle.model.specs.Lists.{all, countOf, largest, rising, below}
 use Rattle.model.specs.Search.{pieces, completed, latest, searchFrom, stepsFrom, held, copiesLeft}
 use Rattle.model.specs.Services.{runOutcome, runContent, verdict, wordsIn, numbersIn, workWords, cleared, withLayout}
-use Rattle.model.proofs.Search.Pieces.{length-pieces, mem-pieces, count-pieces}
-use Rattle.stepping.specs.LiveSets.{setOf, boundOf, enough, Keeps}
+use Rattle.model.proofs.Search.Pieces.{length-pieces, mem-pieces}
+use Rattle.stepping.specs.LiveSets.{setOf, boundOf, enough}
 use Rattle.stepping.specs.Levels.{pieceKind, piecesFrom, placedBelow, tryLevel, goOnLevel, walkSpent}
 use Rattle.stepping.specs.Spending.{Spent, spent, spend, answerOf}
 use Rattle.stepping.specs.Steps.{goOn, goOnSpent, Entries}
 use Rattle.stepping.proofs.Counting.{below-suc}
-use Rattle.stepping.proofs.Held.{try-entries, goOn-entries}
-use Rattle.stepping.proofs.Kept.{keeps-next}
+use Rattle.stepping.proofs.Held.{goOn-entries}
 use Rattle.stepping.proofs.Steps.{spent-over, spent-past, take-stops, take-ends, take-goes, goOn-last, goOn-back, goOn-deep}
 use Rattle.stepping.proofs.Spending.{held-spent, verdict-spent}
 
@@ -53,11 +51,7 @@ module _ (j : Job) where
   unfolding pieceKind
   piece-kind l h = mem-pieces j (getD (pieces j) l 0) (getD-mem (pieces j) l 0 (rw (length-pieces j) h))
 
-  -- The copies left of a kind: all that are demanded at the start, none at the end, one less after each piece of the kind.
-  pub copies-start : (u : ℕ) → u < kindCount j → copiesLeft u (piecesFrom j 0) ≡ kindAt j u .demand
-  unfolding piecesFrom copiesLeft
-  copies-start u h = count-pieces j u h
-
+  -- The copies left of a kind: one less after each piece of the kind.
   pub copies-next : (u l : ℕ) → l < pieceCount j → copiesLeft u (piecesFrom j l) ≡ cond (eqb u (pieceKind j l)) 1 0 + copiesLeft u (piecesFrom j (suc l))
   unfolding copiesLeft countOf
   copies-next u l h = rw (pieces-next l h)
@@ -104,13 +98,6 @@ module _ (j : Job) where
   level-last numbers k h = rw (pieces-end (pieceCount j) (omega arith)) (goOn-last j (placedBelow j numbers (pieceCount j)) k h)
 
   -- The layout held has N entries, if the one at the start has.
-  pub level-entries : (numbers : ℕ → ℕ) (l n k : ℕ) (h : Option Layout) → l < pieceCount j → Entries (pieceCount j) h
-      → Entries (pieceCount j) (tryLevel j numbers l n k h .held)
-  unfolding tryLevel
-  level-entries numbers l n k h c p =
-      try-entries j (pieceKind j l) (piecesFrom j (suc l)) (placedBelow j numbers l) n k h (pieceCount j)
-      (omega (arith, pieces-left (suc l), placed-count numbers l)) p
-
   pub placed-entries : (numbers : ℕ → ℕ) (l k : ℕ) (h : Option Layout) → l ≤ pieceCount j → Entries (pieceCount j) h
       → Entries (pieceCount j) (goOnLevel j numbers l k h .held)
   unfolding goOnLevel
@@ -126,12 +113,6 @@ module _ (j : Job) where
     pub level-past : (n k : ℕ) → numberLimit (j .sheet) ≤ n → tryLevel j numbers l n k h ≡ spent k h false
     unfolding tryLevel
     level-past n k c = spent-past j (pieceKind j l) (piecesFrom j (suc l)) (placedBelow j numbers l) n k h c
-
-    -- The walk goes straight to the next member of the set that these bytes keep.
-    pub level-next : (n k : ℕ) (s : List ℕ) → Keeps j (placedBelow j numbers l) (boundOf j h) (pieceKind j l) s
-        → tryLevel j numbers l n k h ≡ tryLevel j numbers l (nextMember (setWords (j .sheet) * 64) s n) k h
-    unfolding tryLevel
-    level-next n k s f = keeps-next j (pieceKind j l) (piecesFrom j (suc l)) (placedBelow j numbers l) h n k s a f
 
     module _ (b : layoutLength j (placedBelow j numbers l) < boundOf j h) where
       -- With a piece left, look-ahead gives the latest candidate back, or the next piece tries its candidates.
@@ -201,11 +182,6 @@ module _ (j : Job) where
 
   pub held-walk : 0 < pieceCount j → (budget : ℕ) → held j none budget ≡ walkSpent j budget .held
   held-walk h budget = held-spent j none budget ∙ ap (λ (w : Spent). w .held) (walk-spent h budget)
-
-  -- It has N entries.
-  pub walk-entries : (budget : ℕ) → Entries (pieceCount j) (walkSpent j budget .held)
-  unfolding walkSpent
-  walk-entries budget = goOn-entries j (piecesFrom j 0) [] budget none (pieceCount j) (omega (arith, pieces-left 0)) tt
 
   -- All that a run answers and leaves, where its buffers are large enough.
   pub run-walk : 0 < pieceCount j → (budget : ℕ) (work out : List ℕ) → ltb (wordsIn work) (workWords j) ≡ false → ltb (numbersIn out) (4 * pieceCount j) ≡ false

@@ -1,38 +1,27 @@
 -- What bounds the numbers of an accepted job.
-use mathlib.Core.Bool.{Bool, true, false, not, cond, _||_}
+use mathlib.Core.Bool.{false, not}
 use mathlib.Core.List.{List, [], _∷_, map, List·Memᴰ, List·Memᴰ·head, List·Memᴰ·tail}
 use mathlib.Core.Path.{_≡_, refl}
-use Prim.Native.Nat.{ℕ, zero, suc, _+_, _*_, _/_, _≤_, _<_}
+use Prim.Native.Nat.{ℕ, zero, suc, _≤_, _<_}
+use native.Mathlib.Nat.{mul-le-mul}
 use native.Mathlib.Omega.{arith}
 use borrow.Author.Tests.{ltb-false, leb-true, not-false}
-use lib.Dec.{leb, ltb, eqb}
+use lib.Dec.{leb, eqb}
 use lib.ListN.{length, getD}
-use Rattle.model.specs.Content.{Kind, SpacingClass, Board, kindAt, kindCount, pieceCount, noKind}
-use Rattle.model.specs.Format.{Got, bad, got, content, refusal, cause4, cause6, boardOf, kindsUnfit, kindsIn, kindsGot, kindsStated, kindsLength, classesOf, namesPresent}
-use Rattle.model.specs.Grid.{dots, setWords}
-use Rattle.model.specs.Lists.{all, between, countOf, sum}
-use Rattle.model.specs.Search.{copiesLeft}
+use Rattle.model.specs.Content.{Kind, SpacingClass, kindAt, kindCount, pieceCount, noKind}
+use Rattle.model.specs.Format.{Got, bad, got, content, refusal, cause4, cause6, boardOf, kindsUnfit, kindsIn, kindsGot, kindsStated, kindsLength, classesOf}
+use Rattle.model.specs.Grid.{setWords}
+use Rattle.model.specs.Lists.{between, sum}
+use Rattle.model.specs.Services.{workWords}
 use Rattle.model.proofs.Accepted.{accepted-kinds, accepted-dots, KindInRange}
 use Rattle.model.proofs.Causes.{no-cause}
-use Rattle.model.proofs.Lists.{and-left, and-right, or-left, or-right, not-both}
-use Rattle.stepping.specs.Levels.{piecesFrom}
-use Rattle.stepping.proofs.Levels.{pieces-left}
+use Rattle.model.proofs.Lists.{and-right, or-left, or-right, not-both}
 
 -- The demands of types with nothing wrong sum to 12 at most.
 fit-sum : (cs : List SpacingClass) (size : ℕ) (g : Got (List Kind)) → kindsUnfit cs size g ≡ false → sum (map (λ k. k .demand) (kindsIn g)) ≤ 12
 unfolding kindsUnfit kindsIn
 fit-sum cs size bad e = absurd (not-both refl e)
 fit-sum cs size (got ks m) e = ltb-false _ _ (or-right (not (eqb m size)) _ (or-left _ _ e))
-
--- No more numbers of a list meet a condition than it has.
-count-below : (p : ℕ → Bool) (xs : List ℕ) → countOf p xs ≤ length xs
-unfolding countOf
-count-below p [] = omega arith
-count-below p (x ∷ xs) = go (p x) (count-below p xs)
-  where
-    go : (b : Bool) → countOf p xs ≤ length xs → cond b 1 0 + countOf p xs ≤ length (x ∷ xs)
-    go true h = omega arith
-    go false h = omega arith
 
 module _ (s : List ℕ) (accepted : refusal s ≡ 0) where
   -- "the demands sum to N, at most 12"
@@ -62,7 +51,7 @@ module _ (s : List ℕ) (accepted : refusal s ≡ 0) where
       go (k ∷ ks) zero h f = f k (List·Memᴰ·head refl) .demanded
       go (k ∷ ks) (suc t) h f = go ks t (omega arith) (λ l d. f l (List·Memᴰ·tail d))
 
-  -- No more copies are left than there are pieces.
-  pub few-copies : (u l : ℕ) → copiesLeft u (piecesFrom (content s) l) ≤ 12
-  unfolding copiesLeft
-  few-copies u l = omega (arith, count-below (eqb u) (piecesFrom (content s) l), pieces-left (content s) l, few-pieces)
+  -- The work words of a run are few.
+  pub few-work : workWords (content s) ≤ 6144
+  unfolding workWords
+  few-work = mul-le-mul (mul-le-mul (accepted-kinds s accepted .few-kinds) few-pieces) few-words

@@ -2,12 +2,11 @@
 -- counting members.
 use mathlib.Core.Bool.{Bool, true, false, not, cond, _&&_, _||_, and-true, and-false, and-assoc}
 use mathlib.Core.List.{List, [], _∷_}
-use mathlib.Core.Logic.{_↔_}
 use mathlib.Core.Option.{Option, none, some}
 use mathlib.Core.Path.{_≡_, refl, sym, ap, _∙_}
 use Prim.Native.Nat.{ℕ, _+_, _*_, max, _≤_, _<_}
 use native.Mathlib.Omega.{arith}
-use borrow.Author.Tests.{ltb-true, lt-ltb, le-ltb, eqb-true, eqb-false, leb-true, le-leb, lt-leb, ne-eqb}
+use borrow.Author.Tests.{ltb-true, lt-ltb, le-ltb, eqb-true, eqb-false, le-leb, lt-leb, ne-eqb}
 use lib.Dec.{leb, ltb, eqb}
 use lib.ListN.{getD}
 use Rattle.model.specs.Candidate.{isCandidate, candidates}
@@ -16,7 +15,6 @@ use Rattle.model.specs.Grid.{numberLimit, setWords}
 use Rattle.model.specs.Layout.{Entry, Layout, entryOf, entryNumber, entryExtent, isEntry, conflict, layoutLength}
 use Rattle.model.specs.Lists.{all, any, countOf, below}
 use Rattle.model.specs.Search.{candidateTable, free, abovePrevious, beats, staysBelow, live, lengthOf, copiesLeft, forwardCheck}
-use Rattle.model.specs.Services.{rowBit}
 use Rattle.model.proofs.Lists.{and-both, and-four, all-below, below-all, not-both}
 use Rattle.model.proofs.Numbers.{number-of-placement}
 use Rattle.model.proofs.Search.Completions.{length-cons}
@@ -26,11 +24,6 @@ use Rattle.stepping.specs.LiveSets.{setOf, boundOf, membersOf, enough}
 use Rattle.stepping.proofs.Counting.{countOf-keep, countOf-same, countOf-below, all-below-same}
 use Rattle.stepping.proofs.Extents.{candidate-extent, candidate-entry, placed-length, candidate-below, limit-words}
 use Rattle.stepping.proofs.Tests.{and-turn, and-last, not-or, ltb-max, ltb-bounds}
-
--- The row's bit of a candidate.
-pub row-at : (j : Job) (t n u m : ℕ) → isCandidate j u m ≡ true → rowBit j t n u m ≡ conflict j (entryOf j t n) (entryOf j u m)
-unfolding rowBit
-row-at j t n u m e = rw (e, rowBit)
 
 module _ (j : Job) where
   -- ---- Members
@@ -130,17 +123,6 @@ module _ (j : Job) where
       (and-last (isCandidate j u m) (free j placed (entryOf j u m)) (abovePrevious j placed (entryOf j u m))
       (ltb (entryExtent j (entryOf j u m)) bound) (not (conflict j (entryOf j t n) (entryOf j u m))) (not (eqb t u) || ltb n m))
 
-  -- The same where the conflicts are those of a row, which has no bit where there is no candidate.
-  pub set-placed-row : (placed : Layout) (bound t n u m : ℕ) → setOf j placed bound t n ≡ true
-      → setOf j (entryOf j t n ∷ placed) bound u m ≡ (setOf j placed bound u m && not (rowBit j t n u m) && (not (eqb t u) || ltb n m))
-  set-placed-row placed bound t n u m e = set-placed placed bound t n u m e ∙ go (isCandidate j u m) refl
-    where
-      go : (c : Bool) → isCandidate j u m ≡ c
-          → (setOf j placed bound u m && not (conflict j (entryOf j t n) (entryOf j u m)) && (not (eqb t u) || ltb n m))
-          ≡ (setOf j placed bound u m && not (rowBit j t n u m) && (not (eqb t u) || ltb n m))
-      go true d = rw (row-at j t n u m d)
-      go false d = rw (no-member placed bound u m d)
-
   -- ---- Look-ahead by counting members
 
   module _ (placed : Layout) (h : Option Layout) (a : all (isEntry j) placed ≡ true) (l : layoutLength j placed < boundOf j h) where
@@ -172,18 +154,6 @@ module _ (j : Job) where
         all-below-same (λ u. leb (copiesLeft u left) (countOf (live j placed (lengthOf j h) u) (getD (candidateTable j) u [])))
         (λ u. leb (copiesLeft u left) (countOf (setOf j placed (boundOf j h) u) (below (numberLimit (j .sheet))))) (kindCount j)
         (λ u k. ap (leb (copiesLeft u left)) (count-live u k))
-
-    -- The same kind by kind.
-    pub forward-exactly : (left : List ℕ)
-        → (forwardCheck j (candidateTable j) left placed (lengthOf j h) ≡ true)
-        ↔ ((u : ℕ) → u < kindCount j → copiesLeft u left ≤ countOf (setOf j placed (boundOf j h) u) (below (numberLimit (j .sheet))))
-    forward-exactly left = (
-      λ e u k. leb-true _ _ (all-below (test left) (kindCount j) (sym (forward-counts left) ∙ e) u k),
-      λ f. forward-counts left ∙ below-all (test left) (kindCount j) (λ u k. le-leb _ _ (f u k)),
-    )
-      where
-        test : List ℕ → ℕ → Bool
-        test left u = leb (copiesLeft u left) (countOf (setOf j placed (boundOf j h) u) (below (numberLimit (j .sheet))))
 
   -- No number that the words have a bit for beyond the limit is a member.
   pub members-limit : (placed : Layout) (bound u : ℕ)

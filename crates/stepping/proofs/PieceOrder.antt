@@ -1,13 +1,13 @@
 -- The pieces in their order, kind by kind: the law of a loop that goes through them.
-use mathlib.Core.List.{List, [], _∷_, _++_, map}
+use mathlib.Core.List.{List, [], _∷_, _++_}
 use mathlib.Core.Logic.{_⊎_, inl, inr}
-use mathlib.Core.Path.{_≡_, refl, sym, ap, _∙_}
+use mathlib.Core.Path.{_≡_, refl, sym, _∙_}
 use Prim.Native.Nat.{ℕ, zero, suc, _+_, _-_, _≤_, _<_}
 use native.Mathlib.Nat.{sub-zero}
 use native.Mathlib.Numerals.{add-one}
 use native.Mathlib.Omega.{arith}
 use borrow.Author.Tests.{eq-eqb, ne-eqb}
-use lib.ListN.{length, replicate, getD, drop}
+use lib.ListN.{replicate}
 use Rattle.words.proofs.Cases.{le-or-lt}
 use Rattle.model.specs.Content.{Job, kindAt, kindCount, pieceCount}
 use Rattle.model.specs.Lists.{concat, countOf, rising, below}

@@ -1,9 +1,8 @@
 -- Where the sets lie: none reaches into another, all lie within the needed words, and what is written in one leaves the others.
 use mathlib.Core.List.{List}
-use mathlib.Core.Logic.{_⊎_, inl, inr}
-use mathlib.Core.Path.{_≡_, refl, sym, ap, _∙_, subst}
-use Prim.Native.Nat.{ℕ, suc, _+_, _*_, _-_, _≤_, _<_}
-use native.Mathlib.Nat.{mul-le-mul-right, mul-comm, mul-assoc}
+use mathlib.Core.Path.{_≡_, refl, sym, _∙_}
+use Prim.Native.Nat.{ℕ, _+_, _*_, _-_, _≤_, _<_}
+use native.Mathlib.Nat.{mul-le-mul-right}
 use native.Mathlib.Omega.{arith}
 use lib.ListN.{length, take, drop, length-drop}
 use lib.Seq.{take-all}
@@ -13,7 +12,7 @@ use Rattle.model.specs.Content.{Job, kindCount, pieceCount}
 use Rattle.model.specs.Grid.{setWords}
 use Rattle.model.specs.Layout.{Layout}
 use Rattle.model.specs.Services.{workWords}
-use Rattle.stepping.specs.LiveSets.{setOf, Keeps}
+use Rattle.stepping.specs.LiveSets.{Keeps}
 use Rattle.stepping.specs.Slots.{setStart, slotOf, KeepsSince, Frame}
 
 module _ (j : Job) where

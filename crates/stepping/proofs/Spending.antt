@@ -5,10 +5,10 @@ use mathlib.Core.Option.{Option, none}
 use mathlib.Core.Path.{_≡_, refl, sym, ap, _∙_}
 use Prim.Native.Nat.{ℕ, zero, suc, _-_, _≤_, _<_}
 use native.Mathlib.Omega.{arith}
-use borrow.Author.Tests.{lt-ltb, le-ltb, ltb-false, ltb-true}
+use borrow.Author.Tests.{lt-ltb, le-ltb}
 use lib.Dec.{ltb, leb·suc-suc}
 use lib.ListN.{length, take, length-take}
-use lib.Seq.{take-nil, take-all}
+use lib.Seq.{take-nil}
 use Rattle.model.specs.Content.{Job}
 use Rattle.model.specs.Layout.{Layout}
 use Rattle.model.specs.Search.{Step, latest, bestAfter, stepsFrom, stepsNeeded, stepsTaken, isStopped, held}
@@ -60,14 +60,6 @@ spend-left (suc k) h (s ∷ ss) = spend-left k (latest h (s .completes)) ss ∙ 
 -- It does not grow, and nothing is left where the walk stops.
 pub spend-left-le : (k : ℕ) (h : Option Layout) (ss : List Step) → spend k h ss .left ≤ k
 spend-left-le k h ss = omega (arith, spend-left k h ss)
-
-pub spend-stopped-left : (k : ℕ) (h : Option Layout) (ss : List Step) → spend k h ss .stopped ≡ true → spend k h ss .left ≡ 0
-spend-stopped-left k h ss e = omega (arith, spend-left k h ss, ltb-true k (length ss) (sym (spend-stopped k h ss) ∙ e))
-
--- Where the walk does not stop, the layout held is the best after all steps.
-pub spend-held-all : (k : ℕ) (h : Option Layout) (ss : List Step) → spend k h ss .stopped ≡ false → spend k h ss .held ≡ bestAfter h ss
-spend-held-all k h ss e =
-    spend-held k h ss ∙ ap (bestAfter h) (take-all k ss (ltb-false k (length ss) (sym (spend-stopped k h ss) ∙ e)))
 
 -- ---- Steps after steps
 

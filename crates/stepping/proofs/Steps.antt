@@ -1,5 +1,5 @@
 -- The walk of one piece, number by number: which numbers are passed over, and what a number taken leads to, under a budget.
-use mathlib.Core.Bool.{Bool, true, false, cond}
+use mathlib.Core.Bool.{Bool, true, false}
 use mathlib.Core.List.{List, [], _∷_, _++_, reverse}
 use mathlib.Core.Option.{Option, some}
 use mathlib.Core.Path.{_≡_, refl, sym, ap, _∙_, subst}
@@ -13,14 +13,14 @@ use Rattle.model.specs.Content.{Job, kindCount}
 use Rattle.model.specs.Grid.{numberLimit}
 use Rattle.model.specs.Layout.{Layout, entryOf, isEntry, layoutLength}
 use Rattle.model.specs.Lists.{all, keep, countOf, rising, below}
-use Rattle.model.specs.Search.{Step, Searched, step, searched, then, candidateTable, live, copiesLeft, forwardCheck, completed, tryCandidates, searchPieces, lengthOf, latest, held}
+use Rattle.model.specs.Search.{Step, Searched, step, searched, then, candidateTable, live, copiesLeft, forwardCheck, completed, tryCandidates, searchPieces, lengthOf, latest}
 use Rattle.model.proofs.Lists.{below-all, not-both}
 use Rattle.model.proofs.Search.Completions.{length-reverse}
 use Rattle.model.proofs.Search.Pieces.{table-at}
 use Rattle.model.proofs.Search.Equations.{tries-end, tries-dead, tries-back, tries-deep}
 use Rattle.stepping.specs.LiveSets.{setOf, boundOf, enough}
 use Rattle.stepping.specs.Spending.{Spent, spent, spend, onward}
-use Rattle.stepping.specs.Steps.{remaining, goOn, tryFrom, goOnSpent, tryFromSpent, thenTry}
+use Rattle.stepping.specs.Steps.{remaining, goOn, tryFrom, goOnSpent, tryFromSpent}
 use Rattle.stepping.proofs.Extents.{candidate-below}
 use Rattle.stepping.proofs.LiveSets.{member-parts, forward-enough, live-of-member, dead-of-member, none-live}
 use Rattle.stepping.proofs.Spending.{spend-left-le, spend-end, spend-stops, spend-step, spend-append, onward-stopped, onward-goes}
@@ -190,12 +190,6 @@ module _ (j : Job) (cs : List (List ℕ)) where
       → Told (latest h (completed left placed)) (goOn j cs left placed (lengthOf j h) .steps) (goOn j cs left placed (lengthOf j h) .best)
   told-goOn left placed h = told-goes left placed h (told-pieces left placed h)
 
-  -- And of the walk of one piece.
-  pub told-piece : (t : ℕ) (left ns : List ℕ) (placed : Layout) (h : Option Layout)
-      → Told h (tryCandidates j cs (searchPieces j cs left) t left ns placed (lengthOf j h) .steps)
-      (tryCandidates j cs (searchPieces j cs left) t left ns placed (lengthOf j h) .best)
-  told-piece t left ns placed h = told-tries t left (told-pieces left) ns placed h
-
 -- ---- One piece, number by number
 
 module _ (j : Job) (t : ℕ) (left : List ℕ) (placed : Layout) where
@@ -281,21 +275,6 @@ module _ (j : Job) (t : ℕ) (left : List ℕ) (placed : Layout) where
           ∙ onward-goes _ _ d
           ∙ rw (told-goOn j (candidateTable j) left (entryOf j t n ∷ placed) h (k - 1) d)
 
-      -- Both in one.
-      pub take-unrolls : (k : ℕ) → 0 < k
-          → tryFromSpent j t left placed n k h
-          ≡ thenTry j t left placed (suc n) (goOnSpent j left (entryOf j t n ∷ placed) (k - 1) h)
-      unfolding thenTry
-      take-unrolls k p = go (goOnSpent j left (entryOf j t n ∷ placed) (k - 1) h .stopped) refl
-        where
-          w : Spent
-          w = goOnSpent j left (entryOf j t n ∷ placed) (k - 1) h
-
-          go : (b : Bool) → w .stopped ≡ b
-              → tryFromSpent j t left placed n k h ≡ cond (w .stopped) w (tryFromSpent j t left placed (suc n) (w .left) (w .held))
-          go true d = take-ends k p d ∙ sym (ap (λ (b : Bool). cond b w (tryFromSpent j t left placed (suc n) (w .left) (w .held))) d)
-          go false d = take-goes k p d ∙ sym (ap (λ (b : Bool). cond b w (tryFromSpent j t left placed (suc n) (w .left) (w .held))) d)
-
     -- ---- The same under a budget of which k is left
 
     -- Numbers among which there is no member are passed over.
@@ -341,10 +320,6 @@ module _ (j : Job) (placed : Layout) (k : ℕ) (h : Option Layout) where
         )
 
 -- The budget does not grow.
-pub try-left-le : (j : Job) (t : ℕ) (left : List ℕ) (placed : Layout) (n k : ℕ) (h : Option Layout) → tryFromSpent j t left placed n k h .left ≤ k
-unfolding tryFromSpent
-try-left-le j t left placed n k h = spend-left-le k h (tryFrom j t left placed (lengthOf j h) n .steps)
-
 pub goOn-left-le : (j : Job) (left : List ℕ) (placed : Layout) (k : ℕ) (h : Option Layout) → goOnSpent j left placed k h .left ≤ k
 unfolding goOnSpent
 goOn-left-le j left placed k h = spend-left-le k (latest h (completed left placed)) (goOn j (candidateTable j) left placed (lengthOf j h) .steps)

@@ -22,6 +22,14 @@ unfoldable pub placedBelow : Job → (ℕ → ℕ) → ℕ → Layout
 placedBelow j numbers zero = []
 placedBelow j numbers (suc l) = entryOf j (pieceKind j l) (numbers l) ∷ placedBelow j numbers l
 
+-- The number at a level, of those in an array.
+abbrev pub numbersAt : List ℕ → ℕ → ℕ
+numbersAt ns l = getD ns l 0
+
+-- The pieces placed below a level, by their numbers in an array.
+abbrev pub placedOf : Job → List ℕ → ℕ → Layout
+placedOf j ns l = placedBelow j (numbersAt ns) l
+
 -- What the walk does at level l if it tries the candidates of piece l from number n on, with k of the budget left and h held.
 unfoldable pub tryLevel : Job → (ℕ → ℕ) → ℕ → ℕ → ℕ → Option Layout → Spent
 tryLevel j numbers l n k h = tryFromSpent j (pieceKind j l) (piecesFrom j (suc l)) (placedBelow j numbers l) n k h

@@ -1,5 +1,5 @@
 -- The walk of one piece as a loop over numbers, and what follows a candidate taken: what the two functions of the search have to do.
-use mathlib.Core.Bool.{true, false, cond}
+use mathlib.Core.Bool.{true, false}
 use mathlib.Core.List.{List, []}
 use mathlib.Core.Option.{Option, none, some}
 use mathlib.Core.Path.{_≡_}
@@ -36,10 +36,6 @@ goOnSpent j left placed k h = spend k (latest h (completed left placed)) (goOn j
 
 unfoldable pub tryFromSpent : Job → ℕ → List ℕ → Layout → ℕ → ℕ → Option Layout → Spent
 tryFromSpent j t left placed n k h = spend k h (tryFrom j t left placed (lengthOf j h) n .steps)
-
--- The candidates from number n on, after what the walk did before: none if it stopped, else with what is left and held.
-unfoldable pub thenTry : Job → ℕ → List ℕ → Layout → ℕ → Spent → Spent
-thenTry j t left placed n w = cond (w .stopped) w (tryFromSpent j t left placed n (w .left) (w .held))
 
 -- The layout held, if one is, has so many entries.
 abbrev pub Entries : ℕ → Option Layout → Type 0

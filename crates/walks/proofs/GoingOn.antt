@@ -1,29 +1,29 @@
 -- What follows a candidate taken: a complete layout, look-ahead that fails, or the next piece.
 use mathlib.Core.Bool.{Bool, true, false}
-use mathlib.Core.List.{List, [], _∷_, map, reverse}
+use mathlib.Core.List.{List, reverse}
 use mathlib.Core.Logic.{_⊎_, inl, inr}
-use mathlib.Core.Option.{Option, none, some}
+use mathlib.Core.Option.{some}
 use mathlib.Core.Path.{_≡_, refl, sym, ap, _∙_, subst}
-use Prim.Native.Nat.{ℕ, zero, suc, _+_, _*_, _-_, _≤_, _<_}
-use native.Mathlib.Numerals.{add-one}
+use Prim.Native.Nat.{ℕ, zero, suc, _+_, _-_, _≤_, _<_}
 use native.Mathlib.Omega.{arith}
-use lib.ListN.{length, getD, length-map}
+use lib.ListN.{length, length-map}
 use Rattle.words.proofs.Cases.{eq-or-ne}
 use Rattle.model.specs.Candidate.{isCandidate}
 use Rattle.model.specs.Content.{Job, kindCount, pieceCount}
 use Rattle.model.specs.Grid.{dots, numberLimit}
-use Rattle.model.specs.Layout.{Entry, Layout, entryOf, entryAt, noEntry, isEntry, layoutLength}
+use Rattle.model.specs.Layout.{Layout, entryOf, entryAt, noEntry, isEntry, layoutLength}
 use Rattle.model.specs.Lists.{all, below}
 use Rattle.model.specs.Search.{copiesLeft}
-use Rattle.model.specs.Services.{layoutIn, withLayout, numbersIn}
+use Rattle.model.specs.Services.{layoutIn, withLayout}
 use Rattle.model.proofs.Lists.{and-left, and-right, length-below, getD-map-below}
 use Rattle.model.proofs.ReadBack.{Small, read-layout}
-use Rattle.stepping.specs.LiveSets.{setOf, boundOf, enough}
-use Rattle.stepping.specs.Levels.{pieceKind, piecesFrom, placedBelow, tryLevel, goOnLevel}
-use Rattle.stepping.specs.Slots.{slotOf, KeepsSince, Frame}
-use Rattle.stepping.specs.Spending.{Spent, spent}
-use Rattle.live_sets.specs.Settled.{numbersAt, placedOf, Placeable, Settled}
-use Rattle.walks.specs.Walk.{heldOf, layoutOf, Recordable, Ready, Taken, Left}
+use Rattle.stepping.specs.LiveSets.{boundOf, enough}
+use Rattle.stepping.specs.Levels.{pieceKind, piecesFrom, placedBelow, tryLevel, goOnLevel, numbersAt, placedOf}
+use Rattle.stepping.specs.Slots.{slotOf, KeepsSince}
+use Rattle.stepping.specs.Spending.{spent}
+use Rattle.lookahead.specs.Settled.{Placeable, Settled}
+use Rattle.plans.specs.Recording.{layoutOf, Recordable}
+use Rattle.walks.specs.Walk.{heldOf, Ready, Taken, Left}
 use Rattle.walks.specs.declared.walk.Progress.{Progress}
 use Rattle.stepping.proofs.Extents.{candidate-entry, candidate-below, candidate-bounds, bounds-small}
 use Rattle.stepping.proofs.Levels.{placed-layout, level-last, level-back, level-deep}
@@ -66,11 +66,7 @@ module _ (j : Job) (ns : List ℕ) where
             let e : entryAt (layoutOf j ns) i ≡ entryOf j (pieceKind j i) (numbersAt ns i) = getD-map-below _ (pieceCount j) i noEntry k in
             rw e (bounds-small j _ (omega arith) (candidate-bounds j (pieceKind j i) (numbersAt ns i) few-dots (placed-candidates (pieceCount j) a i k)))
 
-  module _ (level len : ℕ) (work out : List ℕ) (st : Progress) (r : Ready j work out ns level level len st) (t : Taken j ns level len st) where
-    -- What follows.
-    abbrev follows : Spent
-    follows = goOnLevel j (numbersAt ns) level (st .left) (heldOf j (st .found) out)
-
+  module _ (level len : ℕ) (work out : List ℕ) (st : Progress) (r : Ready j work out ns level level len st) (under : len < st .bound) where
     -- ---- The last piece was placed
 
     pub record-ready : dots (j .sheet) ≤ 1024 → kindCount j ≤ 8 → level ≡ pieceCount j → Recordable j ns out
@@ -90,18 +86,18 @@ module _ (j : Job) (ns : List ℕ) where
           stopped = refl;
           held = ap some (ap (layoutIn j) o ∙ layout-back d k a out);
           bound-is = r .len-is ∙ ap (λ (l : ℕ). layoutLength j (placedOf j ns l)) e ∙ sym (bound-complete j (placedOf j ns (pieceCount j))) ∙ ap (λ (es : Layout). boundOf j (some es)) layout-placed;
-          lowered = omega (arith, t .below);
+          lowered = omega arith;
           written = o;
           frame = frame-same j level work;
         })
 
     -- ---- Look-ahead
 
-    pub settle-ready : level < pieceCount j → 0 < level → Placeable j ns level (st .bound) work
-    settle-ready h p = record { within = h; fits = r .work-fits; later = p; latest = t .latest p; sets = r .sets }
+    pub settle-ready : level < pieceCount j → Taken j ns level len st → Placeable j ns level (st .bound) work
+    settle-ready h t = record { within = h; fits = r .work-fits; later = t .some; latest = t .latest; sets = r .sets }
 
     short : layoutLength j (placedOf j ns level) < boundOf j (heldOf j (st .found) out)
-    short = rw (← (r .len-is), ← (r .bound-is)) (t .below)
+    short = rw (← (r .len-is), ← (r .bound-is)) under
 
     -- It fails: the candidate is given back.
     pub go-back : (work′ : List ℕ) (told : Bool) → level < pieceCount j → told ≡ false → Settled j ns level (st .bound) work work′ told

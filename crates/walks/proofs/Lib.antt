@@ -1,4 +1,2 @@
-pub mod Trying
-pub mod Writing
-pub mod Passing
 pub mod GoingOn
+pub mod Trying

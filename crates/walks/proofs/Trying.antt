@@ -1,66 +1,39 @@
 -- The loop of one piece: what stands at each turn, and what each way out of it leaves.
-use mathlib.Core.Bool.{Bool, true, false, _&&_}
-use mathlib.Core.List.{List, [], _∷_, map}
+use mathlib.Core.Bool.{Bool, true, false}
+use mathlib.Core.List.{List, _∷_}
 use mathlib.Core.Logic.{_⊎_, inl, inr}
 use mathlib.Core.Option.{Option, none, some}
 use mathlib.Core.Path.{_≡_, refl, sym, ap, _∙_, subst}
-use Prim.Native.Nat.{ℕ, zero, suc, _+_, _*_, _-_, max, _≤_, _<_}
+use Prim.Native.Nat.{ℕ, suc, _+_, _*_, _-_, max, _≤_, _<_}
 use native.Mathlib.Numerals.{add-one}
 use native.Mathlib.Omega.{arith}
-use lib.Dec.{ltb}
-use lib.ListN.{length, getD, set, length-set, length-map}
+use lib.ListN.{length, set, length-set, length-map}
 use lib.Seq.{getD-set-same, getD-set-other}
 use Rattle.words.specs.Number.{count}
-use Rattle.words.specs.Sets.{member, firstFrom, nextMember}
-use Rattle.words.proofs.First.{Found, found}
-use Rattle.model.specs.Content.{Job, kindCount, pieceCount}
-use Rattle.model.specs.Grid.{numberLimit, setWords}
+use Rattle.model.specs.Content.{Job, pieceCount}
+use Rattle.model.specs.Grid.{setWords}
 use Rattle.model.specs.Layout.{Layout, entryOf, entryExtent, isEntry, layoutLength}
 use Rattle.model.specs.Lists.{all, below}
-use Rattle.model.specs.Search.{copiesLeft}
-use Rattle.model.specs.Services.{entryIn, layoutIn, withLayout, numbersIn, workWords}
+use Rattle.model.specs.Services.{entryIn, layoutIn, withLayout, numbersIn}
 use Rattle.model.proofs.Lists.{length-below}
 use Rattle.model.proofs.Search.Completions.{length-cons}
-use Rattle.stepping.specs.LiveSets.{setOf, boundOf, Keeps}
-use Rattle.stepping.specs.Levels.{pieceKind, piecesFrom, placedBelow, tryLevel, goOnLevel}
+use Rattle.stepping.specs.LiveSets.{setOf, boundOf}
+use Rattle.stepping.specs.Levels.{pieceKind, piecesFrom, placedBelow, tryLevel, goOnLevel, numbersAt, placedOf}
 use Rattle.stepping.specs.Slots.{slotOf, KeepsSince, Frame}
 use Rattle.stepping.specs.Spending.{Spent, spent}
 use Rattle.stepping.specs.Steps.{Entries}
-use Rattle.live_sets.specs.Settled.{numbersAt, placedOf, SetsKept}
-use Rattle.walks.specs.Walk.{heldOf, NextLive, Ready, Taken, Left}
-use Rattle.walks.specs.declared.walk.Progress.{Progress}
 use Rattle.stepping.proofs.Answer.{layout-after}
 use Rattle.stepping.proofs.Extents.{limit-words}
 use Rattle.stepping.proofs.Held.{goOn-none}
-use Rattle.stepping.proofs.Levels.{placed-next, placed-same, level-same, level-over, level-past, level-stops, level-ends, level-goes, placed-entries}
-use Rattle.stepping.proofs.LiveSets.{placed-admitted, placed-below, set-prune}
+use Rattle.stepping.proofs.Levels.{piece-kind, placed-next, placed-same, level-same, level-over, level-past, level-stops, level-ends, level-goes, placed-entries}
+use Rattle.stepping.proofs.LiveSets.{placed-admitted, placed-below}
+use Rattle.stepping.proofs.PieceOrder.{copies-here}
 use Rattle.stepping.proofs.Slots.{keeps-frame, frame-same, frame-then}
 use Rattle.stepping.proofs.Steps.{spent-skip-to}
-
--- ---- The next live candidate
-
--- What the next member is.
-pub next-found : (s : List ℕ) (limit from : ℕ)
-    → (from ≤ nextMember limit s from)
-    × ((i : ℕ) → from ≤ i → i < nextMember limit s from → (i < limit) × (member s i ≡ false))
-    × (nextMember limit s from < limit → member s (nextMember limit s from) ≡ true)
-unfolding nextMember
-next-found s limit from =
-    let m : ℕ = found (member s) (limit - from) from .0 in
-    let f : Found (member s) (limit - from) from m = found (member s) (limit - from) from .1 in (
-      omega (arith, f .place),
-      λ i l h.
-          let e : from + (i - from) ≡ i = omega arith in
-          let k : i - from < m = omega (arith, f .place) in
-          (omega (arith, f .within), subst (λ (n : ℕ). member s n ≡ false) e (f .before (i - from) k)),
-      λ h. subst (λ (n : ℕ). member s n ≡ true) (sym (f .place)) (f .met (omega (arith, f .place))),
-    )
-
-module _ (j : Job) (placed : Layout) (bound u : ℕ) (s : List ℕ) (k : KeepsSince j placed bound u s) where
-  -- A number is a member of the set if it is kept and ends below the bound.
-  pub member-now : (m : ℕ) → m < setWords (j .sheet) * 64 → setOf j placed bound u m ≡ (member s m && ltb (entryExtent j (entryOf j u m)) bound)
-  member-now m h =
-      set-prune j placed (k .0) bound u m (k .1) ∙ ap (λ (b : Bool). b && ltb (entryExtent j (entryOf j u m)) bound) (sym (k .2 m h))
+use Rattle.branching.specs.Choosing.{NextLive}
+use Rattle.walks.specs.Walk.{heldOf, Ready, Taken, Left}
+use Rattle.branching.specs.declared.choosing.Next.{Next}
+use Rattle.walks.specs.declared.walk.Progress.{Progress}
 
 -- ---- The layout held
 
@@ -134,57 +107,61 @@ module _ (j : Job) (ns : List ℕ) (level len : ℕ) where
           frame = t .frame;
         }
 
-    -- What is placed does not end below the bound.
-    pub trying-over : st .bound ≤ len → Left j work₀ out₀ work out (level + 1) st₀ st (whole st₀ out₀)
-    trying-over c =
-        trying-leaves (level-over j (numbersAt ns) level (heldOf j (st .found) out) (t .ready .admitted) from (st .left)
-        (omega (arith, t .ready .bound-is, t .ready .len-is)))
+    -- The set of the piece is kept.
+    pub trying-keeps : level < pieceCount j → KeepsSince j (placedOf j ns level) (st .bound) (pieceKind j level) (slotOf j work level (pieceKind j level))
+    trying-keeps h = t .ready .sets level (pieceKind j level) (omega arith) (piece-kind j level h) (copies-here j level h)
 
-    module _ (n : ℕ) (v : NextLive j (placedOf j ns level) (st .bound) (pieceKind j level) from n) where
+    module _ (r : Next) (v : NextLive j (placedOf j ns level) (st .bound) (pieceKind j level) len from r) where
       -- The walk goes to the next live candidate.
-      trying-skips : tryLevel j (numbersAt ns) level from (st .left) (heldOf j (st .found) out) ≡ tryLevel j (numbersAt ns) level n (st .left) (heldOf j (st .found) out)
+      trying-skips : tryLevel j (numbersAt ns) level from (st .left) (heldOf j (st .found) out) ≡ tryLevel j (numbersAt ns) level (r .number) (st .left) (heldOf j (st .found) out)
       trying-skips =
-          level-skip j (numbersAt ns) level (heldOf j (st .found) out) (t .ready .admitted) from n (st .left) (v .above)
+          level-skip j (numbersAt ns) level (heldOf j (st .found) out) (t .ready .admitted) from (r .number) (st .left) (v .above)
           (λ i p q. ap (λ (b : ℕ). setOf j (placedOf j ns level) b (pieceKind j level) i) (sym (t .ready .bound-is)) ∙ v .passed i p q)
 
-      -- There is none.
-      pub trying-past : setWords (j .sheet) * 64 ≤ n → Left j work₀ out₀ work out (level + 1) st₀ st (whole st₀ out₀)
-      trying-past c =
-          trying-leaves (trying-skips ∙ level-past j (numbersAt ns) level (heldOf j (st .found) out) (t .ready .admitted) n (st .left) (omega (arith, limit-words (j .sheet))))
+      -- There is none: what is placed does not end below the bound, or no member is left.
+      pub trying-past : r .found ≡ false → Left j work₀ out₀ work out (level + 1) st₀ st (whole st₀ out₀)
+      trying-past f = go (v .none f)
+        where
+          go : (st .bound ≤ len) ⊎ (setWords (j .sheet) * 64 ≤ r .number) → Left j work₀ out₀ work out (level + 1) st₀ st (whole st₀ out₀)
+          go (inl o) =
+              trying-leaves (level-over j (numbersAt ns) level (heldOf j (st .found) out) (t .ready .admitted) from (st .left)
+              (omega (arith, t .ready .bound-is, t .ready .len-is)))
+          go (inr o) =
+              trying-leaves (trying-skips ∙ level-past j (numbersAt ns) level (heldOf j (st .found) out) (t .ready .admitted) (r .number) (st .left) (omega (arith, limit-words (j .sheet))))
 
-      module _ (small : n < setWords (j .sheet) * 64) (inside : level < pieceCount j) (few : level < 12) (below : len < st .bound) where
+      module _ (f : r .found ≡ true) (inside : level < pieceCount j) (few : level < 12) where
         -- The numbers with the new one: those below are as they were.
-        same-below : (i : ℕ) → i < level → numbersAt ns i ≡ numbersAt (set ns level n) i
-        same-below i q = sym (getD-set-other ns level i n 0 (λ e. omega arith))
+        same-below : (i : ℕ) → i < level → numbersAt ns i ≡ numbersAt (set ns level (r .number)) i
+        same-below i q = sym (getD-set-other ns level i (r .number) 0 (λ e. omega arith))
 
-        number-is : numbersAt (set ns level n) level ≡ n
-        number-is = getD-set-same ns level n 0 (rw (t .ready .room) few)
+        number-is : numbersAt (set ns level (r .number)) level ≡ r .number
+        number-is = getD-set-same ns level (r .number) 0 (rw (t .ready .room) few)
 
-        placed-is : (l : ℕ) → l ≤ level → placedOf j ns l ≡ placedOf j (set ns level n) l
-        placed-is l q = placed-same j (numbersAt ns) (numbersAt (set ns level n)) l (λ i r. same-below i (omega arith))
+        placed-is : (l : ℕ) → l ≤ level → placedOf j ns l ≡ placedOf j (set ns level (r .number)) l
+        placed-is l q = placed-same j (numbersAt ns) (numbersAt (set ns level (r .number))) l (λ i r. same-below i (omega arith))
 
-        admitted : all (isEntry j) (placedOf j (set ns level n) level) ≡ true
+        admitted : all (isEntry j) (placedOf j (set ns level (r .number)) level) ≡ true
         admitted = rw (← (placed-is level (omega arith))) (t .ready .admitted)
 
-        member-is : setOf j (placedOf j (set ns level n) level) (boundOf j (heldOf j (st .found) out)) (pieceKind j level) (numbersAt (set ns level n) level) ≡ true
-        member-is = rw (← (placed-is level (omega arith)), number-is, ← (t .ready .bound-is)) (v .found small)
+        member-is : setOf j (placedOf j (set ns level (r .number)) level) (boundOf j (heldOf j (st .found) out)) (pieceKind j level) (numbersAt (set ns level (r .number)) level) ≡ true
+        member-is = rw (← (placed-is level (omega arith)), number-is, ← (t .ready .bound-is)) (v .found f .member)
 
-        short : layoutLength j (placedOf j (set ns level n) level) < boundOf j (heldOf j (st .found) out)
-        short = rw (← (placed-is level (omega arith)), ← (t .ready .bound-is), ← (t .ready .len-is)) below
+        short : layoutLength j (placedOf j (set ns level (r .number)) level) < boundOf j (heldOf j (st .found) out)
+        short = rw (← (placed-is level (omega arith)), ← (t .ready .bound-is), ← (t .ready .len-is)) (v .found f .below)
 
         -- The walk from the new number on, with the numbers as they are then.
-        trying-at : whole st₀ out₀ ≡ tryLevel j (numbersAt (set ns level n)) level (numbersAt (set ns level n) level) (st .left) (heldOf j (st .found) out)
+        trying-at : whole st₀ out₀ ≡ tryLevel j (numbersAt (set ns level (r .number))) level (numbersAt (set ns level (r .number)) level) (st .left) (heldOf j (st .found) out)
         trying-at =
             t .same ∙ trying-skips
-            ∙ level-same j (numbersAt ns) (numbersAt (set ns level n)) level n (st .left) (heldOf j (st .found) out) same-below
-            ∙ ap (λ (m : ℕ). tryLevel j (numbersAt (set ns level n)) level m (st .left) (heldOf j (st .found) out)) (sym number-is)
+            ∙ level-same j (numbersAt ns) (numbersAt (set ns level (r .number))) level (r .number) (st .left) (heldOf j (st .found) out) same-below
+            ∙ ap (λ (m : ℕ). tryLevel j (numbersAt (set ns level (r .number))) level m (st .left) (heldOf j (st .found) out)) (sym number-is)
 
         -- The budget is spent.
         pub trying-stops : st .left ≡ 0 → Left j work₀ out₀ work out (level + 1) st₀ (halted st) (whole st₀ out₀)
         trying-stops z =
             let w : whole st₀ out₀ ≡ spent 0 (heldOf j (st .found) out) true =
-            trying-at ∙ ap (λ (k : ℕ). tryLevel j (numbersAt (set ns level n)) level (numbersAt (set ns level n) level) k (heldOf j (st .found) out)) z
-            ∙ level-stops j (numbersAt (set ns level n)) level (heldOf j (st .found) out) admitted short member-is in
+            trying-at ∙ ap (λ (k : ℕ). tryLevel j (numbersAt (set ns level (r .number))) level (numbersAt (set ns level (r .number)) level) k (heldOf j (st .found) out)) z
+            ∙ level-stops j (numbersAt (set ns level (r .number))) level (heldOf j (st .found) out) admitted short member-is in
             let held-is : heldOf j (st .found) out ≡ whole st₀ out₀ .held = sym (ap (λ (w : Spent). w .held) w) in
             record {
               left = sym (ap (λ (w : Spent). w .left) w);
@@ -198,108 +175,107 @@ module _ (j : Job) (ns : List ℕ) (level len : ℕ) where
 
         -- ---- A candidate is taken
 
-        module _ (len′ : ℕ) (len-next : len′ ≡ max (entryExtent j (entryOf j (pieceKind j level) n)) len) where
-          placed-more : placedOf j (set ns level n) (level + 1) ≡ entryOf j (pieceKind j level) n ∷ placedOf j ns level
-          placed-more =
-              ap (λ (i : ℕ). placedOf j (set ns level n) i) (add-one level)
-              ∙ placed-next j (numbersAt (set ns level n)) level
-              ∙ rw (number-is, ← (placed-is level (omega arith)))
+        placed-more : placedOf j (set ns level (r .number)) (level + 1) ≡ entryOf j (pieceKind j level) (r .number) ∷ placedOf j ns level
+        placed-more =
+            ap (λ (i : ℕ). placedOf j (set ns level (r .number)) i) (add-one level)
+            ∙ placed-next j (numbersAt (set ns level (r .number))) level
+            ∙ rw (number-is, ← (placed-is level (omega arith)))
 
-          live : setOf j (placedOf j ns level) (st .bound) (pieceKind j level) n ≡ true
-          live = v .found small
+        live : setOf j (placedOf j ns level) (st .bound) (pieceKind j level) (r .number) ≡ true
+        live = v .found f .member
 
-          -- What the walk asks once it is placed.
-          pub taken-ready : Ready j work out (set ns level n) (level + 1) (level + 1) len′ (lessOne st)
-          taken-ready =
+        -- What the walk asks once it is placed.
+        pub taken-ready : Ready j work out (set ns level (r .number)) (level + 1) (level + 1) (r .extent) (lessOne st)
+        taken-ready =
+            record {
+              work-fits = t .ready .work-fits;
+              out-fits = t .ready .out-fits;
+              room = length-set ns level (r .number) ∙ t .ready .room;
+              admitted = rw placed-more (placed-admitted j (placedOf j ns level) (st .bound) (pieceKind j level) (r .number) live (t .ready .admitted));
+              len-is = rw placed-more (v .found f .reaches ∙ ap (max (entryExtent j (entryOf j (pieceKind j level) (r .number)))) (t .ready .len-is) ∙ sym (length-cons j (entryOf j (pieceKind j level) (r .number)) (placedOf j ns level)));
+              bound-is = t .ready .bound-is;
+              written = t .ready .written;
+              running = refl;
+              sets =
+                  λ l u q g k. subst (λ (es : Layout). KeepsSince j es (st .bound) u (slotOf j work l u)) (placed-is l (omega arith)) (t .ready .sets l u q g k);
+            }
+
+        pub taken-taken : Taken j (set ns level (r .number)) (level + 1) (r .extent) (lessOne st)
+        taken-taken =
+            let e : level + 1 - 1 ≡ level = omega arith in
+            record {
+              some = omega arith;
+              within = omega arith;
+              below = rw (v .found f .reaches, t .ready .len-is, ← (length-cons j (entryOf j (pieceKind j level) (r .number)) (placedOf j ns level))) (placed-below j (placedOf j ns level) (st .bound) (pieceKind j level) (r .number) live (rw (← (t .ready .len-is)) (v .found f .below)));
+              latest = rw (e, number-is, ← (placed-is level (omega arith))) live;
+            }
+
+        -- ---- What it leaves
+
+        module _ (work′ out′ : List ℕ) (st′ : Progress) (work-length : length work′ ≡ length work) (out-length : length out′ ≡ length out)
+            (more : 0 < st .left)
+            (d : Left j work out work′ out′ (level + 1) (lessOne st) st′
+            (goOnLevel j (numbersAt (set ns level (r .number))) (level + 1) (lessOne st .left) (heldOf j (st .found) out))) where
+          -- What the walk did below.
+          done : Left j work out work′ out′ (level + 1) (lessOne st) st′ (goOnLevel j (numbersAt (set ns level (r .number))) (suc level) (st .left - 1) (heldOf j (st .found) out))
+          done =
+              subst
+              (λ (l : ℕ). Left j work out work′ out′ (level + 1) (lessOne st) st′ (goOnLevel j (numbersAt (set ns level (r .number))) l (st .left - 1) (heldOf j (st .found) out)))
+              (add-one level) d
+
+          entries : Entries (pieceCount j) (goOnLevel j (numbersAt (set ns level (r .number))) (suc level) (st .left - 1) (heldOf j (st .found) out) .held)
+          entries = placed-entries j (numbersAt (set ns level (r .number))) (suc level) (st .left - 1) (heldOf j (st .found) out) (omega arith) (held-entries j (st .found) out)
+
+          -- The layout held then, over the one held before.
+          over : out′ ≡ withLayout (goOnLevel j (numbersAt (set ns level (r .number))) (suc level) (st .left - 1) (heldOf j (st .found) out) .held) out₀
+          over =
+              done .written
+              ∙ ap (withLayout (goOnLevel j (numbersAt (set ns level (r .number))) (suc level) (st .left - 1) (heldOf j (st .found) out) .held)) (t .written)
+              ∙ layout-after (pieceCount j) _ (heldOf j (st .found) out) out₀
+              entries (held-entries j (st .found) out) (none-before j (numbersAt (set ns level (r .number))) (suc level) (st .left - 1) (heldOf j (st .found) out))
+
+          -- It stopped.
+          pub trying-ends : st′ .stopped ≡ true → Left j work₀ out₀ work′ out′ (level + 1) st₀ st′ (whole st₀ out₀)
+          trying-ends z =
+              let w : whole st₀ out₀ ≡ goOnLevel j (numbersAt (set ns level (r .number))) (suc level) (st .left - 1) (heldOf j (st .found) out) =
+              trying-at ∙ level-ends j (numbersAt (set ns level (r .number))) level (heldOf j (st .found) out) admitted short member-is (st .left) more (sym (done .stopped) ∙ z) in
+              rw w (record {
+                left = done .left;
+                stopped = done .stopped;
+                held = done .held;
+                bound-is = done .bound-is;
+                lowered = omega (arith, done .lowered, t .lowered);
+                written = over;
+                frame = frame-then j (level + 1) work₀ work work′ (t .frame) (done .frame);
+              })
+
+          -- It came back: the numbers after this one are tried.
+          pub trying-goes : st′ .stopped ≡ false → Trying j ns level len work₀ out₀ work′ out′ st₀ st′ (r .number + 1)
+          trying-goes z =
+              let w : whole st₀ out₀ ≡ tryLevel j (numbersAt (set ns level (r .number))) level (suc (r .number)) (st′ .left) (heldOf j (st′ .found) out′) =
+              trying-at
+              ∙ level-goes j (numbersAt (set ns level (r .number))) level (heldOf j (st .found) out) admitted short member-is (st .left) more (sym (done .stopped) ∙ z)
+              ∙ rw (number-is, done .left, done .held) in
               record {
-                work-fits = t .ready .work-fits;
-                out-fits = t .ready .out-fits;
-                room = length-set ns level n ∙ t .ready .room;
-                admitted = rw placed-more (placed-admitted j (placedOf j ns level) (st .bound) (pieceKind j level) n live (t .ready .admitted));
-                len-is = rw placed-more (len-next ∙ ap (max (entryExtent j (entryOf j (pieceKind j level) n))) (t .ready .len-is) ∙ sym (length-cons j (entryOf j (pieceKind j level) n) (placedOf j ns level)));
-                bound-is = t .ready .bound-is;
-                written = t .ready .written;
-                running = refl;
-                sets =
-                    λ l u q g k. subst (λ (es : Layout). KeepsSince j es (st .bound) u (slotOf j work l u)) (placed-is l (omega arith)) (t .ready .sets l u q g k);
+                ready = record {
+                  work-fits = rw work-length (t .ready .work-fits);
+                  out-fits = rw (same-numbers out′ out out-length) (t .ready .out-fits);
+                  room = t .ready .room;
+                  admitted = t .ready .admitted;
+                  len-is = t .ready .len-is;
+                  bound-is = done .bound-is ∙ ap (boundOf j) (sym (done .held));
+                  written =
+                      ap (λ (g : Option Layout). withLayout g out′) (done .held)
+                      ∙ ap (withLayout (goOnLevel j (numbersAt (set ns level (r .number))) (suc level) (st .left - 1) (heldOf j (st .found) out) .held)) (done .written)
+                      ∙ layout-after (pieceCount j) _ _ out entries entries (λ e. e)
+                      ∙ sym (done .written);
+                  running = z;
+                  sets = λ l u q g k.
+                      let s = keeps-frame j (placedOf j ns l) (st .bound) l (level + 1) u work work′ q g (done .frame) (t .ready .sets l u q g k) in
+                      (s .0, omega (arith, s .1, done .lowered), s .2);
+                };
+                same = w ∙ sym (level-same j (numbersAt ns) (numbersAt (set ns level (r .number))) level (suc (r .number)) (st′ .left) (heldOf j (st′ .found) out′) same-below) ∙ ap (λ (m : ℕ). tryLevel j (numbersAt ns) level m (st′ .left) (heldOf j (st′ .found) out′)) (sym (add-one (r .number)));
+                lowered = omega (arith, done .lowered, t .lowered);
+                written = over ∙ ap (λ (g : Option Layout). withLayout g out₀) (sym (done .held));
+                frame = frame-then j (level + 1) work₀ work work′ (t .frame) (done .frame);
               }
-
-          pub taken-taken : Taken j (set ns level n) (level + 1) len′ (lessOne st)
-          taken-taken =
-              let e : level + 1 - 1 ≡ level = omega arith in
-              record {
-                within = omega arith;
-                below = rw (len-next, t .ready .len-is, ← (length-cons j (entryOf j (pieceKind j level) n) (placedOf j ns level))) (placed-below j (placedOf j ns level) (st .bound) (pieceKind j level) n live (rw (← (t .ready .len-is)) below));
-                first = λ z. absurd (omega arith);
-                latest = λ p. rw (e, number-is, ← (placed-is level (omega arith))) live;
-              }
-
-          -- ---- What it leaves
-
-          module _ (work′ out′ : List ℕ) (st′ : Progress) (work-length : length work′ ≡ length work) (out-length : length out′ ≡ length out)
-              (more : 0 < st .left)
-              (d : Left j work out work′ out′ (level + 1) (lessOne st) st′
-              (goOnLevel j (numbersAt (set ns level n)) (level + 1) (lessOne st .left) (heldOf j (st .found) out))) where
-            -- What the walk did below.
-            done : Left j work out work′ out′ (level + 1) (lessOne st) st′ (goOnLevel j (numbersAt (set ns level n)) (suc level) (st .left - 1) (heldOf j (st .found) out))
-            done =
-                subst
-                (λ (l : ℕ). Left j work out work′ out′ (level + 1) (lessOne st) st′ (goOnLevel j (numbersAt (set ns level n)) l (st .left - 1) (heldOf j (st .found) out)))
-                (add-one level) d
-
-            entries : Entries (pieceCount j) (goOnLevel j (numbersAt (set ns level n)) (suc level) (st .left - 1) (heldOf j (st .found) out) .held)
-            entries = placed-entries j (numbersAt (set ns level n)) (suc level) (st .left - 1) (heldOf j (st .found) out) (omega arith) (held-entries j (st .found) out)
-
-            -- The layout held then, over the one held before.
-            over : out′ ≡ withLayout (goOnLevel j (numbersAt (set ns level n)) (suc level) (st .left - 1) (heldOf j (st .found) out) .held) out₀
-            over =
-                done .written
-                ∙ ap (withLayout (goOnLevel j (numbersAt (set ns level n)) (suc level) (st .left - 1) (heldOf j (st .found) out) .held)) (t .written)
-                ∙ layout-after (pieceCount j) _ (heldOf j (st .found) out) out₀
-                entries (held-entries j (st .found) out) (none-before j (numbersAt (set ns level n)) (suc level) (st .left - 1) (heldOf j (st .found) out))
-
-            -- It stopped.
-            pub trying-ends : st′ .stopped ≡ true → Left j work₀ out₀ work′ out′ (level + 1) st₀ st′ (whole st₀ out₀)
-            trying-ends z =
-                let w : whole st₀ out₀ ≡ goOnLevel j (numbersAt (set ns level n)) (suc level) (st .left - 1) (heldOf j (st .found) out) =
-                trying-at ∙ level-ends j (numbersAt (set ns level n)) level (heldOf j (st .found) out) admitted short member-is (st .left) more (sym (done .stopped) ∙ z) in
-                rw w (record {
-                  left = done .left;
-                  stopped = done .stopped;
-                  held = done .held;
-                  bound-is = done .bound-is;
-                  lowered = omega (arith, done .lowered, t .lowered);
-                  written = over;
-                  frame = frame-then j (level + 1) work₀ work work′ (t .frame) (done .frame);
-                })
-
-            -- It came back: the numbers after this one are tried.
-            pub trying-goes : st′ .stopped ≡ false → Trying j ns level len work₀ out₀ work′ out′ st₀ st′ (n + 1)
-            trying-goes z =
-                let w : whole st₀ out₀ ≡ tryLevel j (numbersAt (set ns level n)) level (suc n) (st′ .left) (heldOf j (st′ .found) out′) =
-                trying-at
-                ∙ level-goes j (numbersAt (set ns level n)) level (heldOf j (st .found) out) admitted short member-is (st .left) more (sym (done .stopped) ∙ z)
-                ∙ rw (number-is, done .left, done .held) in
-                record {
-                  ready = record {
-                    work-fits = rw work-length (t .ready .work-fits);
-                    out-fits = rw (same-numbers out′ out out-length) (t .ready .out-fits);
-                    room = t .ready .room;
-                    admitted = t .ready .admitted;
-                    len-is = t .ready .len-is;
-                    bound-is = done .bound-is ∙ ap (boundOf j) (sym (done .held));
-                    written =
-                        ap (λ (g : Option Layout). withLayout g out′) (done .held)
-                        ∙ ap (withLayout (goOnLevel j (numbersAt (set ns level n)) (suc level) (st .left - 1) (heldOf j (st .found) out) .held)) (done .written)
-                        ∙ layout-after (pieceCount j) _ _ out entries entries (λ e. e)
-                        ∙ sym (done .written);
-                    running = z;
-                    sets = λ l u q g k.
-                        let s = keeps-frame j (placedOf j ns l) (st .bound) l (level + 1) u work work′ q g (done .frame) (t .ready .sets l u q g k) in
-                        (s .0, omega (arith, s .1, done .lowered), s .2);
-                  };
-                  same = w ∙ sym (level-same j (numbersAt ns) (numbersAt (set ns level n)) level (suc n) (st′ .left) (heldOf j (st′ .found) out′) same-below) ∙ ap (λ (m : ℕ). tryLevel j (numbersAt ns) level m (st′ .left) (heldOf j (st′ .found) out′)) (sym (add-one n));
-                  lowered = omega (arith, done .lowered, t .lowered);
-                  written = over ∙ ap (λ (g : Option Layout). withLayout g out₀) (sym (done .held));
-                  frame = frame-then j (level + 1) work₀ work work′ (t .frame) (done .frame);
-                }

@@ -1,29 +1,20 @@
 -- What the walk in code asks and promises at each level.
 use mathlib.Core.Bool.{Bool, true, false}
-use mathlib.Core.List.{List, map}
+use mathlib.Core.List.{List}
 use mathlib.Core.Option.{Option, none, some}
 use mathlib.Core.Path.{_≡_}
-use Prim.Native.Nat.{ℕ, _+_, _*_, _-_, _≤_, _<_}
+use Prim.Native.Nat.{ℕ, _*_, _-_, _≤_, _<_}
 use lib.ListN.{length}
 use Rattle.model.specs.Content.{Job, pieceCount}
-use Rattle.model.specs.Grid.{setWords}
-use Rattle.model.specs.Layout.{Layout, entryOf, isEntry, layoutLength}
+use Rattle.model.specs.Layout.{Layout, isEntry, layoutLength}
 use Rattle.model.specs.Lists.{all, below}
 use Rattle.model.specs.Services.{layoutIn, withLayout, numbersIn, workWords}
 use Rattle.stepping.specs.LiveSets.{setOf, boundOf}
-use Rattle.stepping.specs.Levels.{pieceKind}
-use Rattle.live_sets.specs.Settled.{numbersAt, placedOf, SetsKept}
+use Rattle.stepping.specs.Levels.{pieceKind, numbersAt, placedOf}
+use Rattle.lookahead.specs.Settled.{SetsKept}
 use Rattle.stepping.specs.Slots.{Frame}
 use Rattle.stepping.specs.Spending.{Spent}
 use Rattle.walks.specs.declared.walk.Progress.{Progress}
-
--- ---- The walk
-
--- Number r is the first member of the set from a number on, or there is none below the limit of the numbers.
-pub record NextLive (j : Job) (placed : Layout) (bound u from r : ℕ) : Type 0 where
-  pub above : from ≤ r
-  pub passed : (i : ℕ) → from ≤ i → i < r → setOf j placed bound u i ≡ false
-  pub found : r < setWords (j .sheet) * 64 → setOf j placed bound u r ≡ true
 
 -- The layout held: what the answer numbers say, if one is found.
 abbrev pub heldOf : Job → Bool → List ℕ → Option Layout
@@ -42,13 +33,12 @@ pub record Ready (j : Job) (work out ns : List ℕ) (level depth len : ℕ) (st 
   pub running : st .stopped ≡ false
   pub sets : SetsKept j ns depth (st .bound) work
 
--- A piece was just placed, or none is: what is placed ends below the bound, and the latest was a member.
+-- A piece was just placed: what is placed ends below the bound, and the piece was a member.
 pub record Taken (j : Job) (ns : List ℕ) (level len : ℕ) (st : Progress) : Type 0 where
+  pub some : 0 < level
   pub within : level ≤ pieceCount j
   pub below : len < st .bound
-  pub first : level ≡ 0 → st .bound ≡ j .sheet .L + 1
-  pub latest : 0 < level
-      → setOf j (placedOf j ns (level - 1)) (st .bound) (pieceKind j (level - 1)) (numbersAt ns (level - 1)) ≡ true
+  pub latest : setOf j (placedOf j ns (level - 1)) (st .bound) (pieceKind j (level - 1)) (numbersAt ns (level - 1)) ≡ true
 
 -- What the walk leaves: what the definition says, the layout held in the answer numbers, and the sets of the levels below `depth`.
 pub record Left (j : Job) (work out work′ out′ : List ℕ) (depth : ℕ) (st st′ : Progress) (w : Spent) : Type 0 where
@@ -59,14 +49,3 @@ pub record Left (j : Job) (work out work′ out′ : List ℕ) (depth : ℕ) (st
   pub lowered : st′ .bound ≤ st .bound
   pub written : out′ ≡ withLayout (w .held) out
   pub frame : Frame j depth work work′
-
--- ---- The layout in the answer numbers
-
--- The layout of all pieces, each at the candidate of its number.
-unfoldable pub layoutOf : Job → List ℕ → Layout
-layoutOf j ns = map (λ l. entryOf j (pieceKind j l) (numbersAt ns l)) (below (pieceCount j))
-
--- It can be written: the numbers are small, and the buffer has room.
-pub record Recordable (j : Job) (ns out : List ℕ) : Type 0 where
-  pub small : (l : ℕ) → l < pieceCount j → numbersAt ns l < 4096
-  pub fits : 4 * pieceCount j ≤ numbersIn out

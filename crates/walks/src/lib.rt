@@ -1,3 +1,2 @@
-// The walk over the pieces under a step budget, and the layout that it writes when it has completed one.
-mod recording;
+// The walk over the pieces under a step budget.
 pub mod walk;

@@ -1,12 +1,11 @@
--- `search::narrowing::narrow_word` meets its contract. The invariant: the bits passed are tested, the others are as they were.
+-- `live_sets::narrowing::narrow_word` meets its contract. The invariant: the bits passed are tested, the others are as they were.
 use mathlib.Core.Bool.{true}
-use mathlib.Core.Path.{_≡_, refl, sym, ap, _∙_, subst}
+use mathlib.Core.Path.{_≡_, sym, ap, _∙_, subst}
 use Prim.Native.Nat.{ℕ, _+_, _%_, _^_, _<_}
 use native.Mathlib.Nat.{mod-eq-of-lt}
 use native.Mathlib.Omega.{arith}
 use borrow.Author.Needs.{needs}
 use Rattle.words.specs.Bits.{testBit, withoutBit, assignedBit}
-use Rattle.words.specs.Sets.{firstFrom}
 use Rattle.words.proofs.First.{lowest}
 use Rattle.model.specs.Format.{content}
 use Rattle.live_sets.specs.Narrowing.{stays}

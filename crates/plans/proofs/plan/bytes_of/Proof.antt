@@ -1,4 +1,4 @@
--- `search::plan::bytes_of` meets its contract. The invariant: the entries passed are those of the table.
+-- `plans::plan::bytes_of` meets its contract. The invariant: the entries passed are those of the table.
 use mathlib.Core.Path.{_≡_, refl}
 use Prim.Native.Nat.{ℕ, _-_, _≤_, _<_}
 use native.Mathlib.Omega.{arith}

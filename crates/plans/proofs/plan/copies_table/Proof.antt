@@ -1,4 +1,4 @@
--- `search::plan::copies_table` meets its contract. The invariant: the entries passed are the copies left.
+-- `plans::plan::copies_table` meets its contract. The invariant: the entries passed are the copies left.
 use mathlib.Core.Path.{_≡_, refl}
 use Prim.Native.Nat.{ℕ, _+_, _-_, _*_, _/_, _%_, _≤_, _<_}
 use native.Mathlib.Omega.{arith}

@@ -1,4 +1,4 @@
--- `search::plan::count_copies` meets its contract. The invariant: the copies counted and those still to come are those to be counted.
+-- `plans::plan::count_copies` meets its contract. The invariant: the copies counted and those still to come are those to be counted.
 use mathlib.Core.Logic.{⊎-elim}
 use mathlib.Core.Path.{_≡_, sym, ap, _∙_}
 use Prim.Native.Nat.{ℕ, _+_, _-_, _≤_, _<_}

@@ -1,4 +1,4 @@
--- `search::plan::ends_of` meets its contract. The invariant: the entries passed are the boxes' largest x.
+-- `plans::plan::ends_of` meets its contract. The invariant: the entries passed are the boxes' largest x.
 use mathlib.Core.Path.{_≡_, refl}
 use Prim.Native.Nat.{ℕ, _+_, _-_, _*_, _≤_, _<_}
 use native.Mathlib.Omega.{arith}

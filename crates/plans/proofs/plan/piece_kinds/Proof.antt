@@ -1,4 +1,4 @@
--- `search::plan::piece_kinds` meets its contract. The invariant: the pieces passed have their kinds, and of those to come `left` are of kind t.
+-- `plans::plan::piece_kinds` meets its contract. The invariant: the pieces passed have their kinds, and of those to come `left` are of kind t.
 use mathlib.Core.Logic.{⊎-elim}
 use mathlib.Core.Path.{_≡_, refl, sym, ap, _∙_, subst}
 use Prim.Native.Nat.{ℕ, suc, _-_, _≤_, _<_}

@@ -1,4 +1,4 @@
--- `search::plan::size_of` meets its contract.
+-- `plans::plan::size_of` meets its contract.
 use native.Mathlib.Omega.{arith}
 use borrow.Author.Needs.{needs}
 use Rattle.plans.proofs.plan.size_of.Statement.{statement}

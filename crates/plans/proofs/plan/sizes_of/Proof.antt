@@ -1,4 +1,4 @@
--- `search::plan::sizes_of` meets its contract. The invariant: the entries passed are the sizes of the parts that there are.
+-- `plans::plan::sizes_of` meets its contract. The invariant: the entries passed are the sizes of the parts that there are.
 use mathlib.Core.List.{[]}
 use mathlib.Core.Path.{_≡_, refl, _∙_}
 use Prim.Native.Nat.{ℕ, _+_, _-_, _*_, _/_, _%_, _≤_, _<_}

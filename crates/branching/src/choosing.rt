@@ -1,0 +1,86 @@
+// The candidate that a piece takes next.
+ghost use mathlib.Core.Bool.{true};
+ghost use mathlib.Core.Path.{_≡_};
+ghost use Prim.Native.Nat.{ℕ, _*_, _≤_, _<_};
+ghost use lib.ListN.{length};
+ghost use Rattle.words.specs.Sets.{member};
+ghost use Rattle.model.specs.Candidate.{isCandidate};
+ghost use Rattle.model.specs.Content.{pieceCount};
+ghost use Rattle.model.specs.Format.{content};
+ghost use Rattle.model.specs.Services.{workWords};
+ghost use Rattle.plans.specs.Known.{PlanOf};
+ghost use Rattle.stepping.specs.Levels.{pieceKind, placedOf};
+ghost use Rattle.stepping.specs.Slots.{slotOf, KeepsSince};
+ghost use Rattle.branching.specs.Choosing.{NextBelow, NextLive};
+use plans::lookup;
+use plans::plan::Plan;
+use words::sets;
+
+// The next candidate to take, where one is found: its number, and how far the layout reaches with it.
+pub struct Next {
+    pub found: bool,
+    pub number: usize,
+    pub extent: usize,
+}
+
+// The first member of a set of kind u, from a number on, that ends below the bound.
+fn next_below(
+    job: &[u8],
+    plan: Plan,
+    u: usize,
+    set: &[u8],
+    from: usize,
+    extent: usize,
+    bound: usize,
+) -> Next
+    requires { ⌜ PlanOf (now job) plan × (plan .words * 8 ≤ length (now set)) ⌝ }
+    requires { ⌜ ((m : ℕ) → m < plan .words * 64 → member (now set) m ≡ true → isCandidate (content (now job)) u m ≡ true) ⌝ }
+    ensures { λ r. ⌜ NextBelow (content (now (job .entry))) u bound extent (now (set .entry)) (plan .words * 64) from r ⌝ }
+{
+    let words = plan.words;
+    let mut n = sets::next_member(set, words as u32, from);
+    while n < words * 64 {
+        let end = lookup::end_of(job, plan, u, n);
+        if end < bound {
+            return Next {
+                found: true,
+                number: n,
+                extent: lookup::larger(end, extent),
+            };
+        }
+        n = sets::next_member(set, words as u32, n + 1);
+    }
+    Next {
+        found: false,
+        number: n,
+        extent,
+    }
+}
+
+// The first live candidate of piece `level`, from a number on. None is where what is placed does not end below the bound.
+pub fn next_live(
+    job: &[u8],
+    plan: Plan,
+    numbers: [usize; 12],
+    level: usize,
+    extent: usize,
+    bound: usize,
+    work: &[u8],
+    from: usize,
+) -> Next
+    requires { ⌜ PlanOf (now job) plan × (level < pieceCount (content (now job))) × (workWords (content (now job)) * 8 ≤ length (now work)) ⌝ }
+    requires { ⌜ KeepsSince (content (now job)) (placedOf (content (now job)) numbers level) bound (pieceKind (content (now job)) level) (slotOf (content (now job)) (now work) level (pieceKind (content (now job)) level)) ⌝ }
+    ensures { λ r. ⌜ NextLive (content (now (job .entry))) (placedOf (content (now (job .entry))) numbers level) bound (pieceKind (content (now (job .entry))) level) extent from r ⌝ }
+{
+    if bound <= extent {
+        return Next {
+            found: false,
+            number: from,
+            extent,
+        };
+    }
+    let kinds = plan.kinds;
+    let kind = kinds[level];
+    let at = lookup::set_start(job, plan, level, kind as usize) * 8;
+    next_below(job, plan, kind as usize, &work[at..], from, extent, bound)
+}

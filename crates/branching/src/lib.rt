@@ -1,0 +1,2 @@
+// Branching: the candidate that a piece takes next.
+pub mod choosing;

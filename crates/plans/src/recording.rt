@@ -1,0 +1,35 @@
+// The layout held, in the answer numbers.
+ghost use mathlib.Core.Option.{some};
+ghost use mathlib.Core.Path.{_≡_};
+ghost use Prim.Native.Nat.{_/_, _%_, _≤_, _<_};
+ghost use Rattle.model.specs.Format.{content};
+ghost use Rattle.model.specs.Services.{withLayout};
+ghost use Rattle.plans.specs.Known.{PlanOf};
+ghost use Rattle.plans.specs.Recording.{fourIn, layoutOf, Recordable};
+use crate::plan::Plan;
+use words::numbers;
+
+// The four numbers of an entry as one of eight bytes.
+fn entry_word(rows: usize, kind: u8, n: usize) -> u64
+    requires { ⌜ (1 ≤ rows) × (n < 4096) ⌝ }
+    ensures { λ r. ⌜ r ≡ fourIn kind (n / 4 / rows) (n / 4 % rows) (n % 4) ⌝ }
+{
+    let dot = n / 4;
+    let place = (dot / rows) as u64 + 65536 * ((dot % rows) as u64 + 65536 * (n % 4) as u64);
+    kind as u64 + 65536 * place
+}
+
+// The layout of all pieces, each at the candidate of its number, becomes the first answer numbers.
+pub fn record_layout(job: &[u8], plan: Plan, candidates: [usize; 12], out: &mut [u8])
+    requires { ⌜ PlanOf (now job) plan × Recordable (content (now job)) candidates (now out) ⌝ }
+    ensures { λ _. ⌜ now (out .exit) ≡ withLayout (some (layoutOf (content (now (job .entry))) candidates)) (now (out .entry)) ⌝ }
+{
+    let rows = plan.rows;
+    let pieces = plan.pieces;
+    let kinds = plan.kinds;
+    let mut i = 0;
+    while i < pieces {
+        numbers::put_u64(out, i * 8, entry_word(rows, kinds[i], candidates[i]));
+        i += 1;
+    }
+}

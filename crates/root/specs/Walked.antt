@@ -1,0 +1,26 @@
+-- What the whole walk asks and leaves.
+use mathlib.Core.List.{List}
+use mathlib.Core.Path.{_≡_}
+use Prim.Native.Nat.{ℕ, _+_, _*_, _≤_}
+use lib.ListN.{length, drop}
+use Rattle.model.specs.Content.{Job, pieceCount}
+use Rattle.model.specs.Services.{workWords, numbersIn, withLayout}
+use Rattle.stepping.specs.Levels.{walkSpent}
+use Rattle.stepping.specs.LiveSets.{boundOf}
+use Rattle.walks.specs.Walk.{heldOf}
+use Rattle.walks.specs.declared.walk.Progress.{Progress}
+
+-- The buffers are large enough.
+pub record RoomFor (j : Job) (work out : List ℕ) : Type 0 where
+  pub work-fits : workWords j * 8 ≤ length work
+  pub out-fits : 4 * pieceCount j ≤ numbersIn out
+
+-- What the whole walk leaves.
+pub record Walked (j : Job) (budget : ℕ) (work out work′ out′ : List ℕ) (st : Progress) : Type 0 where
+  pub left : st .left ≡ walkSpent j budget .left
+  pub stopped : st .stopped ≡ walkSpent j budget .stopped
+  pub held : heldOf j (st .found) out′ ≡ walkSpent j budget .held
+  pub bound-is : st .bound ≡ boundOf j (walkSpent j budget .held)
+  pub lowered : st .bound ≤ j .sheet .L + 1
+  pub written : out′ ≡ withLayout (walkSpent j budget .held) out
+  pub behind : drop (workWords j * 8) work′ ≡ drop (workWords j * 8) work
