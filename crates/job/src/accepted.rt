@@ -1,10 +1,10 @@
 // The view of a job that gives none of the causes 1 to 6, and cause 7 read through it.
 use crate::View;
+use crate::table;
 use frame::board;
 use frame::fields;
-use records::parts;
-use crate::table;
 use frame::trailer;
+use records::parts;
 ghost use mathlib.Core.Path.{_≡_};
 ghost use Prim.Native.Nat.{_+_, _*_, _≤_, _<_};
 ghost use lib.ListN.{length};

@@ -1,10 +1,10 @@
 // The causes 4 to 6 of a job whose sections are in place, and the first of the causes 1 to 6.
 use frame::board;
-use records::classes;
 use frame::fields;
-use records::kinds;
 use frame::sections;
 use frame::trailer;
+use records::classes;
+use records::kinds;
 ghost use mathlib.Core.Bool.{false};
 ghost use mathlib.Core.Path.{_≡_};
 ghost use Rattle.model.specs.Format.{cause1, cause3, cause4, cause5, cause6};

@@ -1,6 +1,6 @@
 // The gap of a type: that of its class with the smallest rank number.
-use records::classes;
 use frame::fields;
+use records::classes;
 use records::kinds;
 ghost use mathlib.Core.Path.{_≡_};
 ghost use Prim.Native.Nat.{_+_, _*_, _≤_, _<_};

@@ -1,7 +1,7 @@
 // What the type records of an accepted job say, in tables of one entry a type.
-use frame::fields;
 use crate::gaps;
 use crate::places;
+use frame::fields;
 use records::sizes;
 ghost use mathlib.Core.Bool.{true};
 ghost use mathlib.Core.Path.{_≡_};

@@ -1,8 +1,8 @@
 // The numbers of an accepted job's content: board and classes in front, types and the number of pieces behind them.
 use crate::answer;
-use frame::fields;
 use crate::listing;
 use crate::rising;
+use frame::fields;
 use frame::trailer;
 use model::Written;
 ghost use mathlib.Core.Path.{_≡_};

@@ -1,7 +1,7 @@
 // The type list: cause 6 of refusal.
 use crate::classes;
-use frame::fields;
 use crate::sizes;
+use frame::fields;
 ghost use mathlib.Core.Bool.{Bool};
 ghost use mathlib.Core.Path.{_≡_};
 ghost use Prim.Native.Nat.{_+_, _*_, _≤_, _<_};
