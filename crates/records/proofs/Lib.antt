@@ -1,3 +1,4 @@
+mod Loops
 pub mod ClassLaws
 pub mod KindLaws
 pub mod PartLaws
