@@ -3,3 +3,4 @@ pub mod ClassLaws
 pub mod KindLaws
 pub mod PartLaws
 pub mod RecordLaws
+pub mod NextLaws
