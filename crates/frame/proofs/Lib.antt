@@ -1,2 +1,2 @@
-pub mod Bools
-pub mod Ranges
+pub mod BoardLaws
+pub mod SectionLaws

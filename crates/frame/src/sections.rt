@@ -40,12 +40,13 @@ pub fn misplaced(job: &[u8]) -> bool
     ensures { λ r. ⌜ r ≡ cause3 (now (job .entry)) ⌝ }
 {
     let t = trailer::read_trailer(job);
+    let board_bytes = 6;
     let class_bytes = t.class_count * 3;
-    let outside = !in_place(t.at, t.board, 6)
+    let outside = !in_place(t.at, t.board, board_bytes)
         | !in_place(t.at, t.classes, class_bytes)
         | !in_place(t.at, t.kinds, t.kinds_length);
     outside
-        | share_byte(t.board, 6, t.classes, class_bytes)
-        | share_byte(t.board, 6, t.kinds, t.kinds_length)
+        | share_byte(t.board, board_bytes, t.classes, class_bytes)
+        | share_byte(t.board, board_bytes, t.kinds, t.kinds_length)
         | share_byte(t.classes, class_bytes, t.kinds, t.kinds_length)
 }

@@ -6,7 +6,7 @@ ghost use lib.ListN.{length};
 ghost use Rattle.model.specs.Format.{cause1, cause2};
 ghost use Rattle.frame.specs.Trailer.{TrailerOf};
 
-// What the trailer says of the sections: where each begins, and how much stands there.
+// What the trailer says: where each section begins and how much stands there, how long the job is, and whether the mark is right.
 pub struct Trailer {
     pub board: usize,
     pub classes: usize,
@@ -14,6 +14,8 @@ pub struct Trailer {
     pub kinds_length: usize,
     pub class_count: usize,
     pub kind_count: usize,
+    pub stated: usize,
+    pub marked: bool,
     pub at: usize,
 }
 
@@ -29,6 +31,8 @@ pub fn read_trailer(job: &[u8]) -> Trailer
         kinds_length: fields::word(job, at + 6),
         class_count: fields::byte(job, at + 8),
         kind_count: fields::byte(job, at + 9),
+        stated: fields::word(job, at + 10),
+        marked: (fields::byte(job, at + 12) == 0x44) & (fields::byte(job, at + 13) == 0x42),
         at,
     }
 }
@@ -45,7 +49,6 @@ pub fn wrong_mark(job: &[u8]) -> bool
     requires { ⌜ 14 ≤ length (now job) ⌝ }
     ensures { λ r. ⌜ r ≡ cause2 (now (job .entry)) ⌝ }
 {
-    let at = job.len() - 14;
-    let mark = (fields::byte(job, at + 12) == 0x44) & (fields::byte(job, at + 13) == 0x42);
-    !mark | !(fields::word(job, at + 10) == job.len())
+    let t = read_trailer(job);
+    !t.marked | !(t.stated == job.len())
 }

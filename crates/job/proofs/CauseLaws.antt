@@ -13,7 +13,6 @@ use Rattle.model.proofs.Folds.{map-same}
 use Rattle.frame.specs.Board.{boardFrom, unfitBoard}
 use Rattle.records.specs.Classes.{classFrom, classesFrom, entryAt, allInRange, distinctColumn, classesUnfit}
 use Rattle.records.specs.Kinds.{listUnfit}
-use Rattle.job.specs.Refusal.{refusalTo6}
 
 pub board-cause : (s : List ℕ) (o : ℕ) → o ≡ boardAt s → unfitBoard (boardFrom s o) ≡ cause4 s
 unfolding unfitBoard cause4 boardOf
@@ -49,34 +48,15 @@ module _ (s : List ℕ) (base size : ℕ) (eb : base ≡ kindsAt s) (es : size �
   unfolding kindBytes
   list-length h = length-take-le (kindsLength s) (drop (kindsAt s) s) (rw length-drop (omega arith))
 
-  pub kinds-cause : (b : Bool) (o n m : ℕ) (u : Bool) → kindsAt s + kindsLength s ≤ length s → o ≡ classesAt s → n ≡ classesStated s → m ≡ kindsStated s
+  pub kinds-cause : (b : Bool) (o n m : ℕ) (u : Bool) → kindsAt s + kindsLength s + 14 ≤ length s → o ≡ classesAt s → n ≡ classesStated s → m ≡ kindsStated s
       → b ≡ between 1 8 m → u ≡ listUnfit (classesFrom s o n) (take (base + size - base) (drop base s)) m → (not b || u) ≡ cause6 s
   unfolding cause6 kindsGot listUnfit
   kinds-cause b o n m u h eo en em e1 e2 =
-      rw (e1, e2, list-is, list-length h, eo, en, em, classes-are s)
+      rw (e1, e2, list-is, list-length (omega arith), eo, en, em, classes-are s)
 
--- The first of six, by its tests.
-module _ (s : List ℕ) where
-  pub at-1 : cause1 s ≡ true → 1 ≡ refusalTo6 s
-  unfolding refusalTo6
-  at-1 a = rw a
+-- A cause in front of those that follow: it holds, or it does not.
+pub stopped : (a : Bool) (n m : ℕ) → a ≡ true → n ≡ cond a n m
+stopped a n m e = rw e
 
-  pub at-2 : cause1 s ≡ false → cause2 s ≡ true → 2 ≡ refusalTo6 s
-  unfolding refusalTo6
-  at-2 a b = rw (a, b)
-
-  pub at-3 : cause1 s ≡ false → cause2 s ≡ false → cause3 s ≡ true → 3 ≡ refusalTo6 s
-  unfolding refusalTo6
-  at-3 a b c = rw (a, b, c)
-
-  pub at-4 : cause1 s ≡ false → cause2 s ≡ false → cause3 s ≡ false → cause4 s ≡ true → 4 ≡ refusalTo6 s
-  unfolding refusalTo6
-  at-4 a b c d = rw (a, b, c, d)
-
-  pub at-5 : cause1 s ≡ false → cause2 s ≡ false → cause3 s ≡ false → cause4 s ≡ false → cause5 s ≡ true → 5 ≡ refusalTo6 s
-  unfolding refusalTo6
-  at-5 a b c d e = rw (a, b, c, d, e)
-
-  pub at-6 : (t : Bool) → cause1 s ≡ false → cause2 s ≡ false → cause3 s ≡ false → cause4 s ≡ false → cause5 s ≡ false → cause6 s ≡ t → cond t 6 0 ≡ refusalTo6 s
-  unfolding refusalTo6
-  at-6 t a b c d e f = rw (a, b, c, d, e, f)
+pub passed : (a : Bool) (n m r : ℕ) → a ≡ false → r ≡ m → r ≡ cond a n m
+passed a n m r e q = rw e q

@@ -24,6 +24,7 @@ use Rattle.job.specs.Refusal.{refusalTo6}
 use Rattle.job.specs.Soundness.{badPart, badAt, badKind}
 use Rattle.job.specs.Table.{gapIn, Stored, Built}
 use Rattle.job.specs.declared.View.{View}
+use Rattle.job.specs.declared.table.Table.{Table}
 use Rattle.job.specs.View.{PartAt, KindIn, ViewOf}
 use Rattle.records.specs.Parts.{unfitFrom}
 use Rattle.records.proofs.PartLaws.{unfit-same}
@@ -78,6 +79,14 @@ pub any-none : {A : Type 0} (p : A → Bool) (xs : List A) → false ≡ any p (
 unfolding any
 any-none p xs = refl
 
+-- It has few corners, and they lie within the job.
+pub part-room : {s : List ℕ} {o : ℕ} {P : Part} → PartAt s o P → (byteAt s o ≤ 8) × (o + 1 + byteAt s o * 2 ≤ length s)
+part-room p =
+    let a = p .stated in
+    let b = p .most in
+    let d = p .inside in
+    omega arith
+
 -- The part at its place.
 pub bad-at : (s : List ℕ) (o : ℕ) (P : Part) → PartAt s o P → badAt s o ≡ badPart P
 unfolding badAt
@@ -101,6 +110,11 @@ unfolding kindCount
 kinds-all s t h = ap (any badKind) (take-all t (content s .kinds) h) ∙ sym (cause7-is s)
 
 -- ---- The view
+
+-- The tables in a view.
+abbrev pub tableIn : View → Table
+tableIn v =
+    record { pieces = v .pieces; demands = v .demands; rotations = v .rotations; gaps = v .gaps; parts = v .parts; «part_at» = v .«part_at» }
 
 pub no-six : (s : List ℕ) → refusalTo6 s ≡ 0 → NoCause s
 unfolding refusalTo6
@@ -140,8 +154,7 @@ module _ (s : List ℕ) (e : refusalTo6 s ≡ 0) where
 
     -- What was read and filled makes the view.
     pub view-is : (o m : ℕ) (v : View) → o ≡ classesAt s → m ≡ classesStated s
-        → Built (classesFrom s o m) (take (base + size - base) (drop base s)) base n (length (take (base + size - base) (drop base s)))
-        (v .pieces) (v .demands) (v .rotations) (v .gaps) (v .parts) (v .«part_at»)
+        → Built (classesFrom s o m) (take (base + size - base) (drop base s)) base n (length (take (base + size - base) (drop base s))) (tableIn v)
         → v .width ≡ boardOf s .W → v .length ≡ boardOf s .L → v .step ≡ boardOf s .g
         → v .rows ≡ v .width / v .step + 1 → v .columns ≡ v .length / v .step + 1 → v .kinds ≡ n → ViewOf s v
     unfolding content rows columns pieceCount kindAt
@@ -156,7 +169,7 @@ module _ (s : List ℕ) (e : refusalTo6 s ≡ 0) where
           kinds = ek ∙ sym kind-count;
           pieces = b .demanded ∙ ap (λ l. sum (map (λ k. k .demand) l)) vs;
           kind = λ t h.
-              let st = subst (λ l. Stored (classesFrom s o m) (take (base + size - base) (drop base s)) base (v .demands) (v .rotations) (v .gaps) (v .parts) (v .«part_at») t (getD l t noKind)) vs (b .stored t (let q = kind-count in omega arith)) in
+              let st = subst (λ l. Stored (classesFrom s o m) (take (base + size - base) (drop base s)) base (tableIn v) t (getD l t noKind)) vs (b .stored t (let q = kind-count in omega arith)) in
               record {
                 demand = st .demand;
                 rotations = st .rotations;

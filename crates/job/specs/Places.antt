@@ -13,8 +13,8 @@ pub record FoundAt (s : List ℕ) (base o : ℕ) (P : Part) : Type 0 where
   pub place : o ≡ base + behind
   pub reads : readPart (drop behind s) ≡ got P (sizeOf (readPart (drop behind s)))
 
--- The places of the first n parts of the bytes s stand in a table from entry `first` on; the entries before are as they were.
-pub record Placed (s : List ℕ) (n base first : ℕ) (before table : List ℕ) : Type 0 where
-  pub found : (i : ℕ) → i < n → FoundAt s base (getD table (first + i) 0) (getD (valuesOf (many readPart n s)) i [])
+-- The places of the n parts from byte `from` of the list on stand in a table from entry `first` on; the entries before are as they were.
+pub record Placed (list : List ℕ) (from n base first : ℕ) (before table : List ℕ) : Type 0 where
+  pub found : (i : ℕ) → i < n → FoundAt list base (getD table (first + i) 0) (getD (valuesOf (many readPart n (drop from list))) i [])
   pub size : length table ≡ length before
   pub kept : (j : ℕ) → j < first → getD table j 0 ≡ getD before j 0

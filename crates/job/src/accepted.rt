@@ -65,13 +65,11 @@ fn kind_refused(job: &[u8], view: View, t: usize) -> bool
     requires { ⌜ (ViewOf (now job) view × (kindCount (content (now job)) ≤ 8)) × (t < kindCount (content (now job))) ⌝ }
     ensures { λ r. ⌜ r ≡ badKind (kindAt (content (now (job .entry))) t) ⌝ }
 {
-    let parts = view.parts;
-    let part_at = view.part_at;
-    let n = parts[t];
+    let n = view.parts[t];
     let mut refused = false;
     let mut i = 0;
     while i < n {
-        refused = refused | part_refused(job, part_at[t * 6 + i]);
+        refused = refused | part_refused(job, view.part_at[t * 6 + i]);
         i += 1;
     }
     refused

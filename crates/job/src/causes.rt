@@ -1,4 +1,4 @@
-// The causes 4 to 6 of a job whose sections are in place, and the first of the causes 1 to 6.
+// The first of the causes 1 to 6 of refusal.
 use frame::board;
 use frame::fields;
 use frame::sections;
@@ -7,34 +7,29 @@ use records::classes;
 use records::kinds;
 ghost use mathlib.Core.Bool.{false};
 ghost use mathlib.Core.Path.{_≡_};
-ghost use Rattle.model.specs.Format.{cause1, cause3, cause4, cause5, cause6};
-ghost use Rattle.job.specs.Refusal.{refusalTo6};
+ghost use Rattle.model.specs.Format.{cause1, cause3};
+ghost use Rattle.job.specs.Refusal.{refusalWithin, refusalTo6};
 
-fn board_refused(job: &[u8]) -> bool
+// The number of the first of the causes 4 to 6, which lie within the sections, and 0 where there is none.
+fn first_within(job: &[u8]) -> u8
     requires { ⌜ (cause1 (now job) ≡ false) × (cause3 (now job) ≡ false) ⌝ }
-    ensures { λ r. ⌜ r ≡ cause4 (now (job .entry)) ⌝ }
+    ensures { λ r. ⌜ r ≡ refusalWithin (now (job .entry)) ⌝ }
 {
     let t = trailer::read_trailer(job);
-    board::unfit(job, t.board)
-}
-
-fn classes_refused(job: &[u8]) -> bool
-    requires { ⌜ (cause1 (now job) ≡ false) × (cause3 (now job) ≡ false) ⌝ }
-    ensures { λ r. ⌜ r ≡ cause5 (now (job .entry)) ⌝ }
-{
-    let t = trailer::read_trailer(job);
-    classes::unfit(job, t.classes, t.class_count)
-}
-
-fn kinds_refused(job: &[u8]) -> bool
-    requires { ⌜ (cause1 (now job) ≡ false) × (cause3 (now job) ≡ false) ⌝ }
-    ensures { λ r. ⌜ r ≡ cause6 (now (job .entry)) ⌝ }
-{
-    let t = trailer::read_trailer(job);
+    if board::unfit(job, t.board) {
+        return 4;
+    }
+    if classes::unfit(job, t.classes, t.class_count) {
+        return 5;
+    }
     let base = t.kinds;
     let end = base + t.kinds_length;
-    !fields::in_range(1, 8, t.kind_count)
+    if !fields::in_range(1, 8, t.kind_count)
         | kinds::unfit(job, t.classes, t.class_count, &job[base..end], t.kind_count)
+    {
+        return 6;
+    }
+    0
 }
 
 // The number of the first of the causes 1 to 6, and 0 where there is none. Each is looked at only after those before it.
@@ -50,14 +45,5 @@ pub fn first_of_six(job: &[u8]) -> u8
     if sections::misplaced(job) {
         return 3;
     }
-    if board_refused(job) {
-        return 4;
-    }
-    if classes_refused(job) {
-        return 5;
-    }
-    if kinds_refused(job) {
-        return 6;
-    }
-    0
+    first_within(job)
 }

@@ -2,7 +2,6 @@
 use crate::gaps;
 use crate::places;
 use frame::fields;
-use records::sizes;
 ghost use mathlib.Core.Bool.{true};
 ghost use mathlib.Core.Path.{_≡_};
 ghost use Prim.Native.Nat.{_+_, _*_, _≤_, _<_};
@@ -10,7 +9,7 @@ ghost use lib.ListN.{length};
 ghost use Rattle.model.specs.Format.{many, readKind};
 ghost use Rattle.records.specs.Classes.{classesFrom, distinctColumn};
 ghost use Rattle.records.specs.Records.{Reads};
-ghost use Rattle.job.specs.Table.{Built};
+ghost use Rattle.job.specs.Table.{HeadIn, Built};
 
 pub struct Table {
     pub pieces: usize,
@@ -21,43 +20,50 @@ pub struct Table {
     pub part_at: [usize; 48],
 }
 
+// The four fields in front of a type's parts.
+pub struct Head {
+    pub demand: usize,
+    pub rotations: usize,
+    pub classes: usize,
+    pub parts: usize,
+}
+
+fn read_head(list: &[u8], here: usize) -> Head
+    requires { ⌜ here + 4 ≤ length (now list) ⌝ }
+    ensures { λ r. ⌜ HeadIn (now (list .entry)) here r ⌝ }
+{
+    Head {
+        demand: fields::byte(list, here),
+        rotations: fields::byte(list, here + 1),
+        classes: fields::byte(list, here + 2),
+        parts: fields::byte(list, here + 3),
+    }
+}
+
 // The tables of the type records in `list`, a piece of the job that begins at byte `base`; n classes stand from byte `at` on.
 pub fn read_kinds(job: &[u8], at: usize, n: usize, list: &[u8], base: usize, kinds: usize) -> Table
     requires { ⌜ ((n < 256) × (at + n * 3 ≤ length (now job)) × (kinds ≤ 8) × (base + length (now list) ≤ 65536)) × (Reads (many readKind kinds (now list)) (length (now list)) × (distinctColumn (now job) at n ≡ true)) ⌝ }
-    ensures { λ r. ⌜ Built (classesFrom (now (job .entry)) at n) (now (list .entry)) base kinds (length (now (list .entry))) (r .pieces) (r .demands) (r .rotations) (r .gaps) (r .parts) (r .«part_at») ⌝ }
+    ensures { λ r. ⌜ Built (classesFrom (now (job .entry)) at n) (now (list .entry)) base kinds (length (now (list .entry))) r ⌝ }
 {
-    let mut demands = [0usize; 8];
-    let mut rotations = [0usize; 8];
-    let mut gaps = [0usize; 8];
-    let mut parts = [0usize; 8];
-    let mut part_at = [0usize; 48];
-    let mut pieces = 0;
+    let mut table = Table {
+        pieces: 0,
+        demands: [0usize; 8],
+        rotations: [0usize; 8],
+        gaps: [0usize; 8],
+        parts: [0usize; 8],
+        part_at: [0usize; 48],
+    };
     let mut here = 0;
     let mut t = 0;
     while t < kinds {
-        let demand = fields::byte(list, here);
-        let count = fields::byte(list, here + 3);
-        demands[t] = demand;
-        rotations[t] = fields::byte(list, here + 1);
-        gaps[t] = gaps::kind_gap(job, at, n, fields::byte(list, here + 2));
-        parts[t] = count;
-        places::place_parts(
-            &list[here + 4..],
-            count,
-            base + here + 4,
-            t * 6,
-            &mut part_at,
-        );
-        pieces += demand;
-        here += sizes::kind_size(&list[here..]);
+        let head = read_head(list, here);
+        table.demands[t] = head.demand;
+        table.rotations[t] = head.rotations;
+        table.gaps[t] = gaps::kind_gap(job, at, n, head.classes);
+        table.parts[t] = head.parts;
+        table.pieces += head.demand;
+        here = places::place_parts(list, here + 4, head.parts, base, t * 6, &mut table.part_at);
         t += 1;
     }
-    Table {
-        pieces,
-        demands,
-        rotations,
-        gaps,
-        parts,
-        part_at,
-    }
+    table
 }

@@ -11,39 +11,58 @@ use lib.Dec.{eqb, ltb}
 use Rattle.model.specs.Content.{SpacingClass}
 use Rattle.model.specs.Format.{byteAt, classInRange, distinct}
 use Rattle.model.specs.Lists.{all, any, keep, concat, rising, below}
-use Rattle.model.proofs.Folds.{all-below-more, rising-first, map-same, keep-none, map-below-more, concat-more}
-use Rattle.records.specs.Classes.{classFrom, classesFrom, entryAt, entriesFrom, allInRange, occursLater, distinctColumn, firstFrom, hasId, indexOf, classesOfId, risenBelow}
+use Rattle.model.proofs.Box.{all-map}
+use Rattle.model.proofs.Folds.{map-below-more, concat-more}
+use Rattle.records.specs.Classes.{classFrom, classesFrom, entryAt, allInRange, distinctColumn, firstFrom, hasId, indexOf, classesOfId, risenBelow}
 
-pub range-none : (s : List ℕ) (o : ℕ) → true ≡ allInRange s o 0
-unfolding allInRange all below rising
-range-none s o = refl
+-- The record of class j is in range.
+abbrev pub inRangeAt : List ℕ → ℕ → ℕ → Bool
+inRangeAt s o j = classInRange (classFrom s (o + j * 3))
 
-pub range-more : (s : List ℕ) (o j : ℕ) → allInRange s o (j + 1) ≡ (allInRange s o j && classInRange (classFrom s (o + j * 3)))
+pub range-all : (s : List ℕ) (o n : ℕ) → all (inRangeAt s o) (below n) ≡ allInRange s o n
 unfolding allInRange
-range-more s o j = all-below-more (λ i. classFrom s (o + i * 3)) classInRange j
+range-all s o n = sym (all-map classInRange (λ i. classFrom s (o + i * 3)) (below n))
 
--- ---- Columns, from the back
+-- ---- Columns
 
-module _ (s : List ℕ) (o n : ℕ) where
-  pub later-none : (b i : ℕ) → n ≤ i → false ≡ any (eqb b) (entriesFrom s o n i)
-  unfolding any rising
-  later-none b i h = let e : n - i ≡ 0 = omega arith in rw e
+swapped : (x y z : Bool) → (x && (y && z)) ≡ (y && (x && z))
+swapped true y z = refl
+swapped false true z = refl
+swapped false false z = refl
 
-  pub later-more : (b i : ℕ) → i < n → any (eqb b) (entriesFrom s o n i) ≡ (eqb b (entryAt s o i) || any (eqb b) (entriesFrom s o n (i + 1)))
-  unfolding any
-  later-more b i h = ap (λ r. any (eqb b) (map (entryAt s o) r)) (rising-first i n h)
+-- One number more, a: i has its value, or m is the first of it behind i.
+later-one : (b same rest firsts : Bool) (i a m : ℕ) → i < a → rest ≡ (not same && firsts)
+    → (eqb (cond b i m) a && rest) ≡ (not (b || same) && (eqb m a && firsts))
+later-one true same rest firsts i a m h e = ap (λ x. x && rest) (ne-eqb i a (λ q. omega arith))
+later-one false same rest firsts i a m h e = ap (λ x. eqb m a && x) e ∙ swapped (eqb m a) (not same) firsts
 
-  pub distinct-none : (i : ℕ) → n ≤ i → true ≡ distinct (entriesFrom s o n i)
-  unfolding distinct rising
-  distinct-none i h = let e : n - i ≡ 0 = omega arith in rw e
+module _ (s : List ℕ) (o : ℕ) where
+  -- Of the numbers from a on, behind i: each is the first of its value from i on exactly if none has that of i, and each is it behind i.
+  later : (f : ℕ → ℕ) (i a k : ℕ) → i < a
+      → all (λ j. eqb (cond (hasId s o (entryAt s o j) i) i (f j)) j) (rising a k)
+      ≡ (not (any (eqb (entryAt s o i)) (map (entryAt s o) (rising a k))) && all (λ j. eqb (f j) j) (rising a k))
+  unfolding all any rising hasId
+  later f i a zero h = refl
+  later f i a (suc k) h = later-one (eqb (entryAt s o i) (entryAt s o a)) _ _ _ i a (f a) h (later f i (suc a) k (omega arith))
 
-  pub distinct-more : (i : ℕ) → i < n → distinct (entriesFrom s o n i) ≡ (not (occursLater s o n i) && distinct (entriesFrom s o n (i + 1)))
-  unfolding distinct occursLater
-  distinct-more i h = ap (λ r. distinct (map (entryAt s o) r)) (rising-first i n h)
+  -- No entry occurs twice exactly if each is the first of its value.
+  distinct-from : (i k : ℕ) → distinct (map (entryAt s o) (rising i k)) ≡ all (λ j. eqb (firstFrom (hasId s o (entryAt s o j)) i k) j) (rising i k)
+  unfolding distinct all rising firstFrom hasId
+  distinct-from i zero = refl
+  distinct-from i (suc k) =
+      let f : ℕ → ℕ = λ j. firstFrom (hasId s o (entryAt s o j)) (suc i) k in
+      let rest = all (λ j. eqb (cond (hasId s o (entryAt s o j) i) i (f j)) j) (rising (suc i) k) in
+      ap (λ d. not (any (eqb (entryAt s o i)) (map (entryAt s o) (rising (suc i) k))) && d) (distinct-from (suc i) k)
+      ∙ sym (later f i (suc i) k (omega arith))
+      ∙ sym (ap (λ b. eqb (cond b i (f i)) i && rest) (eq-eqb (entryAt s o i) (entryAt s o i) refl) ∙ ap (λ b. b && rest) (eq-eqb i i refl))
 
-  pub distinct-all : distinctColumn s o n ≡ distinct (entriesFrom s o n 0)
-  unfolding distinctColumn below
-  distinct-all = let e : n - 0 ≡ n = omega arith in rw e
+  -- Entry j of n is the first of its value.
+  abbrev pub isFirst : ℕ → ℕ → Bool
+  isFirst n j = eqb (indexOf s o n (entryAt s o j)) j
+
+  pub distinct-firsts : (n : ℕ) → all (isFirst n) (below n) ≡ distinctColumn s o n
+  unfolding indexOf distinctColumn below
+  distinct-firsts n = sym (distinct-from 0 n)
 
 -- ---- By rising id
 

@@ -38,14 +38,6 @@ module _ (s : List ℕ) (o id : ℕ) where
   unfolding present indexOf below
   present-found n = present-from 0 n ∙ ap (ltb (firstFrom (hasId s o id) 0 n)) (omega arith)
 
-pub absent-none : (cs : List SpacingClass) (mask : ℕ) → true ≡ all (notAbsent cs mask) (below 0)
-unfolding all below rising
-absent-none cs mask = refl
-
-pub absent-more : (cs : List SpacingClass) (mask i : ℕ) → all (notAbsent cs mask) (below (i + 1)) ≡ (all (notAbsent cs mask) (below i) && (not (testBit mask i) || present cs i))
-unfolding notAbsent
-absent-more cs mask i = all-numbers-more (notAbsent cs mask) i
-
 -- ---- The records
 
 -- The test of a kind is that of its mask.
@@ -70,11 +62,11 @@ module _ (cs : List SpacingClass) (list : List ℕ) where
       }
 
   -- The next record takes r bytes.
-  pub seen-more : (t here demand r d m : ℕ) (named : Bool) → Seen cs list t here demand named
+  pub seen-more : (t here demand r d m : ℕ) (named fit : Bool) → Seen cs list t here demand named
       → r ≡ sizeOf (readKind (lib.ListN.take (length list - here) (drop here list))) → (r ≡ 0 → ⊥)
-      → d ≡ byteAt list here → m ≡ byteAt list (here + 2)
-      → Seen cs list (t + 1) (here + r) (demand + d) (named && absentNone cs m)
-  seen-more t here demand r d m named w e h p q =
+      → d ≡ byteAt list here → m ≡ byteAt list (here + 2) → fit ≡ absentNone cs m
+      → Seen cs list (t + 1) (here + r) (demand + d) (named && fit)
+  seen-more t here demand r d m named fit w e h p q a =
       let k = valueOf noKind (readKind (drop here list)) in
       let g : readKind (drop here list) ≡ got k r = next-got readKind noKind kind-none list here r e h in
       let f = kind-read (drop here list) k r g in
@@ -89,7 +81,7 @@ module _ (cs : List SpacingClass) (list : List ℕ) where
             ∙ ap sum (map-append (λ k. k .demand) (valuesOf (many readKind t list)) (k ∷ []))
             ∙ sum-more (map (λ k. k .demand) (valuesOf (many readKind t list))) (k .demand));
         present =
-            ap₂ (λ a b. a && b) (w .present) (ap (absentNone cs) (sym km) ∙ sym (names-mask cs k))
+            ap₂ _&&_ (w .present) (a ∙ ap (absentNone cs) (sym km) ∙ sym (names-mask cs k))
             ∙ sym (ap (all (namesPresent cs)) more ∙ all-more (namesPresent cs) (valuesOf (many readKind t list)) k);
       }
 

@@ -1,4 +1,6 @@
+mod Loops
 pub mod ClassLaws
 pub mod KindLaws
 pub mod PartLaws
 pub mod RecordLaws
+pub mod NextLaws

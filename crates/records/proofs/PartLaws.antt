@@ -23,34 +23,16 @@ use Rattle.model.specs.Format.{byteAt, vertices, vertexInRange}
 use Rattle.model.specs.Geometry.{strictlyLeft, vertexAt, following, edgeSound}
 use Rattle.model.specs.Geometry as Geometry
 use Rattle.model.specs.Lists.{all, rising, below}
-use Rattle.model.proofs.Folds.{getD-map-at, all-numbers-more, all-below-more, all-same}
+use Rattle.model.proofs.Box.{all-map}
+use Rattle.model.proofs.Folds.{getD-map-at, all-same}
 use Rattle.model.proofs.Lists.{length-below, getD-below}
 use Rattle.model.proofs.Records.{byte-behind, length-vertices, vertex-at}
 use Rattle.records.specs.Parts.{vertexFrom, partFrom, nextOf, cornerSound, edgeSoundFrom, edgeSoundAt, soundFrom, inRangeFrom, unfitFrom}
 
--- ---- Loops
-
-pub all-none : (p : ℕ → Bool) → true ≡ all p (below 0)
-unfolding all below rising
-all-none p = refl
-
-pub corner-more : (s : List ℕ) (p q k : ℕ)
-    → all (cornerSound s p q) (below (k + 1))
-    ≡ (all (cornerSound s p q) (below k) && (eqb k p || eqb k q || strictlyLeft (vertexFrom s p) (vertexFrom s q) (vertexFrom s k)))
-unfolding cornerSound
-corner-more s p q k = all-numbers-more (cornerSound s p q) k
-
-pub edge-more : (s : List ℕ) (n i : ℕ) → all (edgeSoundAt s n) (below (i + 1)) ≡ (all (edgeSoundAt s n) (below i) && edgeSoundFrom s n i (nextOf n i))
-unfolding edgeSoundAt
-edge-more s n i = all-numbers-more (edgeSoundAt s n) i
-
-pub range-none : (s : List ℕ) → true ≡ inRangeFrom s 0
-unfolding inRangeFrom all below rising
-range-none s = refl
-
-pub range-more : (s : List ℕ) (k : ℕ) → inRangeFrom s (k + 1) ≡ (inRangeFrom s k && vertexInRange (vertexFrom s k))
+-- The corners are in range.
+pub range-all : (s : List ℕ) (n : ℕ) → all (λ k. vertexInRange (vertexFrom s k)) (below n) ≡ inRangeFrom s n
 unfolding inRangeFrom
-range-more s k = all-below-more (vertexFrom s) vertexInRange k
+range-all s n = sym (all-map vertexInRange (vertexFrom s) (below n))
 
 -- ---- The part that the model reads
 

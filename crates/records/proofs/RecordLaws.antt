@@ -1,7 +1,7 @@
 -- Laws of the readers of records: sizes, and one record more.
 use mathlib.Core.Bool.{Bool, true, false, cond, _&&_}
 use mathlib.Core.List.{List, [], _∷_, _++_}
-use mathlib.Core.Path.{_≡_, refl, sym, ap, subst, _∙_}
+use mathlib.Core.Path.{_≡_, refl, sym, ap, ap₂, subst, _∙_}
 use Prim.Native.Nat.{ℕ, zero, suc, _+_, _-_, _*_, _<_, _≤_}
 use native.Mathlib.Omega.{arith}
 use borrow.Author.Tests.{le-leb, lt-leb, leb-true}
@@ -100,12 +100,9 @@ part-size-is s = go (between 3 8 (byteAt s 0) && leb (1 + byteAt s 0 * 2) (lengt
     go true = refl
     go false = refl
 
-pub part-taken : (s : List ℕ) → (between 3 8 (byteAt s 0) && leb (1 + byteAt s 0 * 2) (length s)) ≡ true
-    → (1 + byteAt s 0 * 2 ≡ sizeOf (readPart s)) × (1 + byteAt s 0 * 2 ≤ length s)
-part-taken s t = (sym (part-size-is s ∙ ap (λ b. cond b (1 + byteAt s 0 * 2) 0) t), leb-true _ _ (and-right (between 3 8 (byteAt s 0)) _ t))
-
-pub part-refused : (s : List ℕ) → (between 3 8 (byteAt s 0) && leb (1 + byteAt s 0 * 2) (length s)) ≡ false → 0 ≡ sizeOf (readPart s)
-part-refused s t = sym (part-size-is s ∙ ap (λ b. cond b (1 + byteAt s 0 * 2) 0) t)
+pub part-sized : (s : List ℕ) (n : ℕ) (t b : Bool) → n ≡ byteAt s 0 → t ≡ between 3 8 n → (t && leb (1 + n * 2) (length s)) ≡ b
+    → cond b (1 + n * 2) 0 ≡ sizeOf (readPart s)
+part-sized s n t b en et eb = sym (part-size-is s ∙ rw (← en, ← et, eb))
 
 -- No bytes, no part.
 pub no-part : (s : List ℕ) → length s ≡ 0 → sizeOf (readPart s) ≡ 0
@@ -167,10 +164,11 @@ module _ (s : List ℕ) where
   size-parts bad h = absurd (omega arith)
   size-parts (got ps m) h = refl
 
-  pub kind-taken : (r : ℕ) → headInRange s ≡ true → r ≡ sizeOf (many readPart (byteAt s 3) (take (length s - 4) (drop 4 s))) → (r ≡ 0 → ⊥)
+  -- The n parts behind the fields take r bytes.
+  pub kind-taken : (r n : ℕ) → headInRange s ≡ true → n ≡ byteAt s 3 → r ≡ sizeOf (many readPart n (take (length s - 4) (drop 4 s))) → (r ≡ 0 → ⊥)
       → 4 + r ≡ sizeOf (readKind s)
-  kind-taken r h e z =
-      let q : r ≡ sizeOf (many readPart (byteAt s 3) (drop 4 s)) = e ∙ ap (λ l. sizeOf (many readPart (byteAt s 3) l)) (tail s 4) in
+  kind-taken r n h en e z =
+      let q : r ≡ sizeOf (many readPart (byteAt s 3) (drop 4 s)) = e ∙ ap₂ (λ m l. sizeOf (many readPart m l)) en (tail s 4) in
       ap (λ x. 4 + x) q ∙ size-parts (many readPart (byteAt s 3) (drop 4 s)) (omega arith) ∙ sym (ap sizeOf (readKind-parts h))
 
   no-parts : (g : Got (List Part)) → many readPart (byteAt s 3) (drop 4 s) ≡ g → 1 ≤ byteAt s 3 → sizeOf g ≡ 0 → 0 ≡ sizeOf (withParts s g)
@@ -178,8 +176,8 @@ module _ (s : List ℕ) where
   no-parts bad q h e = refl
   no-parts (got ps m) q h e = absurd (omega (arith, parts-least _ m _ (reads-from _ ps m q) h))
 
-  pub kind-refused : (r : ℕ) → headInRange s ≡ true → r ≡ sizeOf (many readPart (byteAt s 3) (take (length s - 4) (drop 4 s))) → r ≡ 0
+  pub kind-refused : (r n : ℕ) → headInRange s ≡ true → n ≡ byteAt s 3 → r ≡ sizeOf (many readPart n (take (length s - 4) (drop 4 s))) → r ≡ 0
       → 0 ≡ sizeOf (readKind s)
-  kind-refused r h e z =
-      let q : r ≡ sizeOf (many readPart (byteAt s 3) (drop 4 s)) = e ∙ ap (λ l. sizeOf (many readPart (byteAt s 3) l)) (tail s 4) in
+  kind-refused r n h en e z =
+      let q : r ≡ sizeOf (many readPart (byteAt s 3) (drop 4 s)) = e ∙ ap₂ (λ m l. sizeOf (many readPart m l)) en (tail s 4) in
       no-parts (many readPart (byteAt s 3) (drop 4 s)) refl (head-fits s h .partsLeast) (sym q ∙ z) ∙ sym (ap sizeOf (readKind-parts h))

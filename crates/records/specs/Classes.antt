@@ -22,13 +22,6 @@ allInRange s o n = all classInRange (classesFrom s o n)
 abbrev pub entryAt : List ℕ → ℕ → ℕ → ℕ
 entryAt s o i = byteAt s (o + i * 3)
 
--- The entries from i on, of n.
-abbrev pub entriesFrom : List ℕ → ℕ → ℕ → ℕ → List ℕ
-entriesFrom s o n i = map (entryAt s o) (rising i (n - i))
-
-unfoldable pub occursLater : List ℕ → ℕ → ℕ → ℕ → Bool
-occursLater s o n j = any (eqb (entryAt s o j)) (entriesFrom s o n (j + 1))
-
 unfoldable pub distinctColumn : List ℕ → ℕ → ℕ → Bool
 distinctColumn s o n = distinct (map (entryAt s o) (below n))
 
@@ -41,13 +34,13 @@ unfoldable pub firstFrom : (ℕ → Bool) → ℕ → ℕ → ℕ
 firstFrom p i zero = i
 firstFrom p i (suc k) = cond (p i) i (firstFrom p (suc i) k)
 
--- Entry i of the column is this id.
+-- Entry i of the column is this value.
 unfoldable pub hasId : List ℕ → ℕ → ℕ → ℕ → Bool
-hasId s o id i = eqb (entryAt s o i) id
+hasId s o value i = eqb (entryAt s o i) value
 
--- The index of the first class of this id, and n where there is none.
+-- The index of the first of n entries that is this value, and n where there is none.
 unfoldable pub indexOf : List ℕ → ℕ → ℕ → ℕ → ℕ
-indexOf s o n id = firstFrom (hasId s o id) 0 n
+indexOf s o n value = firstFrom (hasId s o value) 0 n
 
 -- The classes of this id.
 abbrev pub classesOfId : ℕ → List SpacingClass → List SpacingClass

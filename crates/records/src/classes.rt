@@ -3,7 +3,7 @@ use frame::fields;
 ghost use mathlib.Core.Path.{_≡_};
 ghost use Prim.Native.Nat.{_+_, _*_, _≤_, _<_};
 ghost use lib.ListN.{length};
-ghost use Rattle.records.specs.Classes.{classFrom, allInRange, occursLater, distinctColumn, classesUnfit, indexOf};
+ghost use Rattle.records.specs.Classes.{classFrom, allInRange, distinctColumn, classesUnfit, indexOf};
 ghost use Rattle.model.specs.Format.{classInRange};
 
 // The record at byte o has its id, rank and gap in range.
@@ -30,31 +30,32 @@ fn all_in_range(job: &[u8], at: usize, n: usize) -> bool
     ok
 }
 
-// A column is one field of every record: bytes at, at + 3, at + 6 and so on. Entry j stands again behind it, among n entries.
-fn occurs_later(job: &[u8], at: usize, n: usize, j: usize) -> bool
-    requires { ⌜ ((j < n) × (n < 256)) × (at + n * 3 ≤ length (now job) + 2) ⌝ }
-    ensures { λ r. ⌜ r ≡ occursLater (now (job .entry)) at n j ⌝ }
+// A column is one field of every record: bytes at, at + 3, at + 6 and so on. The index of the first of its n entries that is `value`, and
+// n where there is none.
+pub fn find(job: &[u8], at: usize, n: usize, value: usize) -> usize
+    requires { ⌜ (n < 256) × (at + n * 3 ≤ length (now job) + 2) ⌝ }
+    ensures { λ r. ⌜ (r ≡ indexOf (now (job .entry)) at n value) × (r ≤ n) ⌝ }
 {
-    let b = fields::byte(job, at + j * 3);
-    let mut found = false;
-    let mut i = n;
-    while j + 1 < i {
-        i -= 1;
-        found = (b == fields::byte(job, at + i * 3)) | found;
+    let mut j = 0;
+    while j < n {
+        if fields::byte(job, at + j * 3) == value {
+            return j;
+        }
+        j += 1;
     }
-    found
+    n
 }
 
-// No entry of the column occurs twice.
+// No entry of the column occurs twice: each is the first of its value.
 fn distinct(job: &[u8], at: usize, n: usize) -> bool
     requires { ⌜ (n < 256) × (at + n * 3 ≤ length (now job) + 2) ⌝ }
     ensures { λ r. ⌜ r ≡ distinctColumn (now (job .entry)) at n ⌝ }
 {
     let mut ok = true;
-    let mut j = n;
-    while 0 < j {
-        j -= 1;
-        ok = !occurs_later(job, at, n, j) & ok;
+    let mut j = 0;
+    while j < n {
+        ok = ok & (find(job, at, n, fields::byte(job, at + j * 3)) == j);
+        j += 1;
     }
     ok
 }
@@ -65,19 +66,4 @@ pub fn unfit(job: &[u8], at: usize, n: usize) -> bool
     ensures { λ r. ⌜ r ≡ classesUnfit (now (job .entry)) at n ⌝ }
 {
     (8 < n) | !all_in_range(job, at, n) | !distinct(job, at, n) | !distinct(job, at + 1, n)
-}
-
-// The index of the first class of this id, and n where there is none.
-pub fn find(job: &[u8], at: usize, n: usize, id: usize) -> usize
-    requires { ⌜ (n < 256) × (at + n * 3 ≤ length (now job)) ⌝ }
-    ensures { λ r. ⌜ (r ≡ indexOf (now (job .entry)) at n id) × (r ≤ n) ⌝ }
-{
-    let mut j = 0;
-    while j < n {
-        if fields::byte(job, at + j * 3) == id {
-            return j;
-        }
-        j += 1;
-    }
-    n
 }

@@ -13,12 +13,12 @@ ghost use Rattle.model.specs.Format.{byteAt, vertexInRange};
 ghost use Rattle.model.specs.Geometry.{strictlyLeft};
 ghost use Rattle.records.specs.Parts.{vertexFrom, nextOf, edgeSoundFrom, soundFrom, inRangeFrom, unfitFrom};
 
-// The signed byte i less the signed byte k.
-fn difference(part: &[u8], i: usize, k: usize) -> i16
-    requires { ⌜ (i < length (now part)) × (k < length (now part)) ⌝ }
-    ensures { λ r. ⌜ r ≡ signed (byteAt (now (part .entry)) i) -ℤ signed (byteAt (now (part .entry)) k) ⌝ }
+// A coordinate of corner q less that of corner p: x where `axis` is 1, y where it is 2.
+fn difference(part: &[u8], q: usize, p: usize, axis: usize) -> i16
+    requires { ⌜ ((p < 8) × (q < 8) × (axis ≤ 2)) × ((p * 2 + 3 ≤ length (now part)) × (q * 2 + 3 ≤ length (now part))) ⌝ }
+    ensures { λ r. ⌜ r ≡ signed (byteAt (now (part .entry)) (q * 2 + axis)) -ℤ signed (byteAt (now (part .entry)) (p * 2 + axis)) ⌝ }
 {
-    integers::signed_byte(part, i) - integers::signed_byte(part, k)
+    integers::signed_byte(part, q * 2 + axis) - integers::signed_byte(part, p * 2 + axis)
 }
 
 // Corner r lies strictly left of the line from corner p to corner q.
@@ -27,10 +27,10 @@ fn strictly_left(part: &[u8], p: usize, q: usize, r: usize) -> bool
     ensures { λ b. ⌜ b ≡ strictlyLeft (vertexFrom (now (part .entry)) p) (vertexFrom (now (part .entry)) q) (vertexFrom (now (part .entry)) r) ⌝ }
 {
     let area = integers::cross(
-        difference(part, q * 2 + 1, p * 2 + 1),
-        difference(part, q * 2 + 2, p * 2 + 2),
-        difference(part, r * 2 + 1, p * 2 + 1),
-        difference(part, r * 2 + 2, p * 2 + 2),
+        difference(part, q, p, 1),
+        difference(part, q, p, 2),
+        difference(part, r, p, 1),
+        difference(part, r, p, 2),
     );
     0 < area
 }
@@ -79,12 +79,12 @@ fn sound(part: &[u8], n: usize) -> bool
     ok
 }
 
-// The signed byte i is not -128.
-fn above_least(part: &[u8], i: usize) -> bool
-    requires { ⌜ i < length (now part) ⌝ }
-    ensures { λ r. ⌜ r ≡ leZ (negsuc 126) (signed (byteAt (now (part .entry)) i)) ⌝ }
+// A coordinate of corner k is not -128: x where `axis` is 1, y where it is 2.
+fn above_least(part: &[u8], k: usize, axis: usize) -> bool
+    requires { ⌜ ((k < 8) × (axis ≤ 2)) × (k * 2 + 3 ≤ length (now part)) ⌝ }
+    ensures { λ r. ⌜ r ≡ leZ (negsuc 126) (signed (byteAt (now (part .entry)) (k * 2 + axis))) ⌝ }
 {
-    -127 <= integers::signed_byte(part, i)
+    -127 <= integers::signed_byte(part, k * 2 + axis)
 }
 
 // No corner has a coordinate of -128.
@@ -95,7 +95,7 @@ fn in_range(part: &[u8], n: usize) -> bool
     let mut ok = true;
     let mut k = 0;
     while k < n {
-        ok = ok & (above_least(part, k * 2 + 1) & above_least(part, k * 2 + 2));
+        ok = ok & (above_least(part, k, 1) & above_least(part, k, 2));
         k += 1;
     }
     ok

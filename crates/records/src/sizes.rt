@@ -13,15 +13,16 @@ pub fn part_size(part: &[u8]) -> usize
     if part.len() == 0 {
         return 0;
     }
-    let size = 1 + fields::byte(part, 0) * 2;
-    if fields::in_range(3, 8, fields::byte(part, 0)) & (size <= part.len()) {
+    let corners = fields::byte(part, 0);
+    let size = 1 + corners * 2;
+    if fields::in_range(3, 8, corners) & (size <= part.len()) {
         return size;
     }
     0
 }
 
 // The n parts at the front.
-pub fn parts_size(parts: &[u8], n: usize) -> usize
+fn parts_size(parts: &[u8], n: usize) -> usize
     requires { ⌜ (1 ≤ n) × (n < 256) ⌝ }
     ensures { λ r. ⌜ (r ≡ sizeOf (many readPart n (now (parts .entry)))) × (r ≤ length (now (parts .entry))) ⌝ }
 {

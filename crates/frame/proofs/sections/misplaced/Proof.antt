@@ -1,4 +1,6 @@
-use Rattle.model.specs.Format.{cause3, inPlace, boardSection, classesSection, kindsSection}
+use mathlib.Core.Path.{refl, ap}
+use Prim.Native.Nat.{_*_}
+use Rattle.frame.proofs.SectionLaws.{judged}
 use borrow.Author.Needs.{needs}
 use Rattle.frame.proofs.sections.misplaced.Statement.{statement}
 use Rattle.frame.proofs.sections.misplaced.Tie as tie
@@ -28,8 +30,11 @@ share-byte-requires-3 : tie.Need-share-byte-requires-3
 share-byte-requires-3 c κs = search needs
 
 returns : tie.Need-returns
-unfolding cause3 inPlace boardSection classesSection kindsSection
-returns c = cc
+returns c =
+    let t = c .before .before .before .before .before .before .before .read-trailer .ensures in
+    judged (c .before .before .before .before .before .before .before .before .before .args .job .now) _ _ _ _ _ _ _ _ _ _ _ _ _
+    (c .before .before .before .before .before .in-place .ensures) (c .before .before .before .before .in-place2 .ensures) (c .before .before .before .in-place3 .ensures) (c .before .before .share-byte .ensures) (c .before .share-byte2 .ensures) (c .share-byte3 .ensures)
+    (t .place) (t .board) refl (t .classes) (ap (λ n. n * 3) (t .classCount)) (t .kinds) (t .kindsLength)
 
 pub misplaced-spec : {M : Type 1} → statement M
 misplaced-spec =

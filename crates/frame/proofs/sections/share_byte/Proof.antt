@@ -1,3 +1,5 @@
+use mathlib.Core.Path.{ap₂}
+use lib.Dec.{ltb}
 use Rattle.model.specs.Format.{shareByte}
 use borrow.Author.Needs.{needs}
 use Rattle.frame.proofs.sections.share_byte.Statement.{statement}
@@ -17,7 +19,7 @@ smaller-requires c κs = search needs
 
 returns : tie.Need-returns
 unfolding shareByte
-returns c = cc
+returns c = ap₂ ltb (c .before .larger .ensures) (c .smaller .ensures)
 
 pub share-byte-spec : {M : Type 1} → statement M
 share-byte-spec =

@@ -1,4 +1,5 @@
-use mathlib.Core.Path.{_≡_, sym, ap, _∙_}
+use mathlib.Core.Bool.{_||_}
+use mathlib.Core.Path.{_≡_, sym, ap₂, _∙_}
 use Prim.Native.Nat.{_≤_, _-_}
 use native.Mathlib.Omega.{arith}
 use lib.ListN.{take}
@@ -31,7 +32,7 @@ loop-less : tie.Need-loop-less Inv-loop μ-loop
 loop-less c = search needs
 
 loop-again : tie.Need-loop-again Inv-loop μ-loop
-loop-again c = (omega arith, cc (kinds-more (c .before .before .before .before .args .job .now) (c .before .before .loop .t) (omega arith)))
+loop-again c = (omega arith, ap₂ _||_ (c .before .before .loop .inv .1) (c .kind-refused .ensures) ∙ sym (kinds-more (c .before .before .before .before .args .job .now) (c .before .before .loop .t) (omega arith)))
 
 returns : tie.Need-returns Inv-loop μ-loop
 returns c = c .before .loop .inv .1 ∙ kinds-all (c .before .before .before .args .job .now) (c .before .loop .t) (omega arith)

@@ -1,119 +1,85 @@
-use mathlib.Core.Path.{_≡_, refl, sym, ap, subst, _∙_}
-use Prim.Native.Nat.{_≤_, _+_, _*_, _-_}
+use mathlib.Core.Path.{_≡_, refl, _∙_}
+use Prim.Native.Nat.{ℕ, _≤_, _<_, _+_, _*_, _-_}
 use native.Mathlib.Omega.{arith}
-use lib.ListN.{length, length-set}
-use Rattle.model.specs.Format.{byteAt}
+use mir.Syntax.{w64}
+use mir.Val.{Fits}
 use Rattle.records.specs.Classes.{classesFrom}
-use Rattle.job.specs.Gaps.{bestBelow}
-use Rattle.job.specs.Table.{gapIn, Built}
-use Rattle.records.proofs.RecordLaws.{tail-length}
-use Rattle.job.proofs.TableLaws.{next-room, next-parts, built-none, built-more, built-end, gap-of}
+use Rattle.job.specs.Table.{Built}
+use Rattle.records.proofs.NextLaws.{kind-begins, parts-few, parts-read}
+use Rattle.job.proofs.TableLaws.{Whole, sized, whole-entered, built-none, built-more, built-end, gap-of}
 use borrow.Author.Needs.{needs}
 use Rattle.job.proofs.table.read_kinds.Statement.{statement}
 use Rattle.job.proofs.table.read_kinds.Tie as tie
 
+-- There are eight entries, and six places for each.
+below-8 : {t kinds : ℕ} → t < kinds → kinds ≤ 8 → t < 8
+below-8 h k = omega arith
+
+times-8 : {t : ℕ} → t < 8 → Fits w64 (t * 8)
+times-8 h = record { fits = omega arith }
+
+times-6 : {t : ℕ} → t < 8 → Fits w64 (t * 6)
+times-6 h = record { fits = omega arith }
+
+room : {t n : ℕ} → t < 8 → n ≤ 6 → t * 6 + n ≤ 48
+room h k = omega arith
+
+four-more : (base here : ℕ) {size : ℕ} → base + size ≤ 65536 → here + 4 ≤ size → Fits w64 (here + 4)
+four-more base here h k = record { fits = omega arith }
+
 abbrev Inv-loop : tie.InvT-loop
-Inv-loop job at n list base kinds demands₀ rotations₀ gaps₀ parts₀ part-at₀ pieces₀ here₀ t₀ demands rotations gaps parts part-at pieces here t = ((t ≤ kinds) × (here ≤ length list) × (pieces ≤ 255 * t)) × (((length demands ≡ 8) × (length rotations ≡ 8) × (length gaps ≡ 8) × (length parts ≡ 8) × (length part-at ≡ 48)) × Built (classesFrom job at n) list base t here pieces demands rotations gaps parts part-at)
+Inv-loop job at n list base kinds table₀ here₀ t₀ table here t = ((t ≤ kinds) × (table .pieces ≤ 255 * t)) × (Whole table × Built (classesFrom job at n) list base t here table)
 
 abbrev μ-loop : tie.MeasureT-loop
-μ-loop job at n list base kinds demands₀ rotations₀ gaps₀ parts₀ part-at₀ pieces₀ here₀ t₀ demands rotations gaps parts part-at pieces here t = kinds - t
+μ-loop job at n list base kinds table₀ here₀ t₀ table here t = kinds - t
 
 loop-holds : tie.Need-loop-holds Inv-loop μ-loop
-loop-holds c = (omega arith, ((refl, refl, refl, refl, refl), built-none _ _ _ _ _ (c .before .before .pre .1 .0) _ _ _ _ _))
+loop-holds c = (omega arith, (record { demands = refl; rotations = refl; gaps = refl; parts = refl; places = refl }, built-none _ _ _ _ _ (c .before .before .pre .1 .0) _ refl))
 
-byte-requires : tie.Need-byte-requires Inv-loop μ-loop
-byte-requires c κs = omega (arith, next-room (classesFrom (c .before .before .before .before .args .job .now) (c .before .before .before .before .args .at) (c .before .before .before .before .args .n)) (c .before .before .before .before .args .list .now) (c .before .before .before .before .args .base) (c .before .before .before .before .args .kinds) _ (c .before .before .before .before .pre .1 .0) (c .before .loop .t) (c .before .loop .here) (c .loop-test .taken) (c .before .loop .inv .1 .1 .reads))
+read-head-requires : tie.Need-read-head-requires Inv-loop μ-loop
+read-head-requires c κs = kind-begins (c .before .before .before .before .args .list .now) (c .before .before .before .before .args .kinds) _ (c .before .loop .t) (c .before .loop .here) (c .before .before .before .before .pre .1 .0) (c .loop-test .taken) (c .before .loop .inv .1 .1 .reads)
 
-add-byte : tie.Need-add-byte Inv-loop μ-loop
-add-byte c = omega (arith, next-room (classesFrom (c .before .before .before .before .before .args .job .now) (c .before .before .before .before .before .args .at) (c .before .before .before .before .before .args .n)) (c .before .before .before .before .before .args .list .now) (c .before .before .before .before .before .args .base) (c .before .before .before .before .before .args .kinds) _ (c .before .before .before .before .before .pre .1 .0) (c .before .before .loop .t) (c .before .before .loop .here) (c .before .loop-test .taken) (c .before .before .loop .inv .1 .1 .reads))
+mul-table : tie.Need-mul-table Inv-loop μ-loop
+mul-table c = times-8 (below-8 (c .before .loop-test .taken) (c .before .before .before .before .before .pre .0 .2))
 
-byte-requires-2 : tie.Need-byte-requires-2 Inv-loop μ-loop
-byte-requires-2 c κs = omega (arith, next-room (classesFrom (c .before .before .before .before .before .args .job .now) (c .before .before .before .before .before .args .at) (c .before .before .before .before .before .args .n)) (c .before .before .before .before .before .args .list .now) (c .before .before .before .before .before .args .base) (c .before .before .before .before .before .args .kinds) _ (c .before .before .before .before .before .pre .1 .0) (c .before .before .loop .t) (c .before .before .loop .here) (c .before .loop-test .taken) (c .before .before .loop .inv .1 .1 .reads))
+element-write-table : tie.Need-element-write-table Inv-loop μ-loop
+element-write-table c = below-8 (c .before .loop-test .taken) (c .before .before .before .before .before .pre .0 .2)
 
-mul-demands : tie.Need-mul-demands Inv-loop μ-loop
-mul-demands c = search needs
+mul-table-2 : tie.Need-mul-table-2 Inv-loop μ-loop
+mul-table-2 c = times-8 (below-8 (c .before .loop-test .taken) (c .before .before .before .before .before .pre .0 .2))
 
-array-write-demands : tie.Need-array-write-demands Inv-loop μ-loop
-array-write-demands c = omega arith
-
-add-byte-2 : tie.Need-add-byte-2 Inv-loop μ-loop
-add-byte-2 c = search needs
-
-byte-requires-3 : tie.Need-byte-requires-3 Inv-loop μ-loop
-byte-requires-3 c κs = omega (arith, next-room (classesFrom (c .before .before .before .before .before .before .args .job .now) (c .before .before .before .before .before .before .args .at) (c .before .before .before .before .before .before .args .n)) (c .before .before .before .before .before .before .args .list .now) (c .before .before .before .before .before .before .args .base) (c .before .before .before .before .before .before .args .kinds) _ (c .before .before .before .before .before .before .pre .1 .0) (c .before .before .before .loop .t) (c .before .before .before .loop .here) (c .before .before .loop-test .taken) (c .before .before .before .loop .inv .1 .1 .reads))
-
-mul-rotations : tie.Need-mul-rotations Inv-loop μ-loop
-mul-rotations c = search needs
-
-array-write-rotations : tie.Need-array-write-rotations Inv-loop μ-loop
-array-write-rotations c = omega arith
-
-add-byte-3 : tie.Need-add-byte-3 Inv-loop μ-loop
-add-byte-3 c = search needs
-
-byte-requires-4 : tie.Need-byte-requires-4 Inv-loop μ-loop
-byte-requires-4 c κs = omega (arith, next-room (classesFrom (c .before .before .before .before .before .before .before .args .job .now) (c .before .before .before .before .before .before .before .args .at) (c .before .before .before .before .before .before .before .args .n)) (c .before .before .before .before .before .before .before .args .list .now) (c .before .before .before .before .before .before .before .args .base) (c .before .before .before .before .before .before .before .args .kinds) _ (c .before .before .before .before .before .before .before .pre .1 .0) (c .before .before .before .before .loop .t) (c .before .before .before .before .loop .here) (c .before .before .before .loop-test .taken) (c .before .before .before .before .loop .inv .1 .1 .reads))
+element-write-table-2 : tie.Need-element-write-table-2 Inv-loop μ-loop
+element-write-table-2 c = below-8 (c .before .loop-test .taken) (c .before .before .before .before .before .pre .0 .2)
 
 kind-gap-requires : tie.Need-kind-gap-requires Inv-loop μ-loop
 kind-gap-requires c κs = search needs
 
-mul-gaps : tie.Need-mul-gaps Inv-loop μ-loop
-mul-gaps c = search needs
+mul-table-3 : tie.Need-mul-table-3 Inv-loop μ-loop
+mul-table-3 c = times-8 (below-8 (c .before .before .loop-test .taken) (c .before .before .before .before .before .before .pre .0 .2))
 
-array-write-gaps : tie.Need-array-write-gaps Inv-loop μ-loop
-array-write-gaps c = omega arith
+element-write-table-3 : tie.Need-element-write-table-3 Inv-loop μ-loop
+element-write-table-3 c = below-8 (c .before .before .loop-test .taken) (c .before .before .before .before .before .before .pre .0 .2)
 
-mul-parts : tie.Need-mul-parts Inv-loop μ-loop
-mul-parts c = search needs
+mul-table-4 : tie.Need-mul-table-4 Inv-loop μ-loop
+mul-table-4 c = times-8 (below-8 (c .before .before .loop-test .taken) (c .before .before .before .before .before .before .pre .0 .2))
 
-array-write-parts : tie.Need-array-write-parts Inv-loop μ-loop
-array-write-parts c = omega arith
+element-write-table-4 : tie.Need-element-write-table-4 Inv-loop μ-loop
+element-write-table-4 c = below-8 (c .before .before .loop-test .taken) (c .before .before .before .before .before .before .pre .0 .2)
+
+add-table : tie.Need-add-table Inv-loop μ-loop
+add-table c = search needs
 
 add-place-parts : tie.Need-add-place-parts Inv-loop μ-loop
-add-place-parts c = search needs
-
-sub-place-parts : tie.Need-sub-place-parts Inv-loop μ-loop
-sub-place-parts c = omega (arith, next-room (classesFrom (c .before .before .before .before .before .before .before .before .before .args .job .now) (c .before .before .before .before .before .before .before .before .before .args .at) (c .before .before .before .before .before .before .before .before .before .args .n)) (c .before .before .before .before .before .before .before .before .before .args .list .now) (c .before .before .before .before .before .before .before .before .before .args .base) (c .before .before .before .before .before .before .before .before .before .args .kinds) _ (c .before .before .before .before .before .before .before .before .before .pre .1 .0) (c .before .before .before .before .before .before .loop .t) (c .before .before .before .before .before .before .loop .here) (c .before .before .before .before .before .loop-test .taken) (c .before .before .before .before .before .before .loop .inv .1 .1 .reads))
-
-part-place-parts-start : tie.Need-part-place-parts-start Inv-loop μ-loop
-part-place-parts-start c = omega (arith, next-room (classesFrom (c .before .before .before .before .before .before .before .before .before .args .job .now) (c .before .before .before .before .before .before .before .before .before .args .at) (c .before .before .before .before .before .before .before .before .before .args .n)) (c .before .before .before .before .before .before .before .before .before .args .list .now) (c .before .before .before .before .before .before .before .before .before .args .base) (c .before .before .before .before .before .before .before .before .before .args .kinds) _ (c .before .before .before .before .before .before .before .before .before .pre .1 .0) (c .before .before .before .before .before .before .loop .t) (c .before .before .before .before .before .before .loop .here) (c .before .before .before .before .before .loop-test .taken) (c .before .before .before .before .before .before .loop .inv .1 .1 .reads))
-
-part-place-parts-end : tie.Need-part-place-parts-end Inv-loop μ-loop
-part-place-parts-end c = search needs
-
-add-place-parts-2 : tie.Need-add-place-parts-2 Inv-loop μ-loop
-add-place-parts-2 c = search needs
-
-add-place-parts-3 : tie.Need-add-place-parts-3 Inv-loop μ-loop
-add-place-parts-3 c = search needs
+add-place-parts c = four-more (c .before .before .before .before .before .before .before .args .base) (c .before .before .before .before .loop .here) (c .before .before .before .before .before .before .before .pre .0 .3) (kind-begins (c .before .before .before .before .before .before .before .args .list .now) (c .before .before .before .before .before .before .before .args .kinds) _ (c .before .before .before .before .loop .t) (c .before .before .before .before .loop .here) (c .before .before .before .before .before .before .before .pre .1 .0) (c .before .before .before .loop-test .taken) (c .before .before .before .before .loop .inv .1 .1 .reads))
 
 mul-place-parts : tie.Need-mul-place-parts Inv-loop μ-loop
-mul-place-parts c = search needs
+mul-place-parts c = times-6 (below-8 (c .before .before .before .loop-test .taken) (c .before .before .before .before .before .before .before .pre .0 .2))
 
 place-parts-requires : tie.Need-place-parts-requires Inv-loop μ-loop
 place-parts-requires c κs =
-    let k = next-parts (classesFrom (c .before .before .before .before .before .before .before .before .before .before .before .args .job .now) (c .before .before .before .before .before .before .before .before .before .before .before .args .at) (c .before .before .before .before .before .before .before .before .before .before .before .args .n)) (c .before .before .before .before .before .before .before .before .before .before .before .args .list .now) (c .before .before .before .before .before .before .before .before .before .before .before .args .base) (c .before .before .before .before .before .before .before .before .before .before .before .args .kinds) _ (c .before .before .before .before .before .before .before .before .before .before .before .pre .1 .0) (c .before .before .before .before .before .before .before .before .loop .t) (c .before .before .before .before .before .before .before .before .loop .here) (c .before .before .before .before .before .byte2 .result) (c .before .before .before .before .before .before .before .loop-test .taken) (c .before .before .before .before .before .before .before .before .loop .inv .1 .1 .reads) (c .before .before .before .before .before .byte2 .ensures .0) in
-    let o = next-room (classesFrom (c .before .before .before .before .before .before .before .before .before .before .before .args .job .now) (c .before .before .before .before .before .before .before .before .before .before .before .args .at) (c .before .before .before .before .before .before .before .before .before .before .before .args .n)) (c .before .before .before .before .before .before .before .before .before .before .before .args .list .now) (c .before .before .before .before .before .before .before .before .before .before .before .args .base) (c .before .before .before .before .before .before .before .before .before .before .before .args .kinds) _ (c .before .before .before .before .before .before .before .before .before .before .before .pre .1 .0) (c .before .before .before .before .before .before .before .before .loop .t) (c .before .before .before .before .before .before .before .before .loop .here) (c .before .before .before .before .before .before .before .loop-test .taken) (c .before .before .before .before .before .before .before .before .loop .inv .1 .1 .reads) in
-    let l = tail-length (c .before .before .before .before .before .before .before .before .before .before .before .args .list .now) (c .before .before .before .before .before .before .before .before .loop .here + 4) in
-    ((omega (arith, k .0, c .before .before .before .before .before .before .before .loop-test .taken, c .before .before .before .before .before .before .before .before .before .before .before .pre .0), c .before .before .before .before .before .before .before .before .loop .inv .1 .0 .4, omega (arith, l, o, c .before .before .before .before .before .before .before .before .before .before .before .pre .0)), k .1)
-
-add-pieces : tie.Need-add-pieces Inv-loop μ-loop
-add-pieces c = search needs
-
-sub-kind-size : tie.Need-sub-kind-size Inv-loop μ-loop
-sub-kind-size c = search needs
-
-part-kind-size-start : tie.Need-part-kind-size-start Inv-loop μ-loop
-part-kind-size-start c = search needs
-
-part-kind-size-end : tie.Need-part-kind-size-end Inv-loop μ-loop
-part-kind-size-end c = search needs
-
-kind-size-requires : tie.Need-kind-size-requires Inv-loop μ-loop
-kind-size-requires c κs = search needs
-
-add-here : tie.Need-add-here Inv-loop μ-loop
-add-here c = omega (arith, tail-length (c .before .before .before .before .before .before .before .before .before .before .before .before .before .before .args .list .now) (c .before .before .before .before .before .before .before .before .before .before .before .loop .here))
+    let few = parts-few (c .before .before .before .before .before .before .before .before .args .list .now) (c .before .before .before .before .before .before .before .before .args .kinds) _ (c .before .before .before .before .before .loop .t) (c .before .before .before .before .before .loop .here) (c .before .before .before .before .before .before .before .before .pre .1 .0) (c .before .before .before .before .loop-test .taken) (c .before .before .before .before .before .loop .inv .1 .1 .reads) _ (c .before .before .before .read-head .ensures .parts) in
+    let read = parts-read (c .before .before .before .before .before .before .before .before .args .list .now) (c .before .before .before .before .before .before .before .before .args .kinds) _ (c .before .before .before .before .before .loop .t) (c .before .before .before .before .before .loop .here) (c .before .before .before .before .before .before .before .before .pre .1 .0) (c .before .before .before .before .loop-test .taken) (c .before .before .before .before .before .loop .inv .1 .1 .reads) _ (c .before .before .before .read-head .ensures .parts) in
+    ((room (below-8 (c .before .before .before .before .loop-test .taken) (c .before .before .before .before .before .before .before .before .pre .0 .2)) few, c .before .before .before .before .before .loop .inv .1 .0 .places, c .before .before .before .before .before .before .before .before .pre .0 .3), read)
 
 add-t : tie.Need-add-t Inv-loop μ-loop
 add-t c = search needs
@@ -123,20 +89,17 @@ loop-less c = search needs
 
 loop-again : tie.Need-loop-again Inv-loop μ-loop
 loop-again c =
-    let s = c .before .before .before .before .before .before .before .before .before .before .before .before .before .before .args .list .now in
-    let cs = classesFrom (c .before .before .before .before .before .before .before .before .before .before .before .before .before .before .args .job .now) (c .before .before .before .before .before .before .before .before .before .before .before .before .before .before .args .at) (c .before .before .before .before .before .before .before .before .before .before .before .before .before .before .args .n) in
-    let l = tail-length s (c .before .before .before .before .before .before .before .before .before .before .before .loop .here) in
-    let b = c .before .before .before .before .before .before .before .before .before .before .before .loop .inv .1 .1 in
-    let z = c .before .before .before .before .before .before .before .before .before .before .before .loop .inv .1 .0 in (
-      omega (arith, l),
+    let whole = c .before .before .before .before .before .before .loop .inv .1 .0 in
+    let gap = gap-of (c .before .before .before .before .before .before .before .before .before .args .job .now) (c .before .before .before .before .before .before .before .before .before .args .list .now) (c .before .before .before .before .before .before .before .before .before .args .at) (c .before .before .before .before .before .before .before .before .before .args .n) (c .before .before .before .before .before .before .loop .here) _ _ (c .before .before .before .before .before .before .before .before .before .pre .1 .1) (c .before .before .before .kind-gap .ensures) (c .before .before .before .before .read-head .ensures .classes) in (
+      omega arith,
       (
-        (simp length-set (z .0), simp length-set (z .1), simp length-set (z .2), simp length-set (z .3), c .before .before .place-parts .ensures .size ∙ z .4),
-        built-more cs s (c .before .before .before .before .before .before .before .before .before .before .before .before .before .before .args .base) (c .before .before .before .before .before .before .before .before .before .before .before .before .before .before .args .kinds) _ (c .before .before .before .before .before .before .before .before .before .before .before .before .before .before .pre .1 .0) (c .before .before .before .before .before .before .before .before .before .before .before .loop .t) (c .before .before .before .before .before .before .before .before .before .before .before .loop .here) (c .before .before .before .before .before .before .before .before .before .before .before .loop .pieces) (c .before .before .before .before .before .before .before .before .before .before .before .loop .demands) (c .before .before .before .before .before .before .before .before .before .before .before .loop .rotations) (c .before .before .before .before .before .before .before .before .before .before .before .loop .gaps) (c .before .before .before .before .before .before .before .before .before .before .before .loop .parts) (c .before .before .before .before .before .before .before .before .before .before .before .loop .part-at) _ (c .before .before .before .before .before .before .before .before .before .byte .result) (c .before .before .before .before .before .before .before .byte3 .result) (c .before .before .before .before .before .kind-gap .result) (c .before .before .before .before .before .before .before .before .byte2 .result) (c .kind-size .result) 0 (c .before .before .before .before .before .before .before .before .before .before .loop-test .taken) (omega arith) (omega arith) (omega arith) (omega arith) b (c .before .before .before .before .before .before .before .before .before .byte .ensures .0) (c .before .before .before .before .before .before .before .byte3 .ensures .0) (c .before .before .before .before .before .before .before .before .byte2 .ensures .0) (gap-of (c .before .before .before .before .before .before .before .before .before .before .before .before .before .before .args .job .now) s (c .before .before .before .before .before .before .before .before .before .before .before .before .before .before .args .at) (c .before .before .before .before .before .before .before .before .before .before .before .before .before .before .args .n) (c .before .before .before .before .before .before .before .before .before .before .before .loop .here) (c .before .before .before .before .before .before .byte4 .result) (c .before .before .before .before .before .kind-gap .result) (c .before .before .before .before .before .before .before .before .before .before .before .before .before .before .pre .1 .1) (c .before .before .before .before .before .kind-gap .ensures) (c .before .before .before .before .before .before .byte4 .ensures .0)) (c .before .before .place-parts .ensures) (c .kind-size .ensures .0),
+        whole-entered (c .before .before .before .before .before .before .loop .table) _ _ _ _ _ _ _ whole (c .place-parts .ensures .0 .size ∙ whole .places),
+        built-more _ (c .before .before .before .before .before .before .before .before .before .args .list .now) (c .before .before .before .before .before .before .before .before .before .args .base) (c .before .before .before .before .before .before .before .before .before .args .kinds) _ (c .before .before .before .before .before .before .before .before .before .pre .1 .0) (c .before .before .before .before .before .before .loop .t) (c .before .before .before .before .before .before .loop .here) (c .before .before .before .before .before .before .loop .table) _ (c .before .before .before .before .read-head .result) _ _ (c .before .before .before .before .before .loop-test .taken) (sized (below-8 (c .before .before .before .before .before .loop-test .taken) (c .before .before .before .before .before .before .before .before .before .pre .0 .2)) whole) (c .before .before .before .before .before .before .loop .inv .1 .1) (c .before .before .before .before .read-head .ensures) gap (c .place-parts .ensures .0) (c .place-parts .ensures .1),
       ),
     )
 
 returns : tie.Need-returns Inv-loop μ-loop
-returns c = built-end (classesFrom (c .before .before .before .before .args .job .now) (c .before .before .before .before .args .at) (c .before .before .before .before .args .n)) (c .before .before .before .before .args .list .now) (c .before .before .before .before .args .base) (c .before .before .before .before .args .kinds) _ (c .before .before .before .before .pre .1 .0) (c .before .loop .t) (c .before .loop .here) _ _ _ _ _ _ (omega arith) (c .before .loop .inv .1 .1)
+returns c = built-end _ (c .before .before .before .before .args .list .now) (c .before .before .before .before .args .base) (c .before .before .before .before .args .kinds) _ (c .before .before .before .before .pre .1 .0) (c .before .loop .t) (c .before .loop .here) _ (omega arith) (c .before .loop .inv .1 .1)
 
 pub read-kinds-spec : {M : Type 1} → statement M
 read-kinds-spec =
@@ -145,36 +108,20 @@ read-kinds-spec =
     Inv-loop
     μ-loop
     loop-holds
-    byte-requires
-    add-byte
-    byte-requires-2
-    mul-demands
-    array-write-demands
-    add-byte-2
-    byte-requires-3
-    mul-rotations
-    array-write-rotations
-    add-byte-3
-    byte-requires-4
+    read-head-requires
+    mul-table
+    element-write-table
+    mul-table-2
+    element-write-table-2
     kind-gap-requires
-    mul-gaps
-    array-write-gaps
-    mul-parts
-    array-write-parts
+    mul-table-3
+    element-write-table-3
+    mul-table-4
+    element-write-table-4
+    add-table
     add-place-parts
-    sub-place-parts
-    part-place-parts-start
-    part-place-parts-end
-    add-place-parts-2
-    add-place-parts-3
     mul-place-parts
     place-parts-requires
-    add-pieces
-    sub-kind-size
-    part-kind-size-start
-    part-kind-size-end
-    kind-size-requires
-    add-here
     add-t
     loop-less
     loop-again

@@ -1,20 +1,21 @@
-use mathlib.Core.Path.{_≡_}
+use mathlib.Core.Path.{_≡_, _∙_}
 use Prim.Native.Nat.{_≤_, _-_}
 use native.Mathlib.Omega.{arith}
-use Rattle.records.specs.Classes.{allInRange}
-use Rattle.records.proofs.ClassLaws.{range-none, range-more}
+use Rattle.model.specs.Lists.{all, below}
+use Rattle.records.proofs.ClassLaws.{inRangeAt, range-all}
+use Rattle.records.proofs.Loops.{all-none, all-next, all-end}
 use borrow.Author.Needs.{needs}
 use Rattle.records.proofs.classes.all_in_range.Statement.{statement}
 use Rattle.records.proofs.classes.all_in_range.Tie as tie
 
 abbrev Inv-loop : tie.InvT-loop
-Inv-loop job at n ok₀ j₀ ok j = (j ≤ n) × (ok ≡ allInRange job at j)
+Inv-loop job at n ok₀ j₀ ok j = (j ≤ n) × (ok ≡ all (inRangeAt job at) (below j))
 
 abbrev μ-loop : tie.MeasureT-loop
 μ-loop job at n ok₀ j₀ ok j = n - j
 
 loop-holds : tie.Need-loop-holds Inv-loop μ-loop
-loop-holds c = (omega arith, range-none _ _)
+loop-holds c = (omega arith, all-none _)
 
 mul-in-range : tie.Need-mul-in-range Inv-loop μ-loop
 mul-in-range c = search needs
@@ -32,10 +33,10 @@ loop-less : tie.Need-loop-less Inv-loop μ-loop
 loop-less c = search needs
 
 loop-again : tie.Need-loop-again Inv-loop μ-loop
-loop-again c = (omega arith, cc (range-more (c .before .before .before .before .args .job .now) (c .before .before .before .before .args .at) (c .before .before .loop .j)))
+loop-again c = (omega arith, all-next (inRangeAt (c .before .before .before .before .args .job .now) (c .before .before .before .before .args .at)) (c .before .before .loop .j) _ _ (c .before .before .loop .inv .1) (c .in-range .ensures))
 
 returns : tie.Need-returns Inv-loop μ-loop
-returns c = let e : c .before .loop .j ≡ c .before .before .before .args .n = omega arith in cc
+returns c = all-end (inRangeAt (c .before .before .before .args .job .now) (c .before .before .before .args .at)) (c .before .loop .j) (c .before .before .before .args .n) _ (omega arith) (c .before .loop .inv .1) ∙ range-all (c .before .before .before .args .job .now) (c .before .before .before .args .at) (c .before .before .before .args .n)
 
 pub all-in-range-spec : {M : Type 1} → statement M
 all-in-range-spec =

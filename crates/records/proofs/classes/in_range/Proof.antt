@@ -1,3 +1,6 @@
+use mathlib.Core.Bool.{_&&_}
+use mathlib.Core.Path.{ap, ap₂}
+use lib.Dec.{leb}
 use Rattle.model.specs.Format.{classInRange}
 use borrow.Author.Needs.{needs}
 use Rattle.records.proofs.classes.in_range.Statement.{statement}
@@ -20,7 +23,8 @@ byte-requires-3 c κs = search needs
 
 returns : tie.Need-returns
 unfolding classInRange
-returns c = cc
+returns c =
+    ap₂ _&&_ (ap₂ _&&_ (ap (λ n. leb n 7) (c .before .before .byte .ensures .0)) (ap (λ n. leb n 255) (c .before .byte2 .ensures .0))) (ap (λ n. leb n 63) (c .byte3 .ensures .0))
 
 pub in-range-spec : {M : Type 1} → statement M
 in-range-spec =

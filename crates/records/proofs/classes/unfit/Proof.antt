@@ -1,3 +1,6 @@
+use mathlib.Core.Bool.{not, _||_}
+use mathlib.Core.Path.{ap, ap₂}
+use lib.Dec.{ltb}
 use Rattle.records.specs.Classes.{classesUnfit}
 use borrow.Author.Needs.{needs}
 use Rattle.records.proofs.classes.unfit.Statement.{statement}
@@ -17,7 +20,8 @@ distinct-requires-2 c κs = search needs
 
 returns : tie.Need-returns
 unfolding classesUnfit
-returns c = cc
+returns c =
+    ap₂ _||_ (ap₂ _||_ (ap (λ b. ltb 8 (c .before .before .before .before .args .n) || not b) (c .before .before .all-in-range .ensures)) (ap not (c .before .distinct .ensures))) (ap not (c .distinct2 .ensures))
 
 pub unfit-spec : {M : Type 1} → statement M
 unfit-spec =

@@ -1,10 +1,13 @@
-use mathlib.Core.Path.{_≡_}
+use mathlib.Core.Bool.{not, _||_}
+use mathlib.Core.Path.{_≡_, sym, ap, ap₂, _∙_}
 use Prim.Native.Nat.{_≤_, _-_}
 use native.Mathlib.Omega.{arith}
+use lib.Dec.{ltb}
 use Rattle.model.specs.Lists.{all, below}
 use Rattle.records.specs.Classes.{classesFrom}
 use Rattle.records.specs.Kinds.{notAbsent, absentNone}
-use Rattle.records.proofs.KindLaws.{absent-none, absent-more, present-found}
+use Rattle.records.proofs.KindLaws.{present-found}
+use Rattle.records.proofs.Loops.{all-none, all-next, all-end}
 use borrow.Author.Needs.{needs}
 use Rattle.records.proofs.kinds.none_absent.Statement.{statement}
 use Rattle.records.proofs.kinds.none_absent.Tie as tie
@@ -16,7 +19,7 @@ abbrev μ-loop : tie.MeasureT-loop
 μ-loop job at n mask ok₀ id₀ ok id = 8 - id
 
 loop-holds : tie.Need-loop-holds Inv-loop μ-loop
-loop-holds c = (omega arith, absent-none _ _)
+loop-holds c = (omega arith, all-none _)
 
 names-requires : tie.Need-names-requires Inv-loop μ-loop
 names-requires c κs = search needs
@@ -31,14 +34,18 @@ loop-less : tie.Need-loop-less Inv-loop μ-loop
 loop-less c = search needs
 
 loop-again : tie.Need-loop-again Inv-loop μ-loop
+unfolding notAbsent
 loop-again c =
     let s = c .before .before .before .before .before .args .job .now in
-    let cs = classesFrom s (c .before .before .before .before .before .args .at) (c .before .before .before .before .before .args .n) in
-    (omega arith, cc (absent-more cs (c .before .before .before .before .before .args .mask) (c .before .before .before .loop .id), present-found s (c .before .before .before .before .before .args .at) (c .before .before .before .loop .id) (c .before .before .before .before .before .args .n)))
+    let found = ap (λ j. ltb j (c .before .before .before .before .before .args .n)) (c .find .ensures .0) ∙ sym (present-found s (c .before .before .before .before .before .args .at) (c .before .before .before .loop .id) (c .before .before .before .before .before .args .n)) in (
+      omega arith,
+      all-next (notAbsent (classesFrom s (c .before .before .before .before .before .args .at) (c .before .before .before .before .before .args .n)) (c .before .before .before .before .before .args .mask)) (c .before .before .before .loop .id) _ _ (c .before .before .before .loop .inv .1)
+          (ap₂ (λ a b. not a || b) (c .before .names .ensures) found),
+    )
 
 returns : tie.Need-returns Inv-loop μ-loop
 unfolding absentNone
-returns c = let e : c .before .loop .id ≡ 8 = omega arith in cc
+returns c = all-end (notAbsent (classesFrom (c .before .before .before .args .job .now) (c .before .before .before .args .at) (c .before .before .before .args .n)) (c .before .before .before .args .mask)) (c .before .loop .id) 8 _ (omega arith) (c .before .loop .inv .1)
 
 pub none-absent-spec : {M : Type 1} → statement M
 none-absent-spec =

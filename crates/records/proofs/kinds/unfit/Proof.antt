@@ -62,7 +62,7 @@ loop-less c = search needs
 loop-again : tie.Need-loop-again Inv-loop μ-loop
 loop-again c = (
   omega (arith, tail-length (c .before .before .before .before .before .before .before .before .before .before .args .list .now) (c .before .before .before .before .before .before .before .loop .here)),
-  rw (c .none-absent .ensures) (seen-more _ _ (c .before .before .before .before .before .before .before .loop .t) (c .before .before .before .before .before .before .before .loop .here) (c .before .before .before .before .before .before .before .loop .demand) _ _ _ (c .before .before .before .before .before .before .before .loop .present) (c .before .before .before .before .before .before .before .loop .inv .1) (c .before .before .before .before .kind-size .ensures .0) (c .before .before .before .if1 .left) (c .before .before .byte .ensures .0) (c .before .byte2 .ensures .0)),
+  seen-more _ _ (c .before .before .before .before .before .before .before .loop .t) (c .before .before .before .before .before .before .before .loop .here) (c .before .before .before .before .before .before .before .loop .demand) _ _ _ (c .before .before .before .before .before .before .before .loop .present) _ (c .before .before .before .before .before .before .before .loop .inv .1) (c .before .before .before .before .kind-size .ensures .0) (c .before .before .before .if1 .left) (c .before .before .byte .ensures .0) (c .before .byte2 .ensures .0) (c .none-absent .ensures),
 )
 
 returns-2 : tie.Need-returns-2 Inv-loop μ-loop

@@ -1,11 +1,10 @@
 use mathlib.Core.Bool.{_||_}
-use mathlib.Core.Path.{_≡_}
+use mathlib.Core.Path.{_≡_, ap₂}
 use Prim.Native.Nat.{_≤_, _-_}
 use native.Mathlib.Omega.{arith}
-use lib.Dec.{eqb}
 use Rattle.model.specs.Lists.{all, below}
 use Rattle.records.specs.Parts.{cornerSound, edgeSoundFrom}
-use Rattle.records.proofs.PartLaws.{all-none, corner-more}
+use Rattle.records.proofs.Loops.{all-none, all-next, all-end}
 use borrow.Author.Needs.{needs}
 use Rattle.records.proofs.parts.edge_sound.Statement.{statement}
 use Rattle.records.proofs.parts.edge_sound.Tie as tie
@@ -32,15 +31,12 @@ loop-less : tie.Need-loop-less Inv-loop μ-loop
 loop-less c = search needs
 
 loop-again : tie.Need-loop-again Inv-loop μ-loop
-loop-again c =
-    let start = c .before .before .before .before .before in
-    let k = c .before .before .before .loop .k in
-    let spared : c .before .spared .result ≡ (eqb k (start .args .p) || eqb k (start .args .q)) = c .before .spared .ensures in
-    (omega arith, cc (spared, corner-more (start .args .part .now) (start .args .p) (start .args .q) k))
+unfolding cornerSound
+loop-again c = (omega arith, all-next (cornerSound (c .before .before .before .before .before .args .part .now) (c .before .before .before .before .before .args .p) (c .before .before .before .before .before .args .q)) (c .before .before .before .loop .k) _ _ (c .before .before .before .loop .inv .1) (ap₂ _||_ (c .before .spared .ensures) (c .strictly-left .ensures)))
 
 returns : tie.Need-returns Inv-loop μ-loop
 unfolding edgeSoundFrom
-returns c = let e : c .before .loop .k ≡ c .before .before .before .args .n = omega arith in cc
+returns c = all-end (cornerSound (c .before .before .before .args .part .now) (c .before .before .before .args .p) (c .before .before .before .args .q)) (c .before .loop .k) (c .before .before .before .args .n) _ (omega arith) (c .before .loop .inv .1)
 
 pub edge-sound-spec : {M : Type 1} → statement M
 edge-sound-spec =

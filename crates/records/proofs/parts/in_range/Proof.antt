@@ -1,36 +1,27 @@
-use mathlib.Core.Path.{_≡_}
+use mathlib.Core.Bool.{_&&_}
+use mathlib.Core.Path.{_≡_, ap₂, _∙_}
 use Prim.Native.Nat.{_≤_, _-_}
 use native.Mathlib.Omega.{arith}
 use Rattle.model.specs.Format.{vertexInRange}
-use Rattle.records.specs.Parts.{inRangeFrom}
-use Rattle.records.proofs.PartLaws.{range-none, range-more}
+use Rattle.model.specs.Lists.{all, below}
+use Rattle.records.specs.Parts.{vertexFrom}
+use Rattle.records.proofs.PartLaws.{range-all}
+use Rattle.records.proofs.Loops.{all-none, all-next, all-end}
 use borrow.Author.Needs.{needs}
 use Rattle.records.proofs.parts.in_range.Statement.{statement}
 use Rattle.records.proofs.parts.in_range.Tie as tie
 
 abbrev Inv-loop : tie.InvT-loop
-Inv-loop part n ok₀ k₀ ok k = (k ≤ n) × (ok ≡ inRangeFrom part k)
+Inv-loop part n ok₀ k₀ ok k = (k ≤ n) × (ok ≡ all (λ i. vertexInRange (vertexFrom part i)) (below k))
 
 abbrev μ-loop : tie.MeasureT-loop
 μ-loop part n ok₀ k₀ ok k = n - k
 
 loop-holds : tie.Need-loop-holds Inv-loop μ-loop
-loop-holds c = (omega arith, range-none _)
-
-mul-above-least : tie.Need-mul-above-least Inv-loop μ-loop
-mul-above-least c = search needs
-
-add-above-least : tie.Need-add-above-least Inv-loop μ-loop
-add-above-least c = search needs
+loop-holds c = (omega arith, all-none _)
 
 above-least-requires : tie.Need-above-least-requires Inv-loop μ-loop
 above-least-requires c κs = search needs
-
-mul-above-least-2 : tie.Need-mul-above-least-2 Inv-loop μ-loop
-mul-above-least-2 c = search needs
-
-add-above-least-2 : tie.Need-add-above-least-2 Inv-loop μ-loop
-add-above-least-2 c = search needs
 
 above-least-requires-2 : tie.Need-above-least-requires-2 Inv-loop μ-loop
 above-least-requires-2 c κs = search needs
@@ -43,10 +34,10 @@ loop-less c = search needs
 
 loop-again : tie.Need-loop-again Inv-loop μ-loop
 unfolding vertexInRange
-loop-again c = (omega arith, cc (range-more (c .before .before .before .before .before .args .part .now) (c .before .before .before .loop .k)))
+loop-again c = (omega arith, all-next (λ k. vertexInRange (vertexFrom (c .before .before .before .before .before .args .part .now) k)) (c .before .before .before .loop .k) _ _ (c .before .before .before .loop .inv .1) (ap₂ _&&_ (c .before .above-least .ensures) (c .above-least2 .ensures)))
 
 returns : tie.Need-returns Inv-loop μ-loop
-returns c = let e : c .before .loop .k ≡ c .before .before .before .args .n = omega arith in cc
+returns c = all-end (λ k. vertexInRange (vertexFrom (c .before .before .before .args .part .now) k)) (c .before .loop .k) (c .before .before .before .args .n) _ (omega arith) (c .before .loop .inv .1) ∙ range-all (c .before .before .before .args .part .now) (c .before .before .before .args .n)
 
 pub in-range-spec : {M : Type 1} → statement M
 in-range-spec =
@@ -55,11 +46,7 @@ in-range-spec =
     Inv-loop
     μ-loop
     loop-holds
-    mul-above-least
-    add-above-least
     above-least-requires
-    mul-above-least-2
-    add-above-least-2
     above-least-requires-2
     add-k
     loop-less

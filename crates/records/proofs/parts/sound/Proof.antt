@@ -1,9 +1,9 @@
-use mathlib.Core.Path.{_≡_}
+use mathlib.Core.Path.{_≡_, ap, _∙_}
 use Prim.Native.Nat.{_≤_, _-_}
 use native.Mathlib.Omega.{arith}
 use Rattle.model.specs.Lists.{all, below}
-use Rattle.records.specs.Parts.{edgeSoundAt, soundFrom}
-use Rattle.records.proofs.PartLaws.{all-none, edge-more}
+use Rattle.records.specs.Parts.{edgeSoundFrom, edgeSoundAt, soundFrom}
+use Rattle.records.proofs.Loops.{all-none, all-next, all-end}
 use borrow.Author.Needs.{needs}
 use Rattle.records.proofs.parts.sound.Statement.{statement}
 use Rattle.records.proofs.parts.sound.Tie as tie
@@ -30,11 +30,16 @@ loop-less : tie.Need-loop-less Inv-loop μ-loop
 loop-less c = search needs
 
 loop-again : tie.Need-loop-again Inv-loop μ-loop
-loop-again c = (omega arith, cc (edge-more (c .before .before .before .before .before .args .part .now) (c .before .before .before .before .before .args .n) (c .before .before .before .loop .i)))
+unfolding edgeSoundAt
+loop-again c = (
+  omega arith,
+  all-next (edgeSoundAt (c .before .before .before .before .before .args .part .now) (c .before .before .before .before .before .args .n)) (c .before .before .before .loop .i) _ _ (c .before .before .before .loop .inv .1)
+      (c .edge-sound .ensures ∙ ap (edgeSoundFrom (c .before .before .before .before .before .args .part .now) (c .before .before .before .before .before .args .n) (c .before .before .before .loop .i)) (c .before .next .ensures .0)),
+)
 
 returns : tie.Need-returns Inv-loop μ-loop
 unfolding soundFrom
-returns c = let e : c .before .loop .i ≡ c .before .before .before .args .n = omega arith in cc
+returns c = all-end (edgeSoundAt (c .before .before .before .args .part .now) (c .before .before .before .args .n)) (c .before .loop .i) (c .before .before .before .args .n) _ (omega arith) (c .before .loop .inv .1)
 
 pub sound-spec : {M : Type 1} → statement M
 sound-spec =

@@ -1,3 +1,5 @@
+use mathlib.Core.Bool.{not, _||_}
+use mathlib.Core.Path.{ap₂}
 use Rattle.records.specs.Parts.{unfitFrom}
 use borrow.Author.Needs.{needs}
 use Rattle.records.proofs.parts.unfit.Statement.{statement}
@@ -11,7 +13,7 @@ in-range-requires c κs = search needs
 
 returns : tie.Need-returns
 unfolding unfitFrom
-returns c = cc
+returns c = ap₂ (λ a b. not a || not b) (c .before .sound .ensures) (c .in-range .ensures)
 
 pub unfit-spec : {M : Type 1} → statement M
 unfit-spec = tie.close (tie.spec sound-requires in-range-requires returns)

@@ -1,8 +1,5 @@
-use mathlib.Core.Bool.{Bool, true, false, _&&_}
-use mathlib.Core.Path.{_≡_, refl, sym, ap}
-use borrow.Author.Tests.{lt-leb, le-leb}
-use lib.Dec.{leb}
-use Rattle.model.specs.Format.{headInRange}
+use mathlib.Core.Bool.{_&&_}
+use mathlib.Core.Path.{sym, ap, ap₂, _∙_}
 use Rattle.model.specs.Lists.{between}
 use Rattle.records.proofs.RecordLaws.{head-short, head-long}
 use borrow.Author.Needs.{needs}
@@ -31,7 +28,11 @@ in-range-requires-3 : tie.Need-in-range-requires-3
 in-range-requires-3 c κs = search needs
 
 returns-2 : tie.Need-returns-2
-returns-2 c = cc (head-long (c .before .before .before .before .before .before .before .before .args .kind .now) (c .before .before .before .before .before .before .if1 .left))
+returns-2 c =
+    ap₂ _&&_
+    (ap₂ _&&_ (c .before .before .before .before .in-range .ensures ∙ ap (between 1 12) (c .before .before .before .before .before .byte .ensures .0)) (c .before .before .in-range2 .ensures ∙ ap (between 1 15) (c .before .before .before .byte2 .ensures .0)))
+    (c .in-range3 .ensures ∙ ap (between 1 6) (c .before .byte3 .ensures .0))
+    ∙ sym (head-long (c .before .before .before .before .before .before .before .before .args .kind .now) (c .before .before .before .before .before .before .if1 .left))
 
 pub head-in-range-spec : {M : Type 1} → statement M
 head-in-range-spec =

@@ -1,13 +1,7 @@
-use mathlib.Core.Bool.{true}
-use mathlib.Core.Path.{_≡_, sym, ap, _∙_}
-use Prim.Native.Nat.{_*_}
+use mathlib.Core.Path.{sym, _∙_}
 use native.Mathlib.Omega.{arith}
 use borrow.Author.Tests.{not-true, not-false}
-use lib.ListN.{length, take, drop}
-use Prim.Native.Nat.{_-_}
-use Rattle.model.specs.Format.{headInRange, many, readPart, byteAt}
-use Rattle.records.specs.Records.{sizeOf}
-use Rattle.records.proofs.RecordLaws.{HeadFits, head-fits, kind-headless, kind-taken, kind-refused, tail-length}
+use Rattle.records.proofs.RecordLaws.{head-fits, kind-headless, kind-taken, kind-refused, tail-length}
 use borrow.Author.Needs.{needs}
 use Rattle.records.proofs.sizes.kind_size.Statement.{statement}
 use Rattle.records.proofs.sizes.kind_size.Tie as tie
@@ -35,20 +29,16 @@ parts-size-requires c κs = omega (arith, head-fits (c .before .before .before .
 
 returns-2 : tie.Need-returns-2
 returns-2 c =
-    let s = c .before .before .before .before .before .before .before .args .kind .now in
-    let h : headInRange s ≡ true = sym (c .before .before .before .before .before .head-in-range .ensures) ∙ not-false _ (c .before .before .before .before .if1 .left) in
-    let e : c .before .parts-size .result ≡ sizeOf (many readPart (byteAt s 3) (take (length s - 4) (drop 4 s))) = cc in
-    (kind-refused s _ h e (c .if2 .taken), omega arith)
+    let h = sym (c .before .before .before .before .before .head-in-range .ensures) ∙ not-false _ (c .before .before .before .before .if1 .left) in
+    (kind-refused (c .before .before .before .before .before .before .before .args .kind .now) _ _ h (c .before .before .byte .ensures .0) (c .before .parts-size .ensures .0) (c .if2 .taken), omega arith)
 
 add-result : tie.Need-add-result
 add-result c = search needs
 
 returns-3 : tie.Need-returns-3
 returns-3 c =
-    let s = c .before .before .before .before .before .before .before .args .kind .now in
-    let h : headInRange s ≡ true = sym (c .before .before .before .before .before .head-in-range .ensures) ∙ not-false _ (c .before .before .before .before .if1 .left) in
-    let e : c .before .parts-size .result ≡ sizeOf (many readPart (byteAt s 3) (take (length s - 4) (drop 4 s))) = cc in
-    (kind-taken s _ h e (c .if2 .left), omega (arith, tail-length s 4, head-fits s h))
+    let h = sym (c .before .before .before .before .before .head-in-range .ensures) ∙ not-false _ (c .before .before .before .before .if1 .left) in
+    (kind-taken (c .before .before .before .before .before .before .before .args .kind .now) _ _ h (c .before .before .byte .ensures .0) (c .before .parts-size .ensures .0) (c .if2 .left), omega (arith, tail-length (c .before .before .before .before .before .before .before .args .kind .now) 4, head-fits (c .before .before .before .before .before .before .before .args .kind .now) h))
 
 pub kind-size-spec : {M : Type 1} → statement M
 kind-size-spec =

@@ -1,12 +1,8 @@
-use mathlib.Core.Bool.{true, false, _&&_}
-use mathlib.Core.Path.{_≡_, sym}
-use Prim.Native.Nat.{_+_, _*_, _≤_}
+use mathlib.Core.Path.{sym}
 use native.Mathlib.Omega.{arith}
-use lib.Dec.{leb}
-use lib.ListN.{length}
-use Rattle.model.specs.Format.{byteAt}
-use Rattle.model.specs.Lists.{between}
-use Rattle.records.proofs.RecordLaws.{no-part, part-taken, part-refused}
+use borrow.Author.Tests.{leb-true}
+use Rattle.model.proofs.Lists.{and-right}
+use Rattle.records.proofs.RecordLaws.{no-part, part-sized}
 use borrow.Author.Needs.{needs}
 use Rattle.records.proofs.sizes.part_size.Statement.{statement}
 use Rattle.records.proofs.sizes.part_size.Tie as tie
@@ -23,25 +19,14 @@ mul-size c = search needs
 add-size : tie.Need-add-size
 add-size c = search needs
 
-byte-requires-2 : tie.Need-byte-requires-2
-byte-requires-2 c κs = search needs
-
 in-range-requires : tie.Need-in-range-requires
 in-range-requires c κs = search needs
 
 returns-2 : tie.Need-returns-2
-returns-2 c =
-    let s = c .before .before .before .before .before .before .args .part .now in
-    let t : (between 3 8 (byteAt s 0) && leb (1 + byteAt s 0 * 2) (length s)) ≡ true = cc in
-    let p = part-taken s t in
-    let e : c .before .before .before .byte .result ≡ byteAt s 0 = c .before .before .before .byte .ensures .0 in
-    (cc, omega arith)
+returns-2 c = (part-sized (c .before .before .before .before .before .args .part .now) _ _ _ (c .before .before .byte .ensures .0) (c .before .in-range .ensures) (c .if2 .taken), leb-true _ _ (and-right (c .before .in-range .result) _ (c .if2 .taken)))
 
 returns-3 : tie.Need-returns-3
-returns-3 c =
-    let s = c .before .before .before .before .before .before .args .part .now in
-    let t : (between 3 8 (byteAt s 0) && leb (1 + byteAt s 0 * 2) (length s)) ≡ false = cc in
-    (part-refused s t, omega arith)
+returns-3 c = (part-sized (c .before .before .before .before .before .args .part .now) _ _ _ (c .before .before .byte .ensures .0) (c .before .in-range .ensures) (c .if2 .left), omega arith)
 
 pub part-size-spec : {M : Type 1} → statement M
 part-size-spec =
@@ -51,7 +36,6 @@ part-size-spec =
     byte-requires
     mul-size
     add-size
-    byte-requires-2
     in-range-requires
     returns-2
     returns-3)
