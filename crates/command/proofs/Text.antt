@@ -1,18 +1,18 @@
 -- What is rendered of a run is what document 01 has the program print of it; and the buffers here are long enough for every job.
 use mathlib.Core.Bool.{Bool, true, false}
-use mathlib.Core.List.{List}
+use mathlib.Core.List.{List, _++_}
 use mathlib.Core.Path.{_≡_, refl, sym, ap, _∙_}
 use Prim.Native.Nat.{ℕ, _≤_}
 use native.Mathlib.Omega.{arith}
 use borrow.Author.Tests.{eqb-true}
 use lib.Dec.{eqb}
-use lib.ListN.{length}
+use lib.ListN.{length, drop}
 use Rattle.words.specs.Number.{count}
-use Rattle.model.specs.Content.{pieceCount}
 use Rattle.model.specs.Format.{refusal, content}
 use Rattle.model.specs.Demand3.{Fit}
 use Rattle.model.specs.Output.{layoutLines, printed, program}
 use Rattle.model.specs.Services.{numbersIn, wordsIn, run}
+use Rattle.model.specs.declared.RunAnswer.{RunAnswer}
 use Rattle.model.proofs.AcceptedKinds.{pieces-most}
 use Rattle.model.proofs.Program.{program-prints, program-refuses}
 use Rattle.search.proofs.Running.{few-work}
@@ -20,7 +20,7 @@ use Rattle.report.specs.Text.{rendered}
 use Rattle.report.proofs.Whole.{rendered-printed}
 use Rattle.command.specs.Shown.{Shown}
 
-pub text-is : (s : List ℕ) (n budget : ℕ) (work out : List ℕ) → Shown s n
+text-is : (s : List ℕ) (n budget : ℕ) (work out : List ℕ) → Shown s n
     → rendered (run s budget work out .answer) (run s budget work out .out) n ≡ printed (content s) (run s budget work out)
 unfolding run rendered printed layoutLines
 text-is s n budget work out shown = go (eqb (refusal s) 0) refl
@@ -29,6 +29,21 @@ text-is s n budget work out shown = go (eqb (refusal s) 0) refl
         → rendered (run s budget work out .answer) (run s budget work out .out) n ≡ printed (content s) (run s budget work out)
     go true e = rw (shown .exact (eqb-true (refusal s) 0 e)) (rendered-printed (content s) (run s budget work out))
     go false e = rw (e, run)
+
+-- The same of the answer and the answer numbers that the run left.
+pub text-told : (s : List ℕ) (n budget : ℕ) (work out left : List ℕ) (a : RunAnswer) → Shown s n
+    → a ≡ run s budget work out .answer → left ≡ run s budget work out .out
+    → rendered a left n ≡ printed (content s) (run s budget work out)
+text-told s n budget work out left a shown told kept =
+    ap (λ (b : RunAnswer). rendered b left n) told
+    ∙ ap (λ (l : List ℕ). rendered (run s budget work out .answer) l n) kept
+    ∙ text-is s n budget work out shown
+
+-- A text at the front of a buffer, by another name.
+pub text-as : (t u before after : List ℕ) (r : ℕ) → t ≡ u → r ≡ length t → after ≡ t ++ drop (length t) before
+    → (r ≡ length u) × (after ≡ u ++ drop r before)
+text-as t u before after r e long put =
+    (long ∙ ap length e, put ∙ ap (λ (k : ℕ). t ++ drop k before) (sym long) ∙ ap (λ (x : List ℕ). x ++ drop r before) e)
 
 -- 6144 work words and 48 answer numbers are enough for every accepted job.
 buffers-fit : (s work out : List ℕ) → 49152 ≤ length work → 96 ≤ length out → refusal s ≡ 0 → Fit s work out

@@ -5,7 +5,7 @@ use Prim.Native.Nat.{ℕ, _≤_}
 use Rattle.model.specs.Content.{pieceCount}
 use Rattle.model.specs.Format.{refusal, content}
 
--- At most 12, and as many as an accepted job has pieces.
+-- As many as an accepted job has pieces, and at most 12.
 pub record Shown (s : List ℕ) (n : ℕ) : Type 0 where
-  pub few : n ≤ 12
   pub exact : refusal s ≡ 0 → n ≡ pieceCount (content s)
+  pub few : n ≤ 12

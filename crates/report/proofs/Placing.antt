@@ -5,19 +5,14 @@ use Prim.Native.Nat.{ℕ, _+_, _<_, _≤_}
 use native.Mathlib.Nat.{add-assoc, zero-add}
 use native.Mathlib.Numerals.{add-one}
 use native.Mathlib.Omega.{arith}
-use lib.ListN.{length, take, drop, set, length-append, length-drop}
-use lib.Seq.{length-take-le, take-at, drop-at, drop-drop, set-split, append-snoc, take-length, paste, paste-zero}
+use lib.ListN.{length, take, drop, set, length-append}
+use lib.Seq.{length-take-le, take-at, drop-at, drop-drop, set-split, append-snoc, paste-zero}
 use Rattle.report.specs.Placed.{placedAt, Placed}
 
 module _ (at : ℕ) (text s : List ℕ) (within : at ≤ length s) where
   -- The bytes up to the text's end.
   front-length : length (take at s ++ text) ≡ at + length text
   front-length = rw (length-append, length-take-le at s within)
-
-  -- A buffer stays as long as it is.
-  pub length-placed : at + length text ≤ length s → length (placedAt at text s) ≡ length s
-  unfolding placedAt
-  length-placed fits = rw (length-append (take at s ++ text), front-length, length-drop) (omega arith)
 
   -- A text put behind another is put with it.
   pub placed-append : (more : List ℕ) → placedAt (at + length text) more (placedAt at text s) ≡ placedAt at (text ++ more) s
@@ -41,14 +36,13 @@ pub placed-nothing : (at : ℕ) (s : List ℕ) → Placed at [] s s at
 placed-nothing at s = record { buffer = sym (placed-none at s); end = omega arith }
 
 -- One byte is one store.
-pub placed-byte : (at b : ℕ) (s : List ℕ) → at < length s → set s at b ≡ placedAt at (b ∷ []) s
+placed-byte : (at b : ℕ) (s : List ℕ) → at < length s → set s at b ≡ placedAt at (b ∷ []) s
 unfolding placedAt
 placed-byte at b s h = set-split s at b h ∙ rw (append-snoc, add-one)
 
--- A whole word is copied once all its bytes are.
-pub placed-whole : (at : ℕ) (word s : List ℕ) → paste s at word (length word) ≡ placedAt at word s
-unfolding placedAt
-placed-whole at word s = rw take-length
+-- A text's first byte is stored, and then the others are put behind it.
+pub placed-first : (at b : ℕ) (text s : List ℕ) → at < length s → placedAt (at + 1) text (set s at b) ≡ placedAt at (b ∷ text) s
+placed-first at b text s h = ap (placedAt (at + 1) text) (placed-byte at b s h) ∙ placed-append at (b ∷ []) s (omega arith) text
 
 -- What was put, and what was then put behind it.
 pub placed-then : {at m r : ℕ} {t u s s′ s″ : List ℕ} → at ≤ length s → Placed at t s s′ m → Placed m u s′ s″ r → Placed at (t ++ u) s s″ r
@@ -69,17 +63,6 @@ placed-as {at} {r} {t} {u} {s} {s′} e p =
       buffer = p .buffer ∙ ap (λ (x : List ℕ). placedAt at x s) e;
       end = p .end ∙ ap (λ (x : List ℕ). at + length x) e;
     }
-
--- Where two texts fit, the first fits, and when it stands the second fits behind it.
-pub room-first : (at n : ℕ) (t u : List ℕ) → at + length (t ++ u) ≤ n → at + length t ≤ n
-room-first at n t u fits = let both = rw (length-append t u) at fits in omega arith
-
-pub room : {at m : ℕ} {t s s′ : List ℕ} (u : List ℕ) → at + length (t ++ u) ≤ length s → Placed at t s s′ m → m + length u ≤ length s′
-room {at} {m} {t} {s} {s′} u fits p =
-    let both : at + (length t + length u) ≤ length s = rw (length-append t u) at fits in
-    let same : length s′ ≡ length s = ap length (p .buffer) ∙ length-placed at t s (omega arith) (omega arith) in
-    let end : m ≡ at + length t = p .end in
-    omega arith
 
 -- A text at the front of a buffer.
 pub placed-front : {r : ℕ} {t s s′ : List ℕ} → Placed 0 t s s′ r → (r ≡ length t) × (s′ ≡ t ++ drop (length t) s)

@@ -1,80 +1,93 @@
-// The first line of what is printed of a run, by the case of its answer. Each word stands with the space behind it.
-ghost use mathlib.Core.List.{[], _∷_, _++_};
-ghost use Prim.Native.Nat.{_+_, _≤_};
-ghost use lib.ListN.{length};
-ghost use Rattle.model.specs.Output.{
-  decimal,
-  line,
-  shortestWord,
-  stoppedWord,
-  noneWord,
-  refusedWord,
-  heldWord,
-  firstLine,
-};
-ghost use Rattle.report.specs.Placed.{Placed};
-use crate::text;
+// The first line of what is printed of a run: its word, the length, and the number that ends it.
+ghost use mathlib.Core.Path.{_≡_};
+ghost use Rattle.report.specs.Text.{textOf, wordOf, lengthOf, lastOf, shownCount};
+use crate::text::Token;
+use crate::text::number;
 use model::Held;
 use model::RunAnswer;
 
-// `shortest`, length, steps.
-fn put_shortest(dst: &mut [u8], at: usize, len: u16, steps: u32) -> usize
-    requires { ⌜ at + length (line (shortestWord ∷ decimal len ∷ decimal steps ∷ [])) ≤ length (now dst) ⌝ }
-    ensures { λ r. ⌜ Placed at (line (shortestWord ∷ decimal len ∷ decimal steps ∷ [])) (now (dst .entry)) (now (dst .exit)) r ⌝ }
-{
-    let word = text::put_word(dst, at, b"shortest ");
-    let number = text::put_number(dst, word, len as u32, b' ');
-    text::put_number(dst, number, steps, b'\n')
-}
+// The words, each with the space behind it.
+const SHORTEST: Token = Token {
+    bytes: *b"  shortest ",
+    from: 2,
+};
 
-// The length of what is held, or `-` where nothing is.
-fn put_held(dst: &mut [u8], at: usize, held: Held) -> usize
-    requires { ⌜ at + length (heldWord held ++ 32 ∷ []) ≤ length (now dst) ⌝ }
-    ensures { λ r. ⌜ Placed at (heldWord held ++ 32 ∷ []) (now (dst .entry)) (now (dst .exit)) r ⌝ }
+const STOPPED: Token = Token {
+    bytes: *b"   stopped ",
+    from: 3,
+};
+
+const NONE: Token = Token {
+    bytes: *b"      none ",
+    from: 6,
+};
+
+const REFUSED: Token = Token {
+    bytes: *b"   refused ",
+    from: 3,
+};
+
+// In place of a length: `-` where nothing is held, and nothing where a line has no length.
+const DASH: Token = Token {
+    bytes: *b"         - ",
+    from: 9,
+};
+
+const EMPTY: Token = Token {
+    bytes: *b"           ",
+    from: 11,
+};
+
+// `shortest`, `stopped`, `none` or `refused`.
+pub fn word_of(answer: RunAnswer) -> Token
+    ensures { λ r. ⌜ textOf r ≡ wordOf answer ⌝ }
 {
-    match held {
-        Held::Layout(len) => text::put_number(dst, at, len as u32, b' '),
-        Held::Nothing => text::put_word(dst, at, b"- "),
+    match answer {
+        RunAnswer::Refused(_) => REFUSED,
+        RunAnswer::Shortest(_, _) => SHORTEST,
+        RunAnswer::Stopped(_, _) => STOPPED,
+        RunAnswer::Infeasible(_) => NONE,
     }
 }
 
-// `stopped`, length or `-`, steps.
-fn put_stopped(dst: &mut [u8], at: usize, held: Held, steps: u32) -> usize
-    requires { ⌜ at + length (line (stoppedWord ∷ heldWord held ∷ decimal steps ∷ [])) ≤ length (now dst) ⌝ }
-    ensures { λ r. ⌜ Placed at (line (stoppedWord ∷ heldWord held ∷ decimal steps ∷ [])) (now (dst .entry)) (now (dst .exit)) r ⌝ }
-{
-    let word = text::put_word(dst, at, b"stopped ");
-    let number = put_held(dst, word, held);
-    text::put_number(dst, number, steps, b'\n')
-}
-
-// `none`, steps.
-fn put_none(dst: &mut [u8], at: usize, steps: u32) -> usize
-    requires { ⌜ at + length (line (noneWord ∷ decimal steps ∷ [])) ≤ length (now dst) ⌝ }
-    ensures { λ r. ⌜ Placed at (line (noneWord ∷ decimal steps ∷ [])) (now (dst .entry)) (now (dst .exit)) r ⌝ }
-{
-    let word = text::put_word(dst, at, b"none ");
-    text::put_number(dst, word, steps, b'\n')
-}
-
-// `refused`, number.
-fn put_refused(dst: &mut [u8], at: usize, number: u8) -> usize
-    requires { ⌜ at + length (line (refusedWord ∷ decimal number ∷ [])) ≤ length (now dst) ⌝ }
-    ensures { λ r. ⌜ Placed at (line (refusedWord ∷ decimal number ∷ [])) (now (dst .entry)) (now (dst .exit)) r ⌝ }
-{
-    let word = text::put_word(dst, at, b"refused ");
-    text::put_number(dst, word, number as u32, b'\n')
-}
-
-// The first line of an answer.
-pub fn put_first_line(dst: &mut [u8], at: usize, answer: RunAnswer) -> usize
-    requires { ⌜ at + length (firstLine answer) ≤ length (now dst) ⌝ }
-    ensures { λ r. ⌜ Placed at (firstLine answer) (now (dst .entry)) (now (dst .exit)) r ⌝ }
+// The length, or `-` where a stopped run holds nothing.
+pub fn length_of(answer: RunAnswer) -> Token
+    ensures { λ r. ⌜ textOf r ≡ lengthOf answer ⌝ }
 {
     match answer {
-        RunAnswer::Refused(n) => put_refused(dst, at, n),
-        RunAnswer::Shortest(len, steps) => put_shortest(dst, at, len, steps),
-        RunAnswer::Stopped(held, steps) => put_stopped(dst, at, held, steps),
-        RunAnswer::Infeasible(steps) => put_none(dst, at, steps),
+        RunAnswer::Refused(_) => EMPTY,
+        RunAnswer::Shortest(len, _) => number(len as u32, b' '),
+        RunAnswer::Stopped(held, _) => match held {
+            Held::Layout(len) => number(len as u32, b' '),
+            Held::Nothing => DASH,
+        },
+        RunAnswer::Infeasible(_) => EMPTY,
+    }
+}
+
+// The steps, or the number of a refusal.
+pub fn last_of(answer: RunAnswer) -> u32
+    ensures { λ r. ⌜ r ≡ lastOf answer ⌝ }
+{
+    match answer {
+        RunAnswer::Refused(n) => n as u32,
+        RunAnswer::Shortest(_, steps) => steps,
+        RunAnswer::Stopped(_, steps) => steps,
+        RunAnswer::Infeasible(steps) => steps,
+    }
+}
+
+// How many of the entries follow the first line: all where a layout is held, and none otherwise.
+pub fn shown_count(answer: RunAnswer, pieces: usize) -> usize
+    ensures { λ r. ⌜ r ≡ shownCount answer pieces ⌝ }
+{
+    match answer {
+        RunAnswer::Refused(_) => 0,
+        RunAnswer::Shortest(_, _) => pieces,
+        RunAnswer::Stopped(held, _) => match held {
+            Held::Layout(_) => pieces,
+            Held::Nothing => 0,
+        },
+        RunAnswer::Infeasible(_) => 0,
     }
 }

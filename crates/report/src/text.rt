@@ -1,58 +1,46 @@
-// Bytes, words and numbers put into a buffer at a place. Each function gives the place behind what it put.
+// Pieces of text, and how they are put into a buffer.
 ghost use mathlib.Core.Path.{_≡_};
-ghost use mathlib.Core.List.{[], _∷_};
-ghost use Prim.Native.Nat.{_+_, _%_, _<_, _≤_};
+ghost use Prim.Native.Nat.{_+_, _≤_};
 ghost use lib.ListN.{length};
-ghost use Rattle.model.specs.Output.{decimal};
 ghost use Rattle.report.specs.Placed.{Placed};
-ghost use Rattle.report.specs.Text.{numberThen};
+ghost use Rattle.report.specs.Text.{numberThen, textOf};
 
-// One byte.
-pub fn put_byte(dst: &mut [u8], at: usize, b: u8) -> usize
-    requires { ⌜ at < length (now dst) ⌝ }
-    ensures { λ r. ⌜ Placed at (b ∷ []) (now (dst .entry)) (now (dst .exit)) r ⌝ }
-{
-    dst[at] = b;
-    at + 1
+// A word or a number with the byte that ends it: the bytes from `from` on. Ten digits are enough for a number, nine letters for a word.
+pub struct Token {
+    pub bytes: [u8; 11],
+    pub from: usize,
 }
 
-// The bytes of a word.
-pub fn put_word(dst: &mut [u8], at: usize, word: &[u8]) -> usize
-    requires { ⌜ at + length (now word) ≤ length (now dst) ⌝ }
-    ensures { λ r. ⌜ Placed at (now (word .entry)) (now (dst .entry)) (now (dst .exit)) r ⌝ }
+// The digits of n in base ten, and the byte that ends them. The last digit is found first: the first k digits found are the last k of n.
+pub fn number(n: u32, mark: u8) -> Token
+    ensures { λ r. ⌜ textOf r ≡ numberThen n mark ⌝ }
 {
-    let mut i = 0;
-    while i < word.len() {
-        dst[at + i] = word[i];
+    let mut bytes = [mark; 11];
+    let mut rest = n;
+    let mut k: usize = 0;
+    loop {
+        bytes[9 - k] = 48 + (rest % 10) as u8;
+        if rest < 10 {
+            return Token { bytes, from: 9 - k };
+        }
+        rest = rest / 10;
+        k += 1;
+    }
+}
+
+// Puts a token into the buffer at a place, and gives the place behind it.
+pub fn put(dst: &mut [u8], at: usize, token: Token) -> usize
+    requires { ⌜ at + length (textOf token) ≤ length (now dst) ⌝ }
+    ensures { λ r. ⌜ Placed at (textOf token) (now (dst .entry)) (now (dst .exit)) r ⌝ }
+{
+    let bytes = token.bytes;
+    let from = token.from;
+    let mut i = from;
+    let mut next = at;
+    while i < 11 {
+        dst[next] = bytes[i];
+        next += 1;
         i += 1;
     }
-    at + i
-}
-
-// The last digit of n in base ten.
-fn last_digit(n: u32) -> u8
-    ensures { λ r. ⌜ r ≡ 48 + n % 10 ⌝ }
-{
-    48 + (n % 10) as u8
-}
-
-// The digits of n in base ten. Those of its tenth come first, so the last digit is put when the others stand.
-pub fn put_digits(dst: &mut [u8], at: usize, n: u32) -> usize
-    requires { ⌜ at + length (decimal n) ≤ length (now dst) ⌝ }
-    ensures { λ r. ⌜ Placed at (decimal n) (now (dst .entry)) (now (dst .exit)) r ⌝ }
-{
-    if n < 10 {
-        return put_byte(dst, at, last_digit(n));
-    }
-    let next = put_digits(dst, at, n / 10);
-    put_byte(dst, next, last_digit(n))
-}
-
-// The digits of n, and the byte that ends them.
-pub fn put_number(dst: &mut [u8], at: usize, n: u32, mark: u8) -> usize
-    requires { ⌜ at + length (numberThen n mark) ≤ length (now dst) ⌝ }
-    ensures { λ r. ⌜ Placed at (numberThen n mark) (now (dst .entry)) (now (dst .exit)) r ⌝ }
-{
-    let next = put_digits(dst, at, n);
-    put_byte(dst, next, mark)
+    next
 }

@@ -16,7 +16,7 @@ returns c =
     let opened = c .before .before .«open» .ensures in
     let e : refusal s ≡ 0 = sym (opened .0) ∙ c .if1 .taken in
     let pieces = opened .1 (c .if1 .taken) .pieces in
-    record { few = omega (arith, pieces, pieces-most s e); exact = λ _. pieces }
+    record { exact = λ _. pieces; few = omega (arith, pieces, pieces-most s e) }
 
 returns-2 : tie.Need-returns-2
 returns-2 c = search needs

@@ -1,5 +1,8 @@
 -- `command::program` meets its contract: its buffers are long enough for every job, so the text of the run is the program's.
-use mathlib.Core.Path.{refl}
+use mathlib.Core.List.{List, _++_}
+use mathlib.Core.Path.{refl, ap, _∙_}
+use Prim.Native.Nat.{ℕ}
+use lib.ListN.{length, drop}
 use borrow.Author.Needs.{needs}
 use Rattle.command.proofs.program.Statement.{statement}
 use Rattle.command.proofs.program.Tie as tie
@@ -20,7 +23,7 @@ returns : tie.Need-returns
 returns c =
     let answered = c .before .before .before .before .respond in
     let same = answered .ensures .1 .1 .1 .0 refl in
-    (cc same, (cc same, answered .ensures .1 .1 .0))
+    (answered .ensures .0 ∙ ap length same, (answered .ensures .1 .0 ∙ ap (λ (t : List ℕ). t ++ drop (answered .result) (c .before .before .before .before .before .before .before .before .before .before .args .text .now)) same, answered .ensures .1 .1 .0))
 
 pub program-spec : {M : Type 1} → statement M
 program-spec =
