@@ -37,6 +37,7 @@ small-as e h = record { value = h .value ∙ e; size = h .size }
 pub small-at : {v : ℤ} {k : ℕ} {x z : ℤ} → x ≡ z → Small v k z → Small v k x
 small-at {v} {k} {x} {z} e h = subst (Small v k) (sym e) h
 
+-- a wider bound
 pub small-more : {v : ℤ} {k : ℕ} {r : ℤ} → Small v k r → Small v (suc k) r
 small-more {v} {k} {r} h = record { value = h .value; size = le-trans (h .size) (pow-mono (le-suc k)) }
 
@@ -84,9 +85,11 @@ from-zero (negsuc n) f h = absurd (h .le)
 
 -- ---- the gap along a direction
 
+-- the gap as a number of 64 bits
 pub gap-read : {gap : ℕ} → Fits w16 gap → toZ w64 gap ≡ pos gap
 gap-read {gap} h = toZ-pos w64 gap (lt-of-lt-of-le (h .fits) (lit≤ tt))
 
+-- the gap times the two magnitudes
 pub gap-small : {gap : ℕ} (a b : ℤ) {s : ℤ} → Fits w16 gap → Small (pos (natAbs a) +ℤ pos (natAbs b)) 32 s → Small (clearance gap (direction a b)) 48 (pos gap *ℤ s)
 unfolding clearance
 gap-small {gap} a b {s} hg h =

@@ -37,6 +37,7 @@ pub fn edges_separate(p: &[i16], px: i16, py: i16, q: &[i16], qx: i16, qy: i16, 
     let mut found = false;
     let mut k: usize = 0;
     'directions: while k < n {
+        // (a, b) is the outward normal of the edge from vertex k to vertex m.
         let m = next_vertex(p, k);
         let a = difference(p, m, k, 1);
         let b = difference(p, k, m, 0);

@@ -1,18 +1,17 @@
 -- A set written word by word: what one word more changes.
-use mathlib.Core.Bool.{Bool, true, false, _&&_}
+use mathlib.Core.Bool.{Bool, true, _&&_}
 use mathlib.Core.List.{List, _++_}
 use mathlib.Core.Logic.{_⊎_, inl, inr}
 use mathlib.Core.Path.{_≡_, refl, sym, ap, _∙_, subst}
 use Prim.Native.Nat.{ℕ, _+_, _*_, _%_, _-_, _^_, _≤_, _<_}
-use native.Mathlib.Numerals.{add-one}
 use native.Mathlib.Omega.{arith}
 use lib.ListN.{length, take, drop, length-append}
 use lib.Seq.{drop-at, drop-drop, length-take-le}
-use Rattle.words.specs.Bits.{testBit, bitsWhere, withBit, withoutBit, assignedBit}
+use Rattle.words.specs.Bits.{testBit, bitsWhere}
 use Rattle.words.specs.Bytes.{AreBytes}
 use Rattle.words.specs.Number.{bytes, numberAt, withNumber}
 use Rattle.words.specs.Sets.{member, wordOffset}
-use Rattle.words.proofs.Bit.{testBit-above, bitsWhere-lt, testBit-bitsWhere}
+use Rattle.words.proofs.Bit.{testBit-above, testBit-bitsWhere}
 use Rattle.words.proofs.Cases.{le-or-lt}
 use Rattle.words.proofs.Member.{member-word, word-lt}
 use Rattle.words.proofs.Place.{numberAt-written, numberAt-other}
@@ -81,26 +80,10 @@ bit-member s k i h e = go (le-or-lt 64 i)
     go (inl l) = absurd (not-both e (testBit-above (numberAt 8 s (k * 8)) 64 i (word-lt s (k * 8) h) l))
     go (inr l) = (l, member-word s k i l ∙ e)
 
--- The number with given bits, one bit more.
-pub bitsWhere-next : (p : ℕ → Bool) (n : ℕ) (on : Bool) → on ≡ p n → assignedBit on (bitsWhere n p) n ≡ bitsWhere (n + 1) p
-unfolding bitsWhere withBit withoutBit
-bitsWhere-next p n on e = go on e
-  where
-    dark : testBit (bitsWhere n p) n ≡ false
-    dark = testBit-above (bitsWhere n p) n n (bitsWhere-lt n p) (omega arith)
-
-    go : (on : Bool) → on ≡ p n → assignedBit on (bitsWhere n p) n ≡ bitsWhere (n + 1) p
-    go true q = rw (add-one, ← q, dark) (omega arith)
-    go false q = rw (add-one, ← q, dark) (omega arith)
-
 -- The bits of the word k of a set.
 pub bits-where : (p : ℕ → Bool) (first v : ℕ) → v ≡ bitsWhere 64 (λ i. p (first + i)) → (i : ℕ) → i < 64 → testBit v i ≡ p (first + i)
 bits-where p first v e i l = ap (λ (w : ℕ). testBit w i) e ∙ testBit-bitsWhere 64 (λ i. p (first + i)) i l
 
--- No bit is none.
-pub bitsWhere-none : (p : ℕ → Bool) → bitsWhere 0 p ≡ 0
-unfolding bitsWhere
-bitsWhere-none p = refl
 
 -- ---- A set made from the one of the level before
 

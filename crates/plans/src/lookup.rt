@@ -13,6 +13,7 @@ ghost use Rattle.stepping.specs.Slots.{SetPlace};
 ghost use Rattle.plans.specs.Known.{PlanOf};
 use crate::plan::Plan;
 use candidates::conflicts::Placed;
+use candidates::conflicts::larger_gap;
 use candidates::conflicts::placed_of;
 use candidates::placements;
 use shapes::pieces::Piece;
@@ -45,13 +46,13 @@ pub fn larger(a: usize, b: usize) -> usize
     if a <= b { b } else { a }
 }
 
-// The gap of a pair of kinds: the larger of the two.
+// The gap of a pair of kinds.
 pub fn pair_gap(job: &[u8], plan: Plan, t: usize, u: usize) -> u16
     requires { ⌜ PlanOf (now job) plan × (t < kindCount (content (now job))) × (u < kindCount (content (now job))) ⌝ }
     ensures { λ r. ⌜ r ≡ pairGap (content (now (job .entry))) (kindAt (content (now (job .entry))) t) (kindAt (content (now (job .entry))) u) ⌝ }
 {
     let gaps = plan.gaps;
-    larger(gaps[t] as usize, gaps[u] as usize) as u16
+    larger_gap(gaps[t] as usize, gaps[u] as usize)
 }
 
 // Where candidate m of kind u ends, which stands at this place.

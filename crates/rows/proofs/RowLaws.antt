@@ -1,17 +1,13 @@
 -- The row of a candidate, bit by bit and word by word. Assumes nothing.
-use mathlib.Core.Bool.{Bool, true, false, cond, _&&_}
+use mathlib.Core.Bool.{Bool, true, false, _&&_}
 use mathlib.Core.List.{List, map}
 use mathlib.Core.Path.{_≡_, refl, sym, ap, _∙_}
-use Prim.Native.Nat.{ℕ, suc, _+_, _*_, _%_, _^_, _<_}
-use native.Mathlib.Nat.{zero-add}
-use native.Mathlib.Numerals.{add-one}
-use native.Mathlib.Omega.{arith}
-use lib.Bits.{bitOr}
+use Prim.Native.Nat.{ℕ, _+_, _*_, _<_}
 use lib.IntN.{ℤ}
 use lib.ListN.{length-map}
-use Rattle.words.specs.Bits.{bitsWhere, withBit}
+use Rattle.words.specs.Bits.{bitsWhere}
 use Rattle.words.specs.Number.{withNumber, filled}
-use Rattle.words.proofs.Bit.{bitsWhere-cong, bitsWhere-more, or-pow}
+use Rattle.words.proofs.Bit.{bitsWhere-cong}
 use Rattle.words.proofs.Row.{filled-none, filled-more}
 use Rattle.model.specs.Candidate.{isCandidate}
 use Rattle.model.specs.Content.{kindAt, kindCount}
@@ -32,24 +28,6 @@ use Rattle.shapes.specs.Turned.{Viewed, TurnedOf}
 use Rattle.shapes.specs.declared.boxes.Boxes.{Boxes}
 use Rattle.shapes.specs.declared.pieces.Piece.{Piece}
 use Rattle.candidates.proofs.PreparedLaws.{offered-is, numbers-conflict}
-
--- ---- a word, bit by bit
-
-pub word-none : (p : ℕ → Bool) → 0 ≡ bitsWhere 0 p
-unfolding bitsWhere
-word-none p = refl
-
-pub word-more : (p : ℕ → Bool) (i word r : ℕ) (t : Bool) → i < 64 → word ≡ bitsWhere i p → t ≡ p i → r ≡ cond t (withBit word (i % 64)) word → r ≡ bitsWhere (i + 1) p
-unfolding bitsWhere
-word-more p i word r t h e q g =
-    g ∙ ap (λ s. cond s (withBit word (i % 64)) word) q ∙ ap (λ n. cond (p i) (withBit word n) word) (omega arith)
-    ∙ ap (λ w. cond (p i) (withBit w i) w) e
-    ∙ step (p i) refl
-    ∙ ap (λ n. bitsWhere n p) (sym (add-one i))
-  where
-    step : (s : Bool) → p i ≡ s → cond s (withBit (bitsWhere i p) i) (bitsWhere i p) ≡ bitsWhere (suc i) p
-    step true d = sym (bitsWhere-more i p ∙ ap (λ s. bitOr (bitsWhere i p) (cond s (2 ^ i) 0)) d ∙ or-pow (bitsWhere i p) i)
-    step false d = sym (ap (λ s. cond s (2 ^ i) 0 + bitsWhere i p) d ∙ zero-add (bitsWhere i p))
 
 -- ---- the words of a row, one after the other
 

@@ -1,10 +1,8 @@
 // The row service: where another kind's candidates are in conflict with a candidate.
-ghost use mathlib.Core.Bool.{cond};
 ghost use mathlib.Core.List.{map};
 ghost use mathlib.Core.Path.{_≡_};
-ghost use Prim.Native.Nat.{_+_, _*_, _%_, _≤_, _<_};
+ghost use Prim.Native.Nat.{_+_, _*_, _≤_, _<_};
 ghost use lib.ListN.{length};
-ghost use Rattle.words.specs.Bits.{withBit};
 ghost use Rattle.words.specs.Number.{filled};
 ghost use Rattle.model.specs.Format.{content};
 ghost use Rattle.model.specs.Grid.{setWords};
@@ -47,16 +45,6 @@ fn row_bit(
     conflict_between(turned, view.step, p, a, q, c, gap)
 }
 
-// The word with bit i set if `on`.
-fn marked(word: u64, i: u64, on: bool) -> u64
-    ensures { λ r. ⌜ r ≡ cond on (withBit word (i % 64)) word ⌝ }
-{
-    if on {
-        return words::bits::set_bit(word, i);
-    }
-    word
-}
-
 // Word w of the row.
 fn row_word(
     view: View,
@@ -75,11 +63,8 @@ fn row_word(
     let mut word: u64 = 0;
     let mut i: usize = 0;
     while i < 64 {
-        word = marked(
-            word,
-            i as u64,
-            row_bit(view, boxes, turned, p, a, q, u, gap, w * 64 + i),
-        );
+        let on = row_bit(view, boxes, turned, p, a, q, u, gap, w * 64 + i);
+        word = words::bits::assign_bit(word, i as u64, on);
         i += 1;
     }
     word

@@ -5,13 +5,13 @@ use mathlib.Core.Logic.{_⊎_, inl, inr}
 use Prim.Native.Nat.{ℕ, zero, suc, _+_, _-_, _*_, _/_, _%_, _^_, _≤_, _<_, min, max}
 use native.Mathlib.Nat.{mod-eq-of-lt, zero-div, div-one, zero-add, div-eq-of-lt, pow-succ', lt-of-lt-of-le, one-mul}
 use native.Mathlib.Omega.{arith}
-use native.Mathlib.Numerals.{one-add}
+use native.Mathlib.Numerals.{one-add, add-one}
 use lib.Dec.{eqb, eqb·suc-suc, eqb·suc-zero, eqb·zero-suc}
 use lib.Arith.{digits-mod}
 use lib.Pow.{pow-mono, pow-lt, shr-shr, field, mod-mod-pow}
 use lib.Bits.{bitAnd, bitOr, and-step, or-step, and-shr, or-shr, or-lt, or-add-and, or-disjoint, or-zero-r, or-shifted-r, and-mask}
 use borrow.Author.Tests.{eqb-true, eqb-false, eq-eqb, ne-eqb}
-use Rattle.words.specs.Bits.{testBit, bitsWhere, withBit, withoutBit}
+use Rattle.words.specs.Bits.{testBit, bitsWhere, withBit, withoutBit, assignedBit}
 use Rattle.words.proofs.Cases.{le-or-lt, eq-or-ne}
 
 -- ---- where a bit stands
@@ -331,3 +331,20 @@ one-shifted n i h = rw one-mul (mod-eq-of-lt (pow-lt h))
 pub shifted-test : (w i : ℕ) → eqb (bitAnd (w / 2 ^ i) 1) 1 ≡ testBit w i
 unfolding testBit
 shifted-test w i = ap (λ (x : ℕ). eqb x 1) (and-mask (w / 2 ^ i) 1)
+
+-- No bit is none.
+pub bitsWhere-none : (p : ℕ → Bool) → bitsWhere 0 p ≡ 0
+unfolding bitsWhere
+bitsWhere-none p = refl
+
+-- The number with given bits, one bit more.
+pub bitsWhere-next : (p : ℕ → Bool) (n : ℕ) (on : Bool) → on ≡ p n → assignedBit on (bitsWhere n p) n ≡ bitsWhere (n + 1) p
+unfolding bitsWhere withBit withoutBit
+bitsWhere-next p n on e = go on e
+  where
+    dark : testBit (bitsWhere n p) n ≡ false
+    dark = testBit-above (bitsWhere n p) n n (bitsWhere-lt n p) (omega arith)
+
+    go : (on : Bool) → on ≡ p n → assignedBit on (bitsWhere n p) n ≡ bitsWhere (n + 1) p
+    go true q = rw (add-one, ← q, dark) (omega arith)
+    go false q = rw (add-one, ← q, dark) (omega arith)

@@ -1,12 +1,13 @@
 -- `rows::row_word` meets its contract. Assumes nothing.
-use mathlib.Core.Path.{_≡_, ap, _∙_}
-use Prim.Native.Nat.{_+_, _-_, _*_, _≤_}
+use mathlib.Core.Path.{_≡_, sym, ap, _∙_}
+use Prim.Native.Nat.{ℕ, _+_, _-_, _*_, _≤_}
+use native.Mathlib.Nat.{mod-eq-of-lt}
 use native.Mathlib.Omega.{arith}
 use borrow.Author.Needs.{needs}
 use denote.Ref.{now}
-use Rattle.words.specs.Bits.{bitsWhere}
+use Rattle.words.specs.Bits.{bitsWhere, assignedBit}
+use Rattle.words.proofs.Bit.{bitsWhere-none, bitsWhere-next}
 use Rattle.rows.specs.Rows.{bitOf, wordOf}
-use Rattle.rows.proofs.RowLaws.{word-none, word-more}
 use Rattle.rows.proofs.row_word.Statement.{statement}
 use Rattle.rows.proofs.row_word.Tie as tie
 
@@ -17,7 +18,7 @@ abbrev μ-loop : tie.MeasureT-loop
 μ-loop view boxes turned p a q u gap w word₀ i₀ word i = 64 - i
 
 loop-holds : tie.Need-loop-holds Inv-loop μ-loop
-loop-holds c = (omega arith, word-none _)
+loop-holds c = (omega arith, sym (bitsWhere-none _))
 
 mul-row-bit : tie.Need-mul-row-bit Inv-loop μ-loop
 mul-row-bit c = omega arith
@@ -28,8 +29,8 @@ add-row-bit c = omega arith
 row-bit-requires : tie.Need-row-bit-requires Inv-loop μ-loop
 row-bit-requires c κs = c .before .before .pre .0
 
-marked-requires : tie.Need-marked-requires Inv-loop μ-loop
-marked-requires c κs = search needs
+assign-bit-requires : tie.Need-assign-bit-requires Inv-loop μ-loop
+assign-bit-requires c κs = search needs
 
 add-i : tie.Need-add-i Inv-loop μ-loop
 add-i c = omega arith
@@ -40,10 +41,15 @@ loop-less c = omega arith
 loop-again : tie.Need-loop-again Inv-loop μ-loop
 loop-again c =
     let at = c .before .before .before in
-    let e = at .before in (
+    let e = at .before in
+    let i = at .loop .i in
+    let on = c .before .row-bit .result in
+    let bits = λ k. bitOf (e .args .view) (e .args .boxes) (now (e .args .turned)) (e .args .p) (e .args .a) (e .args .q) (e .args .u) (e .args .gap) (e .args .w * 64 + k) in (
       omega arith,
-      word-more (λ k. bitOf (e .args .view) (e .args .boxes) (now (e .args .turned)) (e .args .p) (e .args .a) (e .args .q) (e .args .u) (e .args .gap) (e .args .w * 64 + k)) (at .loop .i) (at .loop .word) _ _
-          (omega arith) (at .loop .inv .1) (c .before .row-bit .ensures) (c .marked .ensures),
+      c .assign-bit .ensures
+      ∙ ap (assignedBit on (at .loop .word)) (mod-eq-of-lt (omega arith))
+      ∙ ap (λ (w : ℕ). assignedBit on w i) (at .loop .inv .1)
+      ∙ bitsWhere-next bits i on (c .before .row-bit .ensures),
     )
 
 returns : tie.Need-returns Inv-loop μ-loop
@@ -64,7 +70,7 @@ row-word-spec =
     mul-row-bit
     add-row-bit
     row-bit-requires
-    marked-requires
+    assign-bit-requires
     add-i
     loop-less
     loop-again

@@ -1,5 +1,5 @@
 -- `geometry::edges::edges_separate` meets its contract: the outer loop has tried the edges before k, and none of their normals separates; the inner loop has found no vertex before i beyond
--- the limit. A vertex beyond it gives the direction up; when there is none, the direction separates. Assumes nothing.
+-- the limit. A vertex beyond it gives the direction up; when there is none, the direction separates and the label is left. Assumes nothing.
 use mathlib.Core.Bool.{Bool, true, false}
 use mathlib.Core.List.{map}
 use mathlib.Core.Path.{_≡_, refl, sym, _∙_, ap}
@@ -159,8 +159,7 @@ returns : tie.Need-returns Inv-loop μ-loop Inv-directions μ-directions
 returns c =
     let s = c .before .before in
     let n = part-length (now (s .args .p)) in
-    c .before .directions .inv .2
-    ∙ answer s false (remaining-none (test s) (partOf (now (s .args .p))) (c .before .directions .k) (omega arith) (c .before .directions .inv .3))
+    c .before .directions .inv .2 ∙ answer s false (remaining-none (test s) (partOf (now (s .args .p))) (c .before .directions .k) (omega arith) (c .before .directions .inv .3))
 
 returns-2 : tie.Need-returns-2 Inv-loop μ-loop Inv-directions μ-directions
 returns-2 c =

@@ -9,8 +9,8 @@ use Rattle.model.specs.Content.{kindAt}
 use Rattle.model.specs.Format.{content}
 use Rattle.job.specs.View.{PartAt, KindIn}
 use Rattle.shapes.specs.Turned.{Viewed}
-use Rattle.shapes.proofs.PieceLaws.{written-more}
-use Rattle.shapes.proofs.ViewLaws.{few-kinds, kind-in, some-part, part-in}
+use Rattle.shapes.proofs.PieceLaws.{written-more, piece-is}
+use Rattle.shapes.proofs.ViewLaws.{few-kinds, kind-in, part-in}
 use Rattle.plans.proofs.PlanLaws.{plan-viewed}
 use Rattle.plans.proofs.lookup.piece_in.Statement.{statement}
 use Rattle.plans.proofs.lookup.piece_in.Tie as tie
@@ -101,19 +101,7 @@ returns : tie.Need-returns Inv-loop μ-loop
 returns c =
     let at = c .before in
     let start = at .before .before .before in
-    let e : at .loop .i ≡ length (kindAt (content (start .args .job .now)) (start .args .kind) .parts) = omega (arith, told start) in
-    record {
-      fitting = record {
-        some = omega (arith, some-part (start .args .job .now) (start .pre .0 .view) (seen start) (start .args .kind) (start .pre .1));
-        least = λ i h. rw (at .loop .inv .3 i (omega arith)) (omega (arith, part start i (omega arith) .least));
-        few = omega arith;
-        within = omega arith;
-        short = λ i h. rw (at .loop .inv .3 i (omega arith)) (part start i (omega arith) .most);
-      };
-      first = refl;
-      count = at .loop .inv .1;
-      size = λ i h. at .loop .inv .3 i (omega arith);
-    }
+    piece-is (start .args .job .now) (start .pre .0 .view) (seen start) (start .args .kind) (start .pre .1) _ _ (at .loop .inv .1) (λ i h. at .loop .inv .3 i (omega arith))
 
 pub piece-in-spec : {M : Type 1} → statement M
 piece-in-spec =

@@ -8,7 +8,6 @@ use Rattle.model.specs.Candidate.{isCandidate}
 use Rattle.model.specs.Format.{content}
 use Rattle.candidates.specs.Placements.{offered}
 use Rattle.candidates.proofs.PreparedLaws.{bounded, offered-is}
-use Rattle.live_sets.proofs.Filling.{bitsWhere-none, bitsWhere-next}
 use borrow.Author.Needs.{needs}
 use Rattle.root.proofs.beginning.fill_word.Statement.{statement}
 use Rattle.root.proofs.beginning.fill_word.Tie as tie
