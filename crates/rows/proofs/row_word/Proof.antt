@@ -1,4 +1,5 @@
 -- `rows::row_word` meets its contract. Assumes nothing.
+use mathlib.Core.Bool.{Bool}
 use mathlib.Core.Path.{_≡_, sym, ap, _∙_}
 use Prim.Native.Nat.{ℕ, _+_, _-_, _*_, _≤_}
 use native.Mathlib.Nat.{mod-eq-of-lt}
@@ -44,7 +45,7 @@ loop-again c =
     let e = at .before in
     let i = at .loop .i in
     let on = c .before .row-bit .result in
-    let bits = λ k. bitOf (e .args .view) (e .args .boxes) (now (e .args .turned)) (e .args .p) (e .args .a) (e .args .q) (e .args .u) (e .args .gap) (e .args .w * 64 + k) in (
+    let bits : ℕ → Bool = λ k. bitOf (e .args .view) (e .args .boxes) (now (e .args .turned)) (e .args .p) (e .args .a) (e .args .q) (e .args .u) (e .args .gap) (e .args .w * 64 + k) in (
       omega arith,
       c .assign-bit .ensures
       ∙ ap (assignedBit on (at .loop .word)) (mod-eq-of-lt (omega arith))
