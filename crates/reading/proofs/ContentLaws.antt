@@ -2,13 +2,14 @@
 use mathlib.Core.List.{List, [], _∷_, _++_, map, append-assoc}
 use mathlib.Core.Path.{_≡_, refl, sym, ap, ap₂, _∙_}
 use Prim.Native.Nat.{ℕ, _+_, _*_, _-_, _/_, _<_, _≤_}
+use native.Mathlib.Nat.{add-zero}
 use native.Mathlib.Omega.{arith}
 use borrow.Author.Tests.{lt-ltb, le-ltb, eq-eqb, ne-eqb}
 use lib.ListN.{length, length-append, take, drop}
 use Rattle.words.specs.Number.{count}
 use Rattle.model.specs.Content.{kindCount, pieceCount}
 use Rattle.model.specs.Format.{wordAt, boardAt, boardOf, classesAt, classesStated, classesOf, byRisingId, kindsAt, kindsLength, kindsStated, kindBytes, kindsGot, many, readKind, content, refusal}
-use Rattle.model.specs.Lists.{concat}
+use Rattle.model.specs.Lists.{concat, below, rising}
 use Rattle.model.specs.Services.{writeOutcome, numbersIn, withNumbers, kindNumbers, contentNumbers, readContent}
 use Rattle.model.specs.Services as Services
 use Rattle.model.specs.declared.Written.the-variants as W
@@ -17,7 +18,7 @@ use Rattle.model.proofs.Readers.{many-sum, many-least}
 use Rattle.model.proofs.Records.{kind-read}
 use Rattle.records.specs.Classes.{classesFrom}
 use Rattle.job.specs.Refusal.{refusalTo6}
-use Rattle.reading.specs.Write.{written, boardNumbers, frontNumbers, backNumbers, classesNumbers, kindsNumbers}
+use Rattle.reading.specs.Write.{written, wordsFrom, frontNumbers, backNumbers, classesNumbers, kindsNumbers}
 use Rattle.job.proofs.CauseLaws.{classes-are}
 use Rattle.reading.proofs.ListingLaws.{kind-each}
 use Rattle.records.proofs.RecordLaws.{values-from}
@@ -25,12 +26,13 @@ use Rattle.reading.proofs.RisingLaws.{risen-length, length-from, length
 use Rattle.job.proofs.ViewLaws.{kinds-in, got-list, kind-count, length-list, list-reads}
 use Rattle.reading.proofs.WriteLaws.{written-then, written-all, records-length}
 
--- The three numbers of the board.
-pub board-written : (s : List ℕ) (o x y z : ℕ) (a u v w : List ℕ) → 6 ≤ length a → x ≡ wordAt s o → y ≡ wordAt s (o + 2) → z ≡ wordAt s (o + 4)
-    → u ≡ written 0 (x ∷ []) a → v ≡ written 1 (y ∷ []) u → w ≡ written 2 (z ∷ []) v → w ≡ written 0 (boardNumbers o s) a
-board-written s o x y z a u v w h ex ey ez eu ev ew =
-    written-then 0 2 (x ∷ y ∷ []) (z ∷ []) a v w refl (omega arith) (written-then 0 1 (x ∷ []) (y ∷ []) a u v refl (omega arith) eu ev) ew
-    ∙ rw (ex, ey, ez)
+-- The three numbers of the board record at byte o.
+abbrev boardNumbers : ℕ → List ℕ → List ℕ
+boardNumbers o s = wordAt s o ∷ wordAt s (o + 2) ∷ wordAt s (o + 4) ∷ []
+
+three-words : (s : List ℕ) (o : ℕ) → wordsFrom o 3 s ≡ boardNumbers o s
+unfolding below rising
+three-words s o = rw (add-zero o)
 
 pub six-none : (s : List ℕ) → refusal s ≡ 0 → refusalTo6 s ≡ 0
 unfolding refusalTo6
@@ -54,11 +56,11 @@ module _ (s : List ℕ) (e : refusal s ≡ 0) where
       (ap₂ (classesFrom s) em en ∙ sym (classes-are s))
 
   pub front-written : (o m n : ℕ) (a u v w : List ℕ) → 8 ≤ length a → o ≡ boardAt s → m ≡ classesAt s → n ≡ classesStated s
-      → u ≡ written 0 (boardNumbers o s) a → v ≡ written 3 (n ∷ []) u → w ≡ written 4 (classesNumbers (byRisingId (classesFrom s m n))) v
+      → u ≡ written 0 (wordsFrom o 3 s) a → v ≡ written 3 (n ∷ []) u → w ≡ written 4 (classesNumbers (byRisingId (classesFrom s m n))) v
       → w ≡ written 0 (frontNumbers (content s)) a
   front-written o m n a u v w h eo em en eu ev ew =
       written-then 0 4 (boardNumbers o s ++ (n ∷ [])) (classesNumbers (byRisingId (classesFrom s m n))) a v w refl (omega arith)
-      (written-then 0 3 (boardNumbers o s) (n ∷ []) a u v refl (omega arith) eu ev) ew
+      (written-then 0 3 (boardNumbers o s) (n ∷ []) a u v refl (omega arith) (eu ∙ ap (λ r. written 0 r a) (three-words s o)) ev) ew
       ∙ ap (λ r. written 0 r a) (front-is o m n eo em en)
 
   pub front-length : length (frontNumbers (content s)) ≡ 4 + classesStated s * 3

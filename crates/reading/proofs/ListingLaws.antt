@@ -1,40 +1,26 @@
 -- Laws of the loops that write a type list, a number for each byte.
-use mathlib.Core.List.{List, [], _∷_, map}
-use mathlib.Core.Path.{_≡_, refl, sym, ap, ap₂, subst, _∙_}
+use mathlib.Core.Bool.{true, false}
+use mathlib.Core.List.{List, [], _∷_, _++_, map}
+use mathlib.Core.Path.{_≡_, refl, sym, ap, ap₂, _∙_}
 use Prim.Native.Nat.{ℕ, _+_, _*_, _-_, _<_, _≤_}
+use native.Mathlib.Nat.{add-assoc, add-zero}
 use native.Mathlib.Omega.{arith}
-use lib.ListN.{length, length-map, take, drop, length-drop}
-use Rattle.model.specs.Content.{Part, Kind, noKind}
+use lib.ListN.{length, length-map, drop}
+use Rattle.model.specs.Content.{Part, Kind}
 use Rattle.model.specs.Format.{byteAt, got, many, readPart, readKind}
 use Rattle.model.specs.Lists.{concat, below, rising}
 use Rattle.model.specs.Services.{vertexNumbers, partNumbers, kindNumbers}
-use Rattle.model.proofs.Folds.{map-below-more}
+use Rattle.model.proofs.Folds.{map-same}
 use Rattle.model.proofs.Lists.{length-below}
 use Rattle.model.proofs.Readers.{many-sum}
-use Rattle.model.proofs.Records.{byte-first, length-vertices, PartRead, part-read, KindRead, kind-read}
-use Rattle.records.specs.Parts.{partFrom}
-use Rattle.records.specs.Records.{sizeOf, valueOf, Reads}
-use Rattle.reading.specs.Write.{written, firstBytes, partsNumbers, kindsNumbers}
+use Rattle.model.proofs.Records.{byte-first, byte-behind, length-vertices, part-read, kind-read}
+use Rattle.records.specs.Parts.{vertexFrom, partFrom}
+use Rattle.records.specs.Records.{valueOf, valuesOf, Reads}
+use Rattle.records.proofs.NextLaws.{PartNext, nextKind, kind-next, kind-begins, kind-values, kind-parts}
 use Rattle.records.proofs.PartLaws.{part-corners}
-use Rattle.job.proofs.PlaceLaws.{got-next}
-use Rattle.records.proofs.RecordLaws.{tail, size-got, size-is, reads-from, values-from, reads-more}
-use Rattle.reading.proofs.WriteLaws.{written-none, written-then, length-vertex, numbers-length, records-more}
-
--- ---- Bytes
-
-pub bytes-none : (at : ℕ) (s a : List ℕ) → a ≡ written at (firstBytes 0 s) a
-unfolding below rising
-bytes-none at s a = sym (written-none at a)
-
-length-first : (k : ℕ) (s : List ℕ) → length (firstBytes k s) ≡ k
-length-first k s = length-map (below k) (byteAt s) ∙ length-below k
-
-pub bytes-more : (at k n : ℕ) (s a u v : List ℕ) → (at + k) * 2 ≤ length a → n ≡ byteAt s k → u ≡ written at (firstBytes k s) a
-    → v ≡ written (at + k) (n ∷ []) u → v ≡ written at (firstBytes (k + 1) s) a
-bytes-more at k n s a u v h en eu ev =
-    let l = length-first k s in
-    written-then at (at + k) (firstBytes k s) (byteAt s k ∷ []) a u v (omega arith) h eu (ev ∙ ap (λ m. written (at + k) (m ∷ []) u) en)
-    ∙ ap (λ r. written at r a) (sym (map-below-more (byteAt s) k))
+use Rattle.records.proofs.RecordLaws.{values-from}
+use Rattle.reading.specs.Write.{written, asNumber, bytesFrom, partsNumbers, kindsNumbers}
+use Rattle.reading.proofs.WriteLaws.{written-then, corner-numbers, length-vertex, length-row, numbers-length, records-more}
 
 -- ---- Parts
 
@@ -48,44 +34,34 @@ part-each s P k e =
     let z = r .size in
     omega arith
 
--- The part at byte `here`, of n corners.
-pub record NextPart (s : List ℕ) (here n : ℕ) : Type 0 where
-  pub few : n ≤ 8
-  pub inside : here + (n * 2 + 1) ≤ length s
-  pub reads : readPart (drop here s) ≡ got (partFrom (take (length s - here) (drop here s)) n) (n * 2 + 1)
+-- The numbers of the part at byte `here`, of c corners.
+part-numbers : (list : List ℕ) (here c k : ℕ) (P : Part) → readPart (drop here list) ≡ got P k → c ≡ byteAt list here
+    → partNumbers P ≡ c ∷ bytesFrom true (here + 1) (c * 2) list
+unfolding partNumbers
+part-numbers list here c k P e ec =
+    let s = drop here list in
+    let b : byteAt s 0 ≡ c = byte-first list here ∙ sym ec in
+    let v : P ≡ partFrom s c = part-read s P k e .value ∙ part-corners s (byteAt s 0) ∙ ap (partFrom s) b in
+    let l : length (partFrom s c) ≡ c = length-map (below c) (vertexFrom s) ∙ length-below c in
+    let same : bytesFrom true 1 (c * 2) s ≡ bytesFrom true (here + 1) (c * 2) list =
+    map-same (λ i. asNumber true (byteAt s (1 + i))) (λ i. asNumber true (byteAt list (here + 1 + i))) (below (c * 2))
+    (λ i. ap (asNumber true) (byte-behind list here (1 + i) ∙ ap (byteAt list) (sym (add-assoc here 1 i)))) in
+    ap partNumbers v ∙ ap₂ _∷_ l (corner-numbers s c ∙ same)
 
-module _ (s : List ℕ) (n k i here : ℕ) (w : Reads (many readPart n s) k) (h : i < n) (r : Reads (many readPart i s) here) where
-  next-read : PartRead (drop here s) (valueOf [] (readPart (drop here s))) (sizeOf (readPart (drop here s)))
-  next-read = part-read (drop here s) _ _ (got-next readPart [] s n k i here w h r)
+-- One part more: its number of corners, and its coordinates.
+pub parts-more : (list : List ℕ) (from i here c at : ℕ) (a u v w : List ℕ) → from ≤ here → Reads (many readPart i (drop from list)) (here - from)
+    → PartNext list from i here c → c ≡ byteAt list here → (at + length list) * 2 ≤ length a → length u ≡ length a
+    → u ≡ written (at + from) (partsNumbers i (drop from list)) a → v ≡ written (at + here) (c ∷ []) u
+    → w ≡ written (at + here + 1) (bytesFrom true (here + 1) (c * 2) list) v → w ≡ written (at + from) (partsNumbers (i + 1) (drop from list)) a
+parts-more list from i here c at a u v w l r p ec h lu eu ev ew =
+    let j = p .inside in
+    records-more readPart partNumbers part-each (at + from) (at + here) i (here - from) (drop from list) (c ∷ bytesFrom true (here + 1) (c * 2) list) a u w _
+    (omega arith) (omega arith) r (p .values) (part-numbers list here c _ _ (p .reads) ec) eu
+    (written-then (at + here) (at + here + 1) (c ∷ []) (bytesFrom true (here + 1) (c * 2) list) u v w refl (omega arith) ev ew)
 
-  pub next-byte : here < length s
-  next-byte = let p = next-read .inside in omega (arith, length-drop here s)
-
-  pub next-part : (c : ℕ) → c ≡ byteAt s here → NextPart s here c
-  next-part c e =
-      let p = next-read in
-      let b : byteAt (drop here s) 0 ≡ c = byte-first s here ∙ sym e in
-      let m = p .most in
-      let j = p .inside in
-      let z = p .size in
-      let y : sizeOf (readPart (drop here s)) ≡ c * 2 + 1 = omega arith in
-      let v : valueOf [] (readPart (drop here s)) ≡ partFrom (take (length s - here) (drop here s)) c =
-      p .value ∙ part-corners (drop here s) (byteAt (drop here s) 0) ∙ ap₂ partFrom (sym (tail s here)) b in
-      record {
-        few = omega arith;
-        inside = omega (arith, length-drop here s);
-        reads = got-next readPart [] s n k i here w h r ∙ ap₂ got v y;
-      }
-
-  pub parts-read : (c : ℕ) → c ≡ byteAt s here → Reads (many readPart (i + 1) s) (here + (c * 2 + 1))
-  parts-read c e = reads-more readPart s i here _ _ r (next-part c e .reads)
-
-  pub parts-more : (at c : ℕ) (a u v : List ℕ) → c ≡ byteAt s here → (at + length s) * 2 ≤ length a → u ≡ written at (partsNumbers i s) a
-      → v ≡ written (at + here) (partNumbers (partFrom (take (length s - here) (drop here s)) c)) u → v ≡ written at (partsNumbers (i + 1) s) a
-  parts-more at c a u v e f eu ev =
-      let p = next-part c e in
-      let q = p .inside in
-      records-more readPart partNumbers part-each at i here s a u v _ _ (omega arith) r (p .reads) eu ev
+pub parts-done : (list : List ℕ) (from n i at : ℕ) (a u : List ℕ) → i ≡ n → u ≡ written (at + from) (partsNumbers i (drop from list)) a
+    → u ≡ written (at + from) (partsNumbers n (drop from list)) a
+parts-done list from n i at a u e eu = eu ∙ ap (λ m. written (at + from) (partsNumbers m (drop from list)) a) e
 
 -- ---- Kinds
 
@@ -97,39 +73,32 @@ kind-each s k m e =
     let h = r .head in
     omega arith
 
-module _ (s : List ℕ) (f : 1 ≤ sizeOf (readKind s)) where
-  pub this-kind : KindRead s (valueOf noKind (readKind s)) (sizeOf (readKind s))
-  this-kind = kind-read s _ _ (size-got noKind (readKind s) (omega arith))
+-- The type at byte `here`, behind t types.
+module _ (list : List ℕ) (kinds size t here : ℕ) (w : Reads (many readKind kinds list) size) (h : t < kinds) (r : Reads (many readKind t list) here) where
+  -- Its four fields, then its n parts.
+  kind-numbers : (n : ℕ) → n ≡ byteAt list (here + 3)
+      → kindNumbers (nextKind list kinds size t here w h r) ≡ bytesFrom false here 4 list ++ partsNumbers n (drop (here + 4) list)
+  unfolding kindNumbers asNumber below rising
+  kind-numbers n e =
+      let k = kind-next list kinds size t here w h r in
+      rw (
+        k .demand,
+        k .rotations,
+        k .classes,
+        k .partCount,
+        byte-behind list here 0,
+        byte-behind list here 1,
+        byte-behind list here 2,
+        byte-behind list here 3,
+        values-from _ _ _ (kind-parts list kinds size t here w h r n e),
+      )
 
-  parts-got : (n : ℕ) → n ≡ byteAt s 3 → many readPart n (take (length s - 4) (drop 4 s)) ≡ got (valueOf noKind (readKind s) .parts) (sizeOf (readKind s) - 4)
-  parts-got n e = ap₂ (many readPart) e (tail s 4) ∙ this-kind .parts
-
-  pub these-parts : (n : ℕ) → n ≡ byteAt s 3
-      → Reads (many readPart n (take (length s - 4) (drop 4 s))) (sizeOf (many readPart n (take (length s - 4) (drop 4 s))))
-  these-parts n e =
-      let g = parts-got n e in
-      subst (Reads (many readPart n (take (length s - 4) (drop 4 s)))) (sym (size-is _ _ _ g)) (reads-from _ _ _ g)
-
-  -- The four fields, then the parts.
-  pub kind-written : (at n : ℕ) (a u v : List ℕ) → n ≡ byteAt s 3 → (at + 4) * 2 ≤ length a → u ≡ written at (firstBytes 4 s) a
-      → v ≡ written (at + 4) (partsNumbers n (take (length s - 4) (drop 4 s))) u → v ≡ written at (kindNumbers (valueOf noKind (readKind s))) a
-  unfolding kindNumbers below rising
-  kind-written at n a u v e h eu ev =
-      let k = this-kind in
-      written-then at (at + 4) (firstBytes 4 s) (partsNumbers n (take (length s - 4) (drop 4 s))) a u v refl h eu ev
-      ∙ rw (k .demand, k .rotations, k .classes, k .partCount, values-from _ _ _ (parts-got n e))
-
-module _ (s : List ℕ) (n k i here : ℕ) (w : Reads (many readKind n s) k) (h : i < n) (r : Reads (many readKind i s) here) where
-  got-kind : readKind (drop here s) ≡ got (valueOf noKind (readKind (drop here s))) (sizeOf (readKind (drop here s)))
-  got-kind = got-next readKind noKind s n k i here w h r
-
-  pub kind-there : 1 ≤ sizeOf (readKind (take (length s - here) (drop here s)))
-  kind-there =
-      let q = kind-read (drop here s) _ _ got-kind .head in
-      subst (λ l. 1 ≤ sizeOf (readKind l)) (sym (tail s here)) (omega arith)
-
-  pub kinds-more : (at : ℕ) (a u v : List ℕ) → here ≤ length s → (at + length s) * 2 ≤ length a → u ≡ written at (kindsNumbers i s) a
-      → v ≡ written (at + here) (kindNumbers (valueOf noKind (readKind (take (length s - here) (drop here s))))) u → v ≡ written at (kindsNumbers (i + 1) s) a
-  kinds-more at a u v l f eu ev =
-      records-more readKind kindNumbers kind-each at i here s a u v _ _ (omega arith) r got-kind eu
-      (ev ∙ ap (λ x. written (at + here) (kindNumbers (valueOf noKind (readKind x))) u) (tail s here))
+  pub kinds-more : (n at : ℕ) (a u v x : List ℕ) → n ≡ byteAt list (here + 3) → (at + length list) * 2 ≤ length a → length u ≡ length a
+      → u ≡ written at (kindsNumbers t list) a → v ≡ written (at + here) (bytesFrom false here 4 list) u
+      → x ≡ written (at + (here + 4)) (partsNumbers n (drop (here + 4) list)) v → x ≡ written at (kindsNumbers (t + 1) list) a
+  kinds-more n at a u v x e f lu eu ev ex =
+      let b = kind-begins list kinds size t here w h r in
+      let l = length-row (λ i. asNumber false (byteAt list (here + i))) 4 in
+      records-more readKind kindNumbers kind-each at (at + here) t here list (bytesFrom false here 4 list ++ partsNumbers n (drop (here + 4) list)) a u x _
+      refl (omega arith) r (kind-values list kinds size t here w h r) (kind-numbers n e) eu
+      (written-then (at + here) (at + (here + 4)) (bytesFrom false here 4 list) (partsNumbers n (drop (here + 4) list)) u v x (omega arith) (omega arith) ev ex)

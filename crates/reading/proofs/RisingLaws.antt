@@ -4,32 +4,29 @@ use mathlib.Core.List.{List, [], _∷_, _++_, map}
 use mathlib.Core.Logic.{_⊎_, inl, inr}
 use mathlib.Core.Path.{_≡_, refl, sym, ap, ap₂, subst, _∙_}
 use Prim.Native.Nat.{ℕ, zero, suc, _+_, _*_, _-_, _<_, _≤_}
-use native.Mathlib.Nat.{eq-or-lt-of-le}
+use native.Mathlib.Nat.{eq-or-lt-of-le, add-zero}
 use native.Mathlib.Numerals.{add-one}
 use native.Mathlib.Omega.{arith}
 use borrow.Author.Tests.{lt-ltb, le-ltb, le-leb, lt-leb, leb-true, leb-false, eqb-true, eqb-false}
 use lib.Dec.{eqb, leb, ltb}
-use lib.ListN.{length, length-map, length-append, take, drop}
+use lib.ListN.{length, length-map, length-append}
 use Rattle.model.specs.Content.{SpacingClass}
 use Rattle.model.specs.Format.{byRisingId, classInRange}
 use Rattle.model.specs.Lists.{all, keep, concat, below, rising}
 use Rattle.model.specs.Services.{classNumbers}
 use Rattle.model.proofs.Folds.{map-append, concat-append}
 use Rattle.model.proofs.Lists.{and-left, and-right, length-below}
-use Rattle.model.proofs.Records.{byte-first, byte-behind}
 use Rattle.records.specs.Classes.{classFrom, classesFrom, classesOfId, risenBelow, indexOf, distinctColumn}
-use Rattle.reading.specs.Write.{written, firstBytes, classesNumbers}
+use Rattle.reading.specs.Write.{written, asNumber, bytesFrom, classesNumbers}
 use Rattle.records.proofs.ClassLaws.{risen-more}
 use Rattle.job.proofs.GapLaws.{found}
-use Rattle.records.proofs.RecordLaws.{tail}
 use Rattle.reading.proofs.WriteLaws.{written-none, written-then, numbers-length}
 
 -- ---- The class of an id
 
-three-bytes : (s : List ℕ) (o : ℕ) → firstBytes 3 (take (length s - o) (drop o s)) ≡ classesNumbers (classFrom s o ∷ [])
-unfolding below rising concat classNumbers
-three-bytes s o =
-    ap (firstBytes 3) (tail s o) ∙ rw (byte-first s o, byte-behind s o 1, byte-behind s o 2)
+three-bytes : (s : List ℕ) (o : ℕ) → bytesFrom false o 3 s ≡ classesNumbers (classFrom s o ∷ [])
+unfolding asNumber below rising concat classNumbers
+three-bytes s o = rw (add-zero o)
 
 module _ (s : List ℕ) (o n id j : ℕ) (d : distinctColumn s o n ≡ true) (e : j ≡ indexOf s o n id) where
   found-at : (b : Bool) → ltb j n ≡ b → classesOfId id (classesFrom s o n) ≡ cond b (classFrom s (o + j * 3) ∷ []) []
@@ -37,22 +34,27 @@ module _ (s : List ℕ) (o n id j : ℕ) (d : distinctColumn s o n ≡ true) (e 
       found s o id n d ∙ ap (λ m. cond (ltb m n) (classFrom s (o + m * 3) ∷ []) []) (sym e)
       ∙ ap (λ t. cond t (classFrom s (o + j * 3) ∷ []) []) q
 
-  pub class-one : j < n → 1 ≡ length (classesOfId id (classesFrom s o n))
-  class-one h = sym (ap length (found-at true (lt-ltb j n h)))
+  found-in : o + j * 3 < o + n * 3 → ltb j n ≡ true
+  found-in h = lt-ltb j n (omega arith)
 
-  pub class-none : n ≤ j → 0 ≡ length (classesOfId id (classesFrom s o n))
-  class-none h = sym (ap length (found-at false (le-ltb j n h)))
+  absent : o + n * 3 ≤ o + j * 3 → ltb j n ≡ false
+  absent h = le-ltb j n (omega arith)
 
-  pub class-written : (at p : ℕ) (a v : List ℕ) → j < n → p ≡ o + j * 3 → v ≡ written at (firstBytes 3 (take (length s - p) (drop p s))) a
+  pub class-one : o + j * 3 < o + n * 3 → 1 ≡ length (classesOfId id (classesFrom s o n))
+  class-one h = sym (ap length (found-at true (found-in h)))
+
+  pub class-none : o + n * 3 ≤ o + j * 3 → 0 ≡ length (classesOfId id (classesFrom s o n))
+  class-none h = sym (ap length (found-at false (absent h)))
+
+  pub class-written : (at : ℕ) (a v : List ℕ) → v ≡ written at (bytesFrom false (o + j * 3) 3 s) a → o + j * 3 < o + n * 3
       → v ≡ written at (classesNumbers (classesOfId id (classesFrom s o n))) a
-  class-written at p a v h ep ev =
-      ev ∙ ap (λ r. written at r a) (three-bytes s p ∙ ap (λ m. classesNumbers (classFrom s m ∷ [])) ep)
-      ∙ ap (λ r. written at (classesNumbers r) a) (sym (found-at true (lt-ltb j n h)))
+  class-written at a v ev h =
+      ev ∙ ap (λ r. written at r a) (three-bytes s (o + j * 3))
+      ∙ ap (λ r. written at (classesNumbers r) a) (sym (found-at true (found-in h)))
 
-  pub class-absent : (at : ℕ) (a : List ℕ) → n ≤ j → a ≡ written at (classesNumbers (classesOfId id (classesFrom s o n))) a
+  pub class-absent : (at : ℕ) (a : List ℕ) → o + n * 3 ≤ o + j * 3 → a ≡ written at (classesNumbers (classesOfId id (classesFrom s o n))) a
   unfolding concat
-  class-absent at a h =
-      sym (ap (λ r. written at (classesNumbers r) a) (found-at false (le-ltb j n h)) ∙ written-none at a)
+  class-absent at a h = sym (ap (λ r. written at (classesNumbers r) a) (found-at false (absent h)) ∙ written-none at a)
 
 -- ---- By rising id
 

@@ -1,9 +1,12 @@
 -- Laws of numbers written one after the other.
+use mathlib.Core.Bool.{Bool, true, false, _&&_, false≢true}
 use mathlib.Core.List.{List, [], _∷_, _++_, map, append-assoc, append-nil}
 use mathlib.Core.Path.{_≡_, refl, sym, ap, ap₂, subst, _∙_}
-use Prim.Native.Nat.{ℕ, suc, _+_, _*_, _-_, _<_, _≤_}
+use Prim.Native.Nat.{ℕ, zero, suc, _+_, _*_, _-_, _<_, _≤_}
+use native.Mathlib.Numerals.{add-one}
 use native.Mathlib.Omega.{arith}
-use borrow.Author.Tests.{le-ltb}
+use borrow.Author.Tests.{le-ltb, ltb-true, ltb-false}
+use lib.Dec.{ltb}
 use lib.IntN.{pos, negsuc}
 use lib.ListN.{length, length-map, take, drop, length-append, length-drop, take-append-drop}
 use lib.Seq.{length-take-le, take-at, drop-at, drop-drop}
@@ -16,13 +19,13 @@ use Rattle.model.specs.Content.{Vertex}
 use Rattle.model.specs.Lists.{concat, below, rising}
 use Rattle.model.specs.Services.{coordinate, vertexNumbers, partNumbers}
 use Rattle.model.proofs.Folds.{map-append, map-below-more, concat-more}
-use Rattle.model.specs.Format.{Got, got, many}
+use Rattle.model.specs.Format.{byteAt, Got, got, many}
 use Rattle.model.proofs.Lists.{length-below}
 use Rattle.model.proofs.Readers.{many-sum}
 use Rattle.records.specs.Parts.{vertexFrom, partFrom}
 use Rattle.records.specs.Records.{Reads, valuesOf}
-use Rattle.reading.specs.Write.{written}
-use Rattle.records.proofs.RecordLaws.{values-none, values-more}
+use Rattle.reading.specs.Write.{written, asNumber, bytesFrom}
+use Rattle.records.proofs.RecordLaws.{values-none}
 
 pub written-none : (at : ℕ) (s : List ℕ) → written at [] s ≡ s
 unfolding written bytesOf
@@ -68,30 +71,79 @@ pub written-then : (at at′ : ℕ) (ns ms s u v : List ℕ) → at′ ≡ at + 
 written-then at at′ ns ms s u v e h p q =
     q ∙ ap₂ (λ a b. written a ms b) e p ∙ written-more at ns s (omega arith) ms
 
--- ---- Coordinates
+-- ---- A byte as a number
 
-pub coordinate-low : (b : ℕ) → b < 128 → b ≡ coordinate (signed b)
+coordinate-low : (b : ℕ) → b < 128 → b ≡ coordinate (signed b)
 unfolding coordinate
 coordinate-low b h = sym (ap coordinate (signed-low b h))
 
-pub coordinate-high : (b : ℕ) → b < 256 → 128 ≤ b → b + 65280 ≡ coordinate (signed b)
+coordinate-high : (b : ℕ) → b < 256 → 128 ≤ b → b + 65280 ≡ coordinate (signed b)
 unfolding coordinate
 coordinate-high b f h =
     let q : signed b ≡ negsuc (256 - suc b) = signed-toZ b (record { fits = f }) ∙ ap (λ t. sel t (pos b) (negsuc (256 - suc b))) (le-ltb b 128 h) in
     let e : b + 65280 ≡ 65535 - (256 - suc b) = omega arith in
     e ∙ sym (ap coordinate q)
 
--- ---- A part
+pub number-high : (c : Bool) (b : ℕ) → b < 256 → (c && ltb 127 b) ≡ true → b + 65280 ≡ asNumber c b
+unfolding asNumber
+number-high true b f e = let h = ltb-true 127 b e in coordinate-high b f (omega arith)
+number-high false b f e = absurd (false≢true e)
 
-pub two-numbers : (at a b : ℕ) (s u v : List ℕ) (p : Vertex) → (at + 2) * 2 ≤ length s → a ≡ coordinate (p .x) → b ≡ coordinate (p .y)
-    → u ≡ written at (a ∷ []) s → v ≡ written (at + 1) (b ∷ []) u → v ≡ written at (vertexNumbers p) s
-unfolding vertexNumbers
-two-numbers at a b s u v p h ea eb eu ev =
-    written-then at (at + 1) (a ∷ []) (b ∷ []) s u v refl (omega arith) eu ev ∙ rw (ea, eb)
+pub number-low : (c : Bool) (b : ℕ) → (c && ltb 127 b) ≡ false → b ≡ asNumber c b
+unfolding asNumber
+number-low true b e = let h = ltb-false 127 b e in coordinate-low b (omega arith)
+number-low false b e = refl
+
+-- ---- A row of numbers, one after the other
+
+module _ (f : ℕ → ℕ) where
+  pub length-row : (k : ℕ) → length (map f (below k)) ≡ k
+  length-row k = length-map (below k) f ∙ length-below k
+
+  pub row-none : (at : ℕ) (a : List ℕ) → a ≡ written at (map f (below 0)) a
+  unfolding below rising
+  row-none at a = sym (written-none at a)
+
+  pub row-more : (at at′ k n : ℕ) (a u v : List ℕ) → at′ ≡ at + k → at′ * 2 ≤ length a → n ≡ f k → u ≡ written at (map f (below k)) a
+      → v ≡ written at′ (n ∷ []) u → v ≡ written at (map f (below (k + 1))) a
+  row-more at at′ k n a u v e h en eu ev =
+      let l = length-row k in
+      written-then at at′ (map f (below k)) (f k ∷ []) a u v (omega arith) h eu (ev ∙ ap (λ m. written at′ (m ∷ []) u) en)
+      ∙ ap (λ r. written at r a) (sym (map-below-more f k))
+
+  pub row-end : (at k n : ℕ) (a u : List ℕ) → k ≡ n → u ≡ written at (map f (below k)) a → u ≡ written at (map f (below n)) a
+  row-end at k n a u e eu = eu ∙ ap (λ m. written at (map f (below m)) a) e
+
+-- ---- The corners of a part
 
 -- The numbers of the first k corners.
-abbrev pub cornerNumbers : List ℕ → ℕ → List ℕ
+abbrev cornerNumbers : List ℕ → ℕ → List ℕ
 cornerNumbers s k = concat (map vertexNumbers (partFrom s k))
+
+corner-pair : (s : List ℕ) (k : ℕ) → vertexNumbers (vertexFrom s k) ≡ asNumber true (byteAt s (1 + k * 2)) ∷ asNumber true (byteAt s (1 + (k * 2 + 1))) ∷ []
+unfolding vertexNumbers asNumber
+corner-pair s k =
+    let a : k * 2 + 1 ≡ 1 + k * 2 = omega arith in
+    let b : k * 2 + 2 ≡ 1 + (k * 2 + 1) = omega arith in
+    ap₂ (λ i j. coordinate (signed (byteAt s i)) ∷ coordinate (signed (byteAt s j)) ∷ []) a b
+
+-- They are the bytes behind the first.
+pub corner-numbers : (s : List ℕ) (k : ℕ) → cornerNumbers s k ≡ bytesFrom true 1 (k * 2) s
+unfolding concat below rising
+corner-numbers s zero = refl
+corner-numbers s (suc k) =
+    let f : ℕ → ℕ = λ i. asNumber true (byteAt s (1 + i)) in
+    let e : k + 1 ≡ suc k = add-one k in
+    let m : k * 2 + 1 + 1 ≡ suc k * 2 = omega arith in
+    ap (cornerNumbers s) (sym e)
+    ∙ ap (λ l. concat (map vertexNumbers l)) (map-below-more (vertexFrom s) k)
+    ∙ ap concat (map-append vertexNumbers (partFrom s k) (vertexFrom s k ∷ []))
+    ∙ concat-more (map vertexNumbers (partFrom s k)) (vertexNumbers (vertexFrom s k))
+    ∙ ap₂ _++_ (corner-numbers s k) (corner-pair s k)
+    ∙ sym (append-assoc (map f (below (k * 2))) (f (k * 2) ∷ []) (f (k * 2 + 1) ∷ []))
+    ∙ ap (λ r. r ++ (f (k * 2 + 1) ∷ [])) (sym (map-below-more f (k * 2)))
+    ∙ sym (map-below-more f (k * 2 + 1))
+    ∙ ap (λ i. map f (below i)) m
 
 pub length-vertex : (p : Vertex) → length (vertexNumbers p) ≡ 2
 unfolding vertexNumbers
@@ -102,32 +154,6 @@ pub numbers-length : {A : Type 0} (g : A → List ℕ) (c : ℕ) → ((x : A) �
 unfolding concat
 numbers-length g c h [] = omega arith
 numbers-length g c h (x ∷ xs) = length-append (g x) (concat (map g xs)) ∙ ap₂ (λ a b. a + b) (h x) (numbers-length g c h xs) ∙ (omega arith)
-
-length-corners : (s : List ℕ) (k : ℕ) → length (cornerNumbers s k) ≡ k * 2
-length-corners s k = numbers-length vertexNumbers 2 (λ p. length-vertex p) (partFrom s k) ∙ ap (λ n. n * 2) (length-map (below k) (vertexFrom s) ∙ length-below k)
-
-pub corners-none : (at : ℕ) (s a : List ℕ) → a ≡ written at (cornerNumbers s 0) a
-unfolding concat below rising
-corners-none at s a = sym (written-none at a)
-
-pub corners-more : (at k : ℕ) (s a u v : List ℕ) → (at + k * 2) * 2 ≤ length a → u ≡ written at (cornerNumbers s k) a
-    → v ≡ written (at + k * 2) (vertexNumbers (vertexFrom s k)) u → v ≡ written at (cornerNumbers s (k + 1)) a
-corners-more at k s a u v h eu ev =
-    let c = length-corners s k in
-    let more : cornerNumbers s (k + 1) ≡ cornerNumbers s k ++ vertexNumbers (vertexFrom s k) =
-    ap (λ l. concat (map vertexNumbers l)) (map-below-more (vertexFrom s) k)
-    ∙ ap concat (map-append vertexNumbers (partFrom s k) (vertexFrom s k ∷ []))
-    ∙ concat-more (map vertexNumbers (partFrom s k)) (vertexNumbers (vertexFrom s k)) in
-    written-then at (at + k * 2) (cornerNumbers s k) (vertexNumbers (vertexFrom s k)) a u v (omega arith) h eu ev
-    ∙ ap (λ l. written at l a) (sym more)
-
-pub part-end : (at n k : ℕ) (s a u v : List ℕ) → k ≡ n → (at + 1) * 2 ≤ length a → u ≡ written at (n ∷ []) a → v ≡ written (at + 1) (cornerNumbers s k) u
-    → v ≡ written at (partNumbers (partFrom s n)) a
-unfolding partNumbers
-part-end at n k s a u v e h eu ev =
-    let l : length (partFrom s n) ≡ n = length-map (below n) (vertexFrom s) ∙ length-below n in
-    written-then at (at + 1) (n ∷ []) (cornerNumbers s k) a u v refl h eu ev
-    ∙ ap₂ (λ m j. written at (m ∷ cornerNumbers s j) a) (sym l) e
 
 -- ---- Records, a number for each byte
 
@@ -140,18 +166,17 @@ module _ {A : Type 0} (f : List ℕ → Got A) (g : A → List ℕ) (each : (s :
   unfolding concat
   records-none at s a = sym (ap (λ l. written at (concat (map g l)) a) (values-none f s) ∙ written-none at a)
 
-  numbers-more : (n m : ℕ) (s : List ℕ) (x : A) (k : ℕ) → Reads (many f n s) m → f (drop m s) ≡ got x k → recordNumbers (n + 1) s ≡ recordNumbers n s ++ g x
-  numbers-more n m s x k r e =
-      ap (λ l. concat (map g l)) (values-more f s n m x k r e) ∙ ap concat (map-append g (valuesOf (many f n s)) (x ∷ []))
-      ∙ concat-more (map g (valuesOf (many f n s))) (g x)
-
   -- They are as many as the bytes of the records.
   pub records-length : (n m : ℕ) (s : List ℕ) → Reads (many f n s) m → length (recordNumbers n s) ≡ m
   records-length n m s r = many-sum f g each n s (valuesOf (many f n s)) m r
 
-  pub records-more : (at n m : ℕ) (s a u v : List ℕ) (x : A) (k : ℕ) → (at + m) * 2 ≤ length a → Reads (many f n s) m → f (drop m s) ≡ got x k
-      → u ≡ written at (recordNumbers n s) a → v ≡ written (at + m) (g x) u → v ≡ written at (recordNumbers (n + 1) s) a
-  records-more at n m s a u v x k h r e eu ev =
+  -- One record more: the numbers ns of x, from number at′ on.
+  pub records-more : (at at′ n m : ℕ) (s ns a u v : List ℕ) (x : A) → at′ ≡ at + m → at′ * 2 ≤ length a → Reads (many f n s) m
+      → valuesOf (many f (n + 1) s) ≡ valuesOf (many f n s) ++ (x ∷ []) → g x ≡ ns
+      → u ≡ written at (recordNumbers n s) a → v ≡ written at′ ns u → v ≡ written at (recordNumbers (n + 1) s) a
+  records-more at at′ n m s ns a u v x ea h r e en eu ev =
       let l = records-length n m s r in
-      written-then at (at + m) (recordNumbers n s) (g x) a u v (omega arith) h eu ev
-      ∙ ap (λ l. written at l a) (sym (numbers-more n m s x k r e))
+      let more : recordNumbers (n + 1) s ≡ recordNumbers n s ++ g x =
+      ap (λ l. concat (map g l)) e ∙ ap concat (map-append g (valuesOf (many f n s)) (x ∷ [])) ∙ concat-more (map g (valuesOf (many f n s))) (g x) in
+      written-then at at′ (recordNumbers n s) ns a u v (omega arith) h eu ev
+      ∙ ap (λ l. written at l a) (ap (λ x. recordNumbers n s ++ x) (sym en) ∙ sym more)

@@ -1,21 +1,31 @@
 -- Numbers written into a buffer of two-byte numbers.
+use mathlib.Core.Bool.{Bool, cond}
 use mathlib.Core.List.{List, [], _∷_, _++_, map}
 use Prim.Native.Nat.{ℕ, _+_, _*_}
 use lib.ListN.{length, take, drop}
+use Rattle.integers.specs.Byte.{signed}
 use Rattle.words.specs.Number.{bytesOf}
 use Rattle.model.specs.Content.{SpacingClass, Job, kindCount, pieceCount}
 use Rattle.model.specs.Format.{byteAt, wordAt, many, readPart, readKind}
 use Rattle.model.specs.Lists.{concat, below}
-use Rattle.model.specs.Services.{classNumbers, partNumbers, kindNumbers}
+use Rattle.model.specs.Services.{coordinate, classNumbers, partNumbers, kindNumbers}
 use Rattle.records.specs.Records.{valuesOf}
 
 -- The buffer after its numbers from number `at` on became ns; every other byte is unchanged.
 unfoldable pub written : ℕ → List ℕ → List ℕ → List ℕ
 written at ns s = take (at * 2) s ++ bytesOf 2 ns ++ drop ((at + length ns) * 2) s
 
--- The first n bytes.
-abbrev pub firstBytes : ℕ → List ℕ → List ℕ
-firstBytes n s = map (byteAt s) (below n)
+-- A byte as a number: the coordinate that it stands for, or as it is.
+unfoldable pub asNumber : Bool → ℕ → ℕ
+asNumber c b = cond c (coordinate (signed b)) b
+
+-- The n bytes from byte o on, a number for each: coordinates, or plain.
+abbrev pub bytesFrom : Bool → ℕ → ℕ → List ℕ → List ℕ
+bytesFrom c o n s = map (λ i. asNumber c (byteAt s (o + i))) (below n)
+
+-- The n two-byte numbers from byte o on.
+abbrev pub wordsFrom : ℕ → ℕ → List ℕ → List ℕ
+wordsFrom o n s = map (λ i. wordAt s (o + i * 2)) (below n)
 
 -- The numbers of the n parts at the front.
 abbrev pub partsNumbers : ℕ → List ℕ → List ℕ
@@ -28,10 +38,6 @@ kindsNumbers n s = concat (map kindNumbers (valuesOf (many readKind n s)))
 -- The numbers of classes.
 abbrev pub classesNumbers : List SpacingClass → List ℕ
 classesNumbers cs = concat (map classNumbers cs)
-
--- The numbers of the board record at byte o.
-abbrev pub boardNumbers : ℕ → List ℕ → List ℕ
-boardNumbers o s = wordAt s o ∷ wordAt s (o + 2) ∷ wordAt s (o + 4) ∷ []
 
 -- What stands in the answer in front of the types.
 abbrev pub frontNumbers : Job → List ℕ

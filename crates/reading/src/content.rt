@@ -2,7 +2,6 @@
 use crate::answer;
 use crate::listing;
 use crate::rising;
-use frame::fields;
 use frame::trailer;
 use model::Written;
 ghost use mathlib.Core.Path.{_≡_};
@@ -11,17 +10,7 @@ ghost use lib.ListN.{length};
 ghost use Rattle.model.specs.Content.{pieceCount};
 ghost use Rattle.model.specs.Format.{classesStated, content, kindsLength, refusal};
 ghost use Rattle.model.specs.Services.{readContent};
-ghost use Rattle.reading.specs.Write.{written, boardNumbers, frontNumbers, backNumbers};
-
-// Width, length and step of the board record at byte `from`.
-fn put_board(job: &[u8], from: usize, answer: &mut [u8])
-    requires { ⌜ (from + 6 ≤ length (now job)) × (6 ≤ length (now answer)) ⌝ }
-    ensures { λ _. ⌜ now (answer .exit) ≡ written 0 (boardNumbers from (now (job .entry))) (now (answer .entry)) ⌝ }
-{
-    answer::put(answer, 0, fields::word(job, from));
-    answer::put(answer, 1, fields::word(job, from + 2));
-    answer::put(answer, 2, fields::word(job, from + 4));
-}
+ghost use Rattle.reading.specs.Write.{written, frontNumbers, backNumbers};
 
 // The board and the classes behind their count. (There is room for three numbers more: put_classes asks for it.)
 pub fn put_front(job: &[u8], answer: &mut [u8])
@@ -29,7 +18,7 @@ pub fn put_front(job: &[u8], answer: &mut [u8])
     ensures { λ _. ⌜ now (answer .exit) ≡ written 0 (frontNumbers (content (now (job .entry)))) (now (answer .entry)) ⌝ }
 {
     let t = trailer::read_trailer(job);
-    put_board(job, t.board, answer);
+    answer::put_words(job, t.board, 3, answer);
     answer::put(answer, 3, t.class_count);
     rising::put_classes(job, t.classes, t.class_count, answer, 4);
 }

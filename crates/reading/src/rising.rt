@@ -11,14 +11,14 @@ ghost use Rattle.reading.specs.Write.{written, classesNumbers};
 
 // The class of this id, where there is one, of the n classes from byte `from` on. The result is how many there are, 0 or 1.
 fn put_class(job: &[u8], from: usize, n: usize, id: usize, answer: &mut [u8], at: usize) -> usize
-    requires { ⌜ ((n < 256) × (from + n * 3 ≤ length (now job)) × ((at + 3) * 2 ≤ length (now answer))) × (distinctColumn (now job) from n ≡ true) ⌝ }
+    requires { ⌜ ((id < 8) × (n < 256) × (from + n * 3 ≤ length (now job)) × ((at + 3) * 2 ≤ length (now answer))) × (distinctColumn (now job) from n ≡ true) ⌝ }
     ensures { λ r. ⌜ (r ≡ length (classesOfId id (classesFrom (now (job .entry)) from n))) × (r ≤ 1) ⌝ }
     ensures { λ r. ⌜ now (answer .exit) ≡ written at (classesNumbers (classesOfId id (classesFrom (now (job .entry)) from n))) (now (answer .entry)) ⌝ }
 {
     let j = classes::find(job, from, n, id);
-    if j < n {
-        let o = from + j * 3;
-        answer::put_bytes(&job[o..], 3, answer, at);
+    let o = from + j * 3;
+    if o < from + n * 3 {
+        answer::put_bytes(job, o, 3, false, answer, at);
         return 1;
     }
     0

@@ -8,8 +8,8 @@ use Rattle.reading.proofs.content.put_front.Tie as tie
 read-trailer-requires : tie.Need-read-trailer-requires
 read-trailer-requires c κs = inside _ (six-none _ (c .before .before .pre .0)) .least
 
-put-board-requires : tie.Need-put-board-requires
-put-board-requires c κs = omega (arith, inside (c .before .before .before .before .args .job .now) (six-none (c .before .before .before .before .args .job .now) (c .before .before .before .before .pre .0)))
+put-words-requires : tie.Need-put-words-requires
+put-words-requires c κs = omega (arith, inside (c .before .before .before .before .args .job .now) (six-none (c .before .before .before .before .args .job .now) (c .before .before .before .before .pre .0)))
 
 put-requires : tie.Need-put-requires
 put-requires c κs = search needs
@@ -25,7 +25,7 @@ same-length c = search needs
 returns : tie.Need-returns
 returns c =
     let t = c .before .before .before .before .before .before .before .before .before .before .before .before .read-trailer .ensures in
-    front-written (c .before .before .before .before .before .before .before .before .before .before .before .before .before .before .before .args .job .now) (c .before .before .before .before .before .before .before .before .before .before .before .before .before .before .before .pre .0) _ _ _ (c .before .before .before .before .before .before .before .before .before .before .before .before .before .before .before .args .answer .now) _ _ _ (omega arith) (t .board) (t .classes) (t .classCount) (c .before .before .before .before .before .before .before .before .before .before .put-board .ensures) (c .before .before .before .before .before .before .put .ensures) (c .before .before .put-classes .ensures)
+    front-written (c .before .before .before .before .before .before .before .before .before .before .before .before .before .before .before .args .job .now) (c .before .before .before .before .before .before .before .before .before .before .before .before .before .before .before .pre .0) _ _ _ (c .before .before .before .before .before .before .before .before .before .before .before .before .before .before .before .args .answer .now) _ _ _ (omega arith) (t .board) (t .classes) (t .classCount) (c .before .before .before .before .before .before .before .before .before .before .put-words .ensures) (c .before .before .before .before .before .before .put .ensures) (c .before .before .put-classes .ensures)
 
 pub put-front-spec : {M : Type 1} → statement M
-put-front-spec = tie.close (tie.spec read-trailer-requires put-board-requires put-requires put-classes-requires same-length returns)
+put-front-spec = tie.close (tie.spec read-trailer-requires put-words-requires put-requires put-classes-requires same-length returns)
