@@ -2,7 +2,7 @@
 use mathlib.Core.Bool.{Bool, true, false}
 use mathlib.Core.List.{List, []}
 use mathlib.Core.Option.{none}
-use mathlib.Core.Path.{_≡_, refl, sym, ap, _∙_}
+use mathlib.Core.Path.{_≡_, refl, sym, ap, _∙_, subst}
 use Prim.Native.Nat.{ℕ, _+_, _-_, _<_}
 use native.Mathlib.Omega.{arith}
 use lib.ListN.{length}
@@ -14,8 +14,9 @@ use Rattle.stepping.specs.Levels.{placedBelow, tryLevel, goOnLevel, walkSpent, 
 use Rattle.stepping.specs.LiveSets.{boundOf}
 use Rattle.stepping.specs.Spending.{Spent}
 use Rattle.lookahead.specs.Settled.{Settled}
-use Rattle.walks.specs.Walk.{Ready, Left}
-use Rattle.walks.specs.declared.walk.Progress.{Progress}
+use Rattle.walks.specs.Walk.{heldOf, Ready, Left}
+use Rattle.runs.specs.Told.{begun}
+use Rattle.runs.specs.declared.progress.Progress.{Progress}
 use Rattle.stepping.proofs.Answer.{layout-none}
 use Rattle.stepping.proofs.Levels.{start-admitted, walk-level}
 use Rattle.walks.proofs.GoingOn.{go-back, deep-ready, go-deep}
@@ -26,13 +27,9 @@ no-length : (j : Job) → 0 ≡ layoutLength j []
 unfolding layoutLength largest
 no-length j = refl
 
--- The whole budget is left, nothing is held, and the bound bounds nothing.
-abbrev pub beginning : ℕ → ℕ → Progress
-beginning budget bound = record { left = budget; bound = bound; found = false; stopped = false }
-
-module _ (j : Job) (budget bound : ℕ) (work out ns : List ℕ) (pieced : 0 < pieceCount j) (e : bound ≡ j .sheet .L + 1) (m : length ns ≡ 12) (r : RoomFor j work out) where
+module _ (j : Job) (budget long : ℕ) (work out ns : List ℕ) (pieced : 0 < pieceCount j) (e : long ≡ j .sheet .L) (m : length ns ≡ 12) (r : RoomFor j work out) where
   -- Nothing is placed.
-  begin-ready : Ready j work out ns 0 0 0 (beginning budget bound)
+  begin-ready : Ready j work out ns 0 0 0 (begun budget long)
   unfolding placedBelow boundOf
   begin-ready =
       record {
@@ -41,7 +38,7 @@ module _ (j : Job) (budget bound : ℕ) (work out ns : List ℕ) (pieced : 0 < p
         room = m;
         admitted = start-admitted j;
         len-is = no-length j;
-        bound-is = e;
+        bound-is = ap (λ (n : ℕ). n + 1) e;
         written = layout-none out;
         running = refl;
         sets = λ l u h. absurd (omega arith);
@@ -49,7 +46,7 @@ module _ (j : Job) (budget bound : ℕ) (work out ns : List ℕ) (pieced : 0 < p
 
   -- What is left at the end of the first level is what the whole walk leaves.
   walked : (work′ out′ : List ℕ) (st : Progress)
-      → Left j work out work′ out′ 0 (beginning budget bound) st (goOnLevel j (numbersAt ns) 0 budget none) → Walked j budget work out work′ out′ st
+      → Left j work out work′ out′ 0 (begun budget long) st (goOnLevel j (numbersAt ns) 0 budget none) → Walked j budget work out work′ out′ st
   walked work′ out′ st d =
       let w : goOnLevel j (numbersAt ns) 0 budget none ≡ walkSpent j budget = sym (walk-level j (numbersAt ns) budget) in
       record {
@@ -64,19 +61,21 @@ module _ (j : Job) (budget bound : ℕ) (work out ns : List ℕ) (pieced : 0 < p
 
   module _ (work′ : List ℕ) (told : Bool) (s : Settled j ns 0 (j .sheet .L + 1) work work′ told) where
     -- Look-ahead with this bound.
-    settled : Settled j ns 0 bound work work′ told
+    settled : Settled j ns 0 (long + 1) work work′ told
     settled = rw e s
 
-    -- It fails: the walk is at its end.
-    pub begin-back : told ≡ false → Walked j budget work out work′ out (beginning budget bound)
-    begin-back f =
-        walked work′ out (beginning budget bound) (go-back j ns 0 0 work out (beginning budget bound) begin-ready (omega arith) work′ told pieced f settled)
+    module _ (start : Progress) (q : start ≡ begun budget long) where
+      -- It fails: the walk is at its end.
+      pub begin-back : told ≡ false → Walked j budget work out work′ out start
+      begin-back f =
+          rw q (walked work′ out (begun budget long) (go-back j ns 0 0 work out (begun budget long) begin-ready (omega arith) work′ told pieced f settled))
 
-    -- It holds: the first piece tries its candidates.
-    pub begin-deep : told ≡ true → length work′ ≡ length work → Ready j work′ out ns 0 1 0 (beginning budget bound)
-    begin-deep f l = deep-ready j ns 0 0 work out (beginning budget bound) begin-ready (omega arith) work′ told f settled l
+      -- It holds: the first piece tries its candidates.
+      pub begin-deep : told ≡ true → length work′ ≡ length work → Ready j work′ out ns 0 1 0 start
+      begin-deep f l = rw q (deep-ready j ns 0 0 work out (begun budget long) begin-ready (omega arith) work′ told f settled l)
 
-    pub begin-walks : (work″ out′ : List ℕ) (st : Progress) → told ≡ true
-        → Left j work′ out work″ out′ 1 (beginning budget bound) st (tryLevel j (numbersAt ns) 0 0 budget none) → Walked j budget work out work″ out′ st
-    begin-walks work″ out′ st f d =
-        walked work″ out′ st (go-deep j ns 0 0 work out (beginning budget bound) begin-ready (omega arith) work′ work″ out′ st told pieced f settled d)
+      pub begin-walks : (work″ out′ : List ℕ) (st : Progress) → told ≡ true
+          → Left j work′ out work″ out′ 1 start st (tryLevel j (numbersAt ns) 0 0 (start .left) (heldOf j (start .found) out)) → Walked j budget work out work″ out′ st
+      begin-walks work″ out′ st f d =
+          walked work″ out′ st (go-deep j ns 0 0 work out (begun budget long) begin-ready (omega arith) work′ work″ out′ st told pieced f settled
+          (subst (λ (s : Progress). Left j work′ out work″ out′ 1 s st (tryLevel j (numbersAt ns) 0 0 (s .left) (heldOf j (s .found) out))) q d))

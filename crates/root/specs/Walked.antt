@@ -8,7 +8,7 @@ use Rattle.model.specs.Services.{workWords, numbersIn, withLayout}
 use Rattle.stepping.specs.Levels.{walkSpent}
 use Rattle.stepping.specs.LiveSets.{boundOf}
 use Rattle.walks.specs.Walk.{heldOf}
-use Rattle.walks.specs.declared.walk.Progress.{Progress}
+use Rattle.runs.specs.declared.progress.Progress.{Progress}
 
 -- The buffers are large enough.
 pub record RoomFor (j : Job) (work out : List ℕ) : Type 0 where

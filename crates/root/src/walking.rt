@@ -8,9 +8,10 @@ use job::View;
 use nofit::offsets::make_offsets;
 use nofit::windows::window_of;
 use plans::plan::make_plan;
+use runs::progress::Progress;
+use runs::progress::begin;
 use shapes::boxes::boxes_of;
 use shapes::turned::turn_all;
-use walks::walk::Progress;
 use walks::walk::try_piece;
 
 // How many bits the table of conflicts may have. The fewer the steps, the fewer are worth their price; 196,608 fill its 24,576 bytes.
@@ -34,12 +35,7 @@ pub fn walk(job: &[u8], view: View, budget: u32, work: &mut [u8], answer: &mut [
     turn_all(job, view, &mut turned);
     let boxes = boxes_of(job, view, &turned);
     let plan = make_plan(job, view, boxes);
-    let start = Progress {
-        left: budget,
-        bound: view.length + 1,
-        found: false,
-        stopped: false,
-    };
+    let start = begin(budget, view.length);
     if !settle_first(job, view, boxes, plan, work) {
         return start;
     }

@@ -3,7 +3,7 @@ use mathlib.Core.Bool.{Bool, true, false, cond}
 use mathlib.Core.List.{List, [], _++_}
 use mathlib.Core.Option.{Option, none}
 use mathlib.Core.Path.{_≡_, refl, sym, ap, _∙_, subst}
-use Prim.Native.Nat.{ℕ, _+_, _*_, _-_, _/_, _≤_, _<_}
+use Prim.Native.Nat.{ℕ, _+_, _*_, _-_, _/_, _≤_}
 use native.Mathlib.Omega.{arith}
 use borrow.Author.Tests.{eq-eqb, ne-eqb, ltb-false}
 use lib.Dec.{ltb}
@@ -19,11 +19,11 @@ use Rattle.model.specs.declared.RunAnswer.the-variants as R
 use Rattle.model.proofs.Accepted.{accepted-sensible}
 use Rattle.stepping.specs.Levels.{walkSpent}
 use Rattle.stepping.specs.LiveSets.{boundOf}
-use Rattle.search.specs.Run.{told}
+use Rattle.runs.specs.Told.{told}
 use Rattle.root.specs.Walked.{RoomFor, Walked}
 use Rattle.stepping.specs.Spending.{answerOf}
 use Rattle.walks.specs.Walk.{heldOf}
-use Rattle.walks.specs.declared.walk.Progress.{Progress}
+use Rattle.runs.specs.declared.progress.Progress.{Progress}
 use Rattle.stepping.proofs.Levels.{run-walk}
 use Rattle.stepping.proofs.Steps.{goOn-left-le}
 -- The work words are few.

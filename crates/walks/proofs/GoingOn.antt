@@ -24,7 +24,8 @@ use Rattle.stepping.specs.Spending.{spent}
 use Rattle.lookahead.specs.Settled.{Placeable, Settled}
 use Rattle.plans.specs.Recording.{layoutOf, Recordable}
 use Rattle.walks.specs.Walk.{heldOf, Ready, Taken, Left}
-use Rattle.walks.specs.declared.walk.Progress.{Progress}
+use Rattle.runs.specs.Told.{completed}
+use Rattle.runs.specs.declared.progress.Progress.{Progress}
 use Rattle.stepping.proofs.Extents.{candidate-entry, candidate-below, candidate-bounds, bounds-small}
 use Rattle.stepping.proofs.Levels.{placed-layout, level-last, level-back, level-deep}
 use Rattle.stepping.proofs.Slots.{keeps-frame, frame-same, frame-then, frame-lower}
@@ -73,15 +74,15 @@ module _ (j : Job) (ns : List ℕ) where
     record-ready d k e =
         record { small = numbers-small d k (subst (λ (l : ℕ). all (isEntry j) (placedOf j ns l) ≡ true) e (r .admitted)); fits = r .out-fits }
 
-    pub go-last : (out′ : List ℕ) → dots (j .sheet) ≤ 1024 → kindCount j ≤ 8 → level ≡ pieceCount j → out′ ≡ withLayout (some (layoutOf j ns)) out
-        → Left j work out work out′ level st (record { left = st .left; bound = len; found = true; stopped = false }) (goOnLevel j (numbersAt ns) level (st .left) (heldOf j (st .found) out))
-    go-last out′ d k e o =
+    pub go-last : (out′ : List ℕ) (st′ : Progress) → st′ ≡ completed st len → dots (j .sheet) ≤ 1024 → kindCount j ≤ 8 → level ≡ pieceCount j → out′ ≡ withLayout (some (layoutOf j ns)) out
+        → Left j work out work out′ level st st′ (goOnLevel j (numbersAt ns) level (st .left) (heldOf j (st .found) out))
+    go-last out′ st′ q d k e o =
         let w : goOnLevel j (numbersAt ns) level (st .left) (heldOf j (st .found) out) ≡ spent (st .left) (some (layoutOf j ns)) false =
         ap (λ (l : ℕ). goOnLevel j (numbersAt ns) l (st .left) (heldOf j (st .found) out)) e
         ∙ level-last j (numbersAt ns) (st .left) (heldOf j (st .found) out)
         ∙ ap (λ (es : Layout). spent (st .left) (some es) false) layout-placed in
         let a : all (isEntry j) (placedOf j ns (pieceCount j)) ≡ true = subst (λ (l : ℕ). all (isEntry j) (placedOf j ns l) ≡ true) e (r .admitted) in
-        rw w (record {
+        rw (w, q) (record {
           left = refl;
           stopped = refl;
           held = ap some (ap (layoutIn j) o ∙ layout-back d k a out);

@@ -33,7 +33,8 @@ use Rattle.stepping.proofs.Steps.{spent-skip-to}
 use Rattle.branching.specs.Choosing.{NextLive}
 use Rattle.walks.specs.Walk.{heldOf, Ready, Taken, Left}
 use Rattle.branching.specs.declared.choosing.Next.{Next}
-use Rattle.walks.specs.declared.walk.Progress.{Progress}
+use Rattle.runs.specs.Told.{stepped, halted}
+use Rattle.runs.specs.declared.progress.Progress.{Progress}
 
 -- ---- The layout held
 
@@ -60,16 +61,6 @@ module _ (j : Job) where
 pub same-numbers : (a b : List ℕ) → length a ≡ length b → numbersIn a ≡ numbersIn b
 unfolding numbersIn count
 same-numbers a b e = rw e
-
--- ---- Progress
-
--- One step less of the budget.
-abbrev pub lessOne : Progress → Progress
-lessOne st = record { left = st .left - 1; bound = st .bound; found = st .found; stopped = false }
-
--- Stopped, with the budget spent.
-abbrev pub halted : Progress → Progress
-halted st = record { left = 0; bound = st .bound; found = st .found; stopped = true }
 
 -- ---- The loop
 
@@ -157,13 +148,13 @@ module _ (j : Job) (ns : List ℕ) (level len : ℕ) where
             ∙ ap (λ (m : ℕ). tryLevel j (numbersAt (set ns level (r .number))) level m (st .left) (heldOf j (st .found) out)) (sym number-is)
 
         -- The budget is spent.
-        pub trying-stops : st .left ≡ 0 → Left j work₀ out₀ work out (level + 1) st₀ (halted st) (whole st₀ out₀)
-        trying-stops z =
+        pub trying-stops : (st′ : Progress) → st′ ≡ halted st → st .left ≡ 0 → Left j work₀ out₀ work out (level + 1) st₀ st′ (whole st₀ out₀)
+        trying-stops st′ q z =
             let w : whole st₀ out₀ ≡ spent 0 (heldOf j (st .found) out) true =
             trying-at ∙ ap (λ (k : ℕ). tryLevel j (numbersAt (set ns level (r .number))) level (numbersAt (set ns level (r .number)) level) k (heldOf j (st .found) out)) z
             ∙ level-stops j (numbersAt (set ns level (r .number))) level (heldOf j (st .found) out) admitted short member-is in
             let held-is : heldOf j (st .found) out ≡ whole st₀ out₀ .held = sym (ap (λ (w : Spent). w .held) w) in
-            record {
+            rw q (record {
               left = sym (ap (λ (w : Spent). w .left) w);
               stopped = sym (ap (λ (w : Spent). w .stopped) w);
               held = held-is;
@@ -171,7 +162,7 @@ module _ (j : Job) (ns : List ℕ) (level len : ℕ) where
               lowered = t .lowered;
               written = t .written ∙ ap (λ (g : Option Layout). withLayout g out₀) held-is;
               frame = t .frame;
-            }
+            })
 
         -- ---- A candidate is taken
 
@@ -185,9 +176,9 @@ module _ (j : Job) (ns : List ℕ) (level len : ℕ) where
         live = v .found f .member
 
         -- What the walk asks once it is placed.
-        pub taken-ready : Ready j work out (set ns level (r .number)) (level + 1) (level + 1) (r .extent) (lessOne st)
-        taken-ready =
-            record {
+        pub taken-ready : (less : Progress) → less ≡ stepped st → Ready j work out (set ns level (r .number)) (level + 1) (level + 1) (r .extent) less
+        taken-ready less q =
+            rw q (record {
               work-fits = t .ready .work-fits;
               out-fits = t .ready .out-fits;
               room = length-set ns level (r .number) ∙ t .ready .room;
@@ -198,30 +189,30 @@ module _ (j : Job) (ns : List ℕ) (level len : ℕ) where
               running = refl;
               sets =
                   λ l u q g k. subst (λ (es : Layout). KeepsSince j es (st .bound) u (slotOf j work l u)) (placed-is l (omega arith)) (t .ready .sets l u q g k);
-            }
+            })
 
-        pub taken-taken : Taken j (set ns level (r .number)) (level + 1) (r .extent) (lessOne st)
-        taken-taken =
+        pub taken-taken : (less : Progress) → less ≡ stepped st → Taken j (set ns level (r .number)) (level + 1) (r .extent) less
+        taken-taken less q =
             let e : level + 1 - 1 ≡ level = omega arith in
-            record {
+            rw q (record {
               some = omega arith;
               within = omega arith;
               below = rw (v .found f .reaches, t .ready .len-is, ← (length-cons j (entryOf j (pieceKind j level) (r .number)) (placedOf j ns level))) (placed-below j (placedOf j ns level) (st .bound) (pieceKind j level) (r .number) live (rw (← (t .ready .len-is)) (v .found f .below)));
               latest = rw (e, number-is, ← (placed-is level (omega arith))) live;
-            }
+            })
 
         -- ---- What it leaves
 
         module _ (work′ out′ : List ℕ) (st′ : Progress) (work-length : length work′ ≡ length work) (out-length : length out′ ≡ length out)
-            (more : 0 < st .left)
-            (d : Left j work out work′ out′ (level + 1) (lessOne st) st′
-            (goOnLevel j (numbersAt (set ns level (r .number))) (level + 1) (lessOne st .left) (heldOf j (st .found) out))) where
+            (more : 0 < st .left) (less : Progress) (q : less ≡ stepped st)
+            (d : Left j work out work′ out′ (level + 1) less st′ (goOnLevel j (numbersAt (set ns level (r .number))) (level + 1) (less .left) (heldOf j (less .found) out))) where
           -- What the walk did below.
-          done : Left j work out work′ out′ (level + 1) (lessOne st) st′ (goOnLevel j (numbersAt (set ns level (r .number))) (suc level) (st .left - 1) (heldOf j (st .found) out))
+          done : Left j work out work′ out′ (level + 1) (stepped st) st′ (goOnLevel j (numbersAt (set ns level (r .number))) (suc level) (st .left - 1) (heldOf j (st .found) out))
           done =
               subst
-              (λ (l : ℕ). Left j work out work′ out′ (level + 1) (lessOne st) st′ (goOnLevel j (numbersAt (set ns level (r .number))) l (st .left - 1) (heldOf j (st .found) out)))
-              (add-one level) d
+              (λ (l : ℕ). Left j work out work′ out′ (level + 1) (stepped st) st′ (goOnLevel j (numbersAt (set ns level (r .number))) l (st .left - 1) (heldOf j (st .found) out)))
+              (add-one level)
+              (subst (λ (s : Progress). Left j work out work′ out′ (level + 1) s st′ (goOnLevel j (numbersAt (set ns level (r .number))) (level + 1) (s .left) (heldOf j (s .found) out))) q d)
 
           entries : Entries (pieceCount j) (goOnLevel j (numbersAt (set ns level (r .number))) (suc level) (st .left - 1) (heldOf j (st .found) out) .held)
           entries = placed-entries j (numbersAt (set ns level (r .number))) (suc level) (st .left - 1) (heldOf j (st .found) out) (omega arith) (held-entries j (st .found) out)

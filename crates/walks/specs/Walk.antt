@@ -14,7 +14,7 @@ use Rattle.stepping.specs.Levels.{pieceKind, numbersAt, placedOf}
 use Rattle.lookahead.specs.Settled.{SetsKept}
 use Rattle.stepping.specs.Slots.{Frame}
 use Rattle.stepping.specs.Spending.{Spent}
-use Rattle.walks.specs.declared.walk.Progress.{Progress}
+use Rattle.runs.specs.declared.progress.Progress.{Progress}
 
 -- The layout held: what the answer numbers say, if one is found.
 abbrev pub heldOf : Job → Bool → List ℕ → Option Layout

@@ -10,14 +10,8 @@ use lookahead::settling::settle;
 use nofit::offsets::Window;
 use plans::plan::Plan;
 use plans::recording::record_layout;
-
-// How far the walk has come: what is left of the budget, what an end has to stay below, whether a layout is held, whether the walk stopped.
-pub struct Progress {
-    pub left: u32,
-    pub bound: usize,
-    pub found: bool,
-    pub stopped: bool,
-}
+use runs::progress;
+use runs::progress::Progress;
 
 // Piece `level` tries its live candidates in rising order, each against the best of that moment.
 pub fn try_piece(
@@ -45,19 +39,8 @@ pub fn try_piece(
             return st;
         }
         if st.left == 0 {
-            return Progress {
-                left: 0,
-                bound: st.bound,
-                found: st.found,
-                stopped: true,
-            };
+            return progress::halt(st);
         }
-        let less = Progress {
-            left: st.left - 1,
-            bound: st.bound,
-            found: st.found,
-            stopped: false,
-        };
         let mut taken = numbers;
         taken[level] = next.number;
         st = go_on(
@@ -71,7 +54,7 @@ pub fn try_piece(
             taken,
             level + 1,
             next.extent,
-            less,
+            progress::step(st),
         );
         if st.stopped {
             return st;
@@ -101,12 +84,7 @@ fn go_on(
 {
     if level == plan.pieces {
         record_layout(job, plan, numbers, out);
-        return Progress {
-            left: state.left,
-            bound: extent,
-            found: true,
-            stopped: false,
-        };
+        return progress::complete(state, extent);
     }
     if settle(
         job,

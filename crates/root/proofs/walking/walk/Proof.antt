@@ -1,6 +1,6 @@
 -- `root::walking::walk` meets its contract.
-use mathlib.Core.Path.{_≡_, refl, ap, _∙_}
-use Prim.Native.Nat.{ℕ, _+_, _<_}
+use mathlib.Core.Path.{refl, _∙_}
+use Prim.Native.Nat.{_<_}
 use native.Mathlib.Omega.{arith}
 use borrow.Author.Tests.{not-true, not-false}
 use Rattle.model.specs.Content.{pieceCount}
@@ -13,10 +13,7 @@ use borrow.Author.Needs.{needs}
 use Rattle.root.proofs.walking.walk.Statement.{statement}
 use Rattle.root.proofs.walking.walk.Tie as tie
 
--- At the beginning the bound bounds nothing.
-bound-is : (c : tie.Start) → c .args .view .length + 1 ≡ content (c .args .job .now) .sheet .L + 1
-bound-is c = ap (λ (n : ℕ). n + 1) (c .pre .0 .view .len)
-
+-- There is a piece.
 some-piece : (c : tie.Start) → 0 < pieceCount (content (c .args .job .now))
 some-piece c = accepted-sensible (c .args .job .now) (c .pre .0 .accepted) .pieced
 
@@ -35,8 +32,8 @@ boxes-of-requires c κs = (c .before .before .before .before .before .before .be
 make-plan-requires : tie.Need-make-plan-requires
 make-plan-requires c κs = (c .before .before .before .before .before .before .before .before .pre .0, c .boxes-of .ensures)
 
-add-window-of : tie.Need-add-window-of
-add-window-of c = omega (arith, c .before .before .before .before .before .before .before .before .before .before .pre .0 .view .len, short-board (c .before .before .before .before .before .before .before .before .before .before .args .job .now) (c .before .before .before .before .before .before .before .before .before .before .pre .0 .accepted))
+begin-requires : tie.Need-begin-requires
+begin-requires c κs = omega (arith, c .before .before .before .before .before .before .before .before .before .pre .0 .view .len, short-board (c .before .before .before .before .before .before .before .before .before .args .job .now) (c .before .before .before .before .before .before .before .before .before .pre .0 .accepted))
 
 settle-first-requires : tie.Need-settle-first-requires
 settle-first-requires c κs = ((c .before .before .before .before .before .before .before .before .before .before .before .pre .0, c .before .before .before .boxes-of .ensures, c .before .before .make-plan .ensures), c .before .before .before .before .before .before .before .before .before .before .before .pre .1 .work-fits)
@@ -46,7 +43,7 @@ same-length c = c .before .before .before .settle-first .kept .1 .1 .1 .1 .0
 
 returns : tie.Need-returns
 returns c =
-    begin-back _ (c .before .before .before .before .before .before .before .before .before .before .before .before .before .before .before .args .budget) _ _ _ _ (some-piece (c .before .before .before .before .before .before .before .before .before .before .before .before .before .before .before)) (bound-is (c .before .before .before .before .before .before .before .before .before .before .before .before .before .before .before)) refl (c .before .before .before .before .before .before .before .before .before .before .before .before .before .before .before .pre .1) _ (c .before .before .before .settle-first .result) (c .before .before .before .settle-first .ensures) (not-true (c .before .before .before .settle-first .result) (c .if1 .taken))
+    begin-back _ (c .before .before .before .before .before .before .before .before .before .before .before .before .before .before .before .args .budget) _ _ _ _ (some-piece (c .before .before .before .before .before .before .before .before .before .before .before .before .before .before .before)) (c .before .before .before .before .before .before .before .before .before .before .before .before .before .before .before .pre .0 .view .len) refl (c .before .before .before .before .before .before .before .before .before .before .before .before .before .before .before .pre .1) _ (c .before .before .before .settle-first .result) (c .before .before .before .settle-first .ensures) (c .before .before .before .before .before .begin .result) (c .before .before .before .before .before .begin .ensures) (not-true (c .before .before .before .settle-first .result) (c .if1 .taken))
 
 table-limit-requires : tie.Need-table-limit-requires
 table-limit-requires c κs = search needs
@@ -72,7 +69,7 @@ slice-aggregate-try-piece-2 c = search needs
 try-piece-requires : tie.Need-try-piece-requires
 try-piece-requires c κs = (
   (record { plan = c .before .before .before .before .before .before .before .before .before .before .before .before .before .before .before .before .make-plan .ensures; table = c .before .before .before .before .before .before .before .before .before .before .before .before .before .before .before .before .before .before .before .before .turn-all .ensures; offsets = c .before .before .before .before .before .make-offsets .ensures }, some-piece (c .before .before .before .before .before .before .before .before .before .before .before .before .before .before .before .before .before .before .before .before .before .before .before .before .before)),
-  begin-deep _ (c .before .before .before .before .before .before .before .before .before .before .before .before .before .before .before .before .before .before .before .before .before .before .before .before .before .args .budget) _ _ _ _ (some-piece (c .before .before .before .before .before .before .before .before .before .before .before .before .before .before .before .before .before .before .before .before .before .before .before .before .before)) (bound-is (c .before .before .before .before .before .before .before .before .before .before .before .before .before .before .before .before .before .before .before .before .before .before .before .before .before)) refl (c .before .before .before .before .before .before .before .before .before .before .before .before .before .before .before .before .before .before .before .before .before .before .before .before .before .pre .1) _ (c .before .before .before .before .before .before .before .before .before .before .before .before .before .settle-first .result) (c .before .before .before .before .before .before .before .before .before .before .before .before .before .settle-first .ensures) (not-false (c .before .before .before .before .before .before .before .before .before .before .before .before .before .settle-first .result) (c .before .before .before .before .before .before .before .before .before .before .if1 .left)) (c .before .before .before .before .before .before .before .before .before .before .before .before .before .settle-first .kept .1 .1 .1 .1 .0),
+  begin-deep _ (c .before .before .before .before .before .before .before .before .before .before .before .before .before .before .before .before .before .before .before .before .before .before .before .before .before .args .budget) _ _ _ _ (some-piece (c .before .before .before .before .before .before .before .before .before .before .before .before .before .before .before .before .before .before .before .before .before .before .before .before .before)) (c .before .before .before .before .before .before .before .before .before .before .before .before .before .before .before .before .before .before .before .before .before .before .before .before .before .pre .0 .view .len) refl (c .before .before .before .before .before .before .before .before .before .before .before .before .before .before .before .before .before .before .before .before .before .before .before .before .before .pre .1) _ (c .before .before .before .before .before .before .before .before .before .before .before .before .before .settle-first .result) (c .before .before .before .before .before .before .before .before .before .before .before .before .before .settle-first .ensures) (c .before .before .before .before .before .before .before .before .before .before .before .before .before .before .before .begin .result) (c .before .before .before .before .before .before .before .before .before .before .before .before .before .before .before .begin .ensures) (not-false (c .before .before .before .before .before .before .before .before .before .before .before .before .before .settle-first .result) (c .before .before .before .before .before .before .before .before .before .before .if1 .left)) (c .before .before .before .before .before .before .before .before .before .before .before .before .before .settle-first .kept .1 .1 .1 .1 .0),
 )
 
 same-length-2 : tie.Need-same-length-2
@@ -83,7 +80,7 @@ same-length-3 c = c .before .before .before .before .try-piece .kept .1 .1 .1 .1
 
 returns-2 : tie.Need-returns-2
 returns-2 c =
-    begin-walks _ (c .before .before .before .before .before .before .before .before .before .before .before .before .before .before .before .before .before .before .before .before .before .before .before .before .before .before .before .before .before .before .args .budget) _ _ _ _ (some-piece (c .before .before .before .before .before .before .before .before .before .before .before .before .before .before .before .before .before .before .before .before .before .before .before .before .before .before .before .before .before .before)) (bound-is (c .before .before .before .before .before .before .before .before .before .before .before .before .before .before .before .before .before .before .before .before .before .before .before .before .before .before .before .before .before .before)) refl (c .before .before .before .before .before .before .before .before .before .before .before .before .before .before .before .before .before .before .before .before .before .before .before .before .before .before .before .before .before .before .pre .1) _ (c .before .before .before .before .before .before .before .before .before .before .before .before .before .before .before .before .before .before .settle-first .result) (c .before .before .before .before .before .before .before .before .before .before .before .before .before .before .before .before .before .before .settle-first .ensures) _ _ (c .before .before .before .before .try-piece .result) (not-false (c .before .before .before .before .before .before .before .before .before .before .before .before .before .before .before .before .before .before .settle-first .result) (c .before .before .before .before .before .before .before .before .before .before .before .before .before .before .before .if1 .left)) (c .before .before .before .before .try-piece .ensures)
+    begin-walks _ (c .before .before .before .before .before .before .before .before .before .before .before .before .before .before .before .before .before .before .before .before .before .before .before .before .before .before .before .before .before .before .args .budget) _ _ _ _ (some-piece (c .before .before .before .before .before .before .before .before .before .before .before .before .before .before .before .before .before .before .before .before .before .before .before .before .before .before .before .before .before .before)) (c .before .before .before .before .before .before .before .before .before .before .before .before .before .before .before .before .before .before .before .before .before .before .before .before .before .before .before .before .before .before .pre .0 .view .len) refl (c .before .before .before .before .before .before .before .before .before .before .before .before .before .before .before .before .before .before .before .before .before .before .before .before .before .before .before .before .before .before .pre .1) _ (c .before .before .before .before .before .before .before .before .before .before .before .before .before .before .before .before .before .before .settle-first .result) (c .before .before .before .before .before .before .before .before .before .before .before .before .before .before .before .before .before .before .settle-first .ensures) (c .before .before .before .before .before .before .before .before .before .before .before .before .before .before .before .before .before .before .before .before .begin .result) (c .before .before .before .before .before .before .before .before .before .before .before .before .before .before .before .before .before .before .before .before .begin .ensures) _ _ (c .before .before .before .before .try-piece .result) (not-false (c .before .before .before .before .before .before .before .before .before .before .before .before .before .before .before .before .before .before .settle-first .result) (c .before .before .before .before .before .before .before .before .before .before .before .before .before .before .before .if1 .left)) (c .before .before .before .before .try-piece .ensures)
 
 pub walk-spec : {M : Type 1} → statement M
 walk-spec =
@@ -94,7 +91,7 @@ walk-spec =
     slice-aggregate-boxes-of
     boxes-of-requires
     make-plan-requires
-    add-window-of
+    begin-requires
     settle-first-requires
     same-length
     returns

@@ -1,7 +1,7 @@
--- `search::run::tell` meets its contract.
+-- `runs::progress::tell` meets its contract.
 use borrow.Author.Needs.{needs}
-use Rattle.search.proofs.run.tell.Statement.{statement}
-use Rattle.search.proofs.run.tell.Tie as tie
+use Rattle.runs.proofs.progress.tell.Statement.{statement}
+use Rattle.runs.proofs.progress.tell.Tie as tie
 
 sub-steps : tie.Need-sub-steps
 sub-steps c = search needs

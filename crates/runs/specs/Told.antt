@@ -1,0 +1,30 @@
+-- How far the walk has come at each turn, and what is told of it.
+use mathlib.Core.Bool.{Bool, true, false}
+use Prim.Native.Nat.{ℕ, _+_, _-_}
+use Rattle.model.specs.declared.Held.the-variants as HV
+use Rattle.model.specs.declared.RunAnswer.{RunAnswer}
+use Rattle.model.specs.declared.RunAnswer.the-variants as R
+use Rattle.runs.specs.declared.progress.Progress.{Progress}
+
+-- The whole budget is left, nothing is held, and the bound bounds nothing.
+abbrev pub begun : ℕ → ℕ → Progress
+begun budget length = record { left = budget; bound = length + 1; found = false; stopped = false }
+
+-- One step less of the budget.
+abbrev pub stepped : Progress → Progress
+stepped st = record { left = st .left - 1; bound = st .bound; found = st .found; stopped = false }
+
+-- Stopped, with the budget spent.
+abbrev pub halted : Progress → Progress
+halted st = record { left = 0; bound = st .bound; found = st .found; stopped = true }
+
+-- A layout of this length is held.
+abbrev pub completed : Progress → ℕ → Progress
+completed st length = record { left = st .left; bound = length; found = true; stopped = false }
+
+-- The answer by whether the walk stopped, whether a layout is held, that layout's length and the steps.
+abbrev pub told : Bool → Bool → ℕ → ℕ → RunAnswer
+told true true len steps = R.Stopped (HV.Layout len) steps
+told true false len steps = R.Stopped HV.Nothing steps
+told false true len steps = R.Shortest len steps
+told false false len steps = R.Infeasible steps

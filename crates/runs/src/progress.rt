@@ -1,0 +1,83 @@
+// How far the walk has come, and what a run answers there.
+ghost use mathlib.Core.Path.{_≡_};
+ghost use Prim.Native.Nat.{_-_, _≤_, _<_};
+ghost use Rattle.runs.specs.Told.{begun, stepped, halted, completed, told};
+use model::Held;
+use model::RunAnswer;
+
+// How far the walk has come: what is left of the budget, what an end has to stay below, whether a layout is held, whether the walk stopped.
+pub struct Progress {
+    pub left: u32,
+    pub bound: usize,
+    pub found: bool,
+    pub stopped: bool,
+}
+
+// At the beginning: the whole budget is left, and on a board of this length the bound bounds nothing.
+pub fn begin(budget: u32, length: usize) -> Progress
+    requires { ⌜ length ≤ 1000 ⌝ }
+    ensures { λ r. ⌜ r ≡ begun budget length ⌝ }
+{
+    Progress {
+        left: budget,
+        bound: length + 1,
+        found: false,
+        stopped: false,
+    }
+}
+
+// One step was taken.
+pub fn step(st: Progress) -> Progress
+    requires { ⌜ 0 < st .left ⌝ }
+    ensures { λ r. ⌜ r ≡ stepped st ⌝ }
+{
+    Progress {
+        left: st.left - 1,
+        bound: st.bound,
+        found: st.found,
+        stopped: false,
+    }
+}
+
+// A step was to be taken with the budget spent.
+pub fn halt(st: Progress) -> Progress
+    ensures { λ r. ⌜ r ≡ halted st ⌝ }
+{
+    Progress {
+        left: 0,
+        bound: st.bound,
+        found: st.found,
+        stopped: true,
+    }
+}
+
+// A layout of this length was completed: from now on an end has to stay below it.
+pub fn complete(st: Progress, length: usize) -> Progress
+    ensures { λ r. ⌜ r ≡ completed st length ⌝ }
+{
+    Progress {
+        left: st.left,
+        bound: length,
+        found: true,
+        stopped: false,
+    }
+}
+
+// What is answered where the walk came so far.
+pub fn tell(budget: u32, st: Progress) -> RunAnswer
+    requires { ⌜ (st .left ≤ budget) × (st .bound ≤ 1001) ⌝ }
+    ensures { λ r. ⌜ r ≡ told (st .stopped) (st .found) (st .bound) (budget - st .left) ⌝ }
+{
+    let steps = budget - st.left;
+    let length = st.bound as u16;
+    if st.stopped {
+        if st.found {
+            return RunAnswer::Stopped(Held::Layout(length), steps);
+        }
+        return RunAnswer::Stopped(Held::Nothing, steps);
+    }
+    if st.found {
+        return RunAnswer::Shortest(length, steps);
+    }
+    RunAnswer::Infeasible(steps)
+}
