@@ -4,6 +4,7 @@ use Prim.Native.Nat.{ℕ, _+_, _-_, _%_, _^_, _≤_, _<_}
 use native.Mathlib.Nat.{mod-eq-of-lt}
 use native.Mathlib.Omega.{arith}
 use Rattle.words.specs.Bits.{bitsWhere, assignedBit}
+use Rattle.words.proofs.Bit.{bitsWhere-none, bitsWhere-next}
 use Rattle.model.specs.Candidate.{isCandidate}
 use Rattle.model.specs.Format.{content}
 use Rattle.candidates.specs.Placements.{offered}
