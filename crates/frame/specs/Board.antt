@@ -2,7 +2,7 @@
 use mathlib.Core.Bool.{Bool, not, _||_}
 use mathlib.Core.List.{List}
 use mathlib.Core.Path.{_≡_}
-use Prim.Native.Nat.{ℕ, _+_, _<_}
+use Prim.Native.Nat.{ℕ, _+_}
 use lib.Dec.{ltb}
 use Rattle.model.specs.Content.{board}
 use Rattle.model.specs.Content as Model
@@ -20,9 +20,6 @@ pub record BoardIn (s : List ℕ) (o : ℕ) (b : Board) : Type 0 where
   pub width : b .width ≡ wordAt s o
   pub len : b .length ≡ wordAt s (o + 2)
   pub step : b .step ≡ wordAt s (o + 4)
-  pub widthFits : b .width < 65536
-  pub lengthFits : b .length < 65536
-  pub stepFits : b .step < 65536
 
 -- Cause 4 of a board.
 unfoldable pub unfitBoard : Model.Board → Bool

@@ -1,13 +1,12 @@
 -- The causes as the code finds them are those of the model.
 use mathlib.Core.Bool.{Bool, true, false, not, cond, _||_}
 use mathlib.Core.List.{List, map, map-map}
-use mathlib.Core.Path.{_≡_, refl, sym, ap, ap₂, _∙_}
+use mathlib.Core.Path.{_≡_, refl, ap, ap₂, _∙_}
 use Prim.Native.Nat.{ℕ, _+_, _*_, _-_, _≤_}
 use native.Mathlib.Omega.{arith}
-use lib.Dec.{ltb}
 use lib.ListN.{length, take, drop, length-drop}
 use lib.Seq.{length-take-le}
-use Rattle.model.specs.Format.{byteAt, boardAt, classesAt, classesStated, kindsAt, kindsLength, kindsStated, boardOf, classAt, classesOf, distinct, kindBytes, kindsGot, kindsUnfit, cause1, cause2, cause3, cause4, cause5, cause6}
+use Rattle.model.specs.Format.{byteAt, boardAt, classesAt, classesStated, kindsAt, kindsLength, kindsStated, boardOf, classAt, classesOf, distinct, kindBytes, kindsGot, cause4, cause5, cause6}
 use Rattle.model.specs.Lists.{between, below}
 use Rattle.model.proofs.Folds.{map-same}
 use Rattle.frame.specs.Board.{boardFrom, unfitBoard}

@@ -1,19 +1,17 @@
 -- The best-ranked class, id by id, is the one whose gap the model takes, where no id occurs twice.
 use mathlib.Core.Bool.{Bool, true, false, not, cond, _&&_, _||_}
 use mathlib.Core.List.{List, [], _∷_, _++_, map}
-use mathlib.Core.Option.{Option, none, some}
 use mathlib.Core.Path.{_≡_, refl, sym, ap, ap₂, _∙_}
-use Prim.Native.Nat.{ℕ, zero, suc, _+_, _*_, _-_, _<_, _≤_}
+use Prim.Native.Nat.{ℕ, zero, suc, _+_, _*_, _-_, _<_}
 use native.Mathlib.Numerals.{add-one}
 use native.Mathlib.Omega.{arith}
 use borrow.Author.Tests.{lt-ltb, le-ltb, ltb-true, eqb-true, eqb-false, eq-eqb, ne-eqb, not-true}
 use lib.Dec.{eqb, ltb}
-use lib.ListN.{length}
 use Rattle.words.specs.Bits.{testBit}
 use Rattle.model.specs.Content.{SpacingClass, Kind}
 use Rattle.model.specs.Format.{byteAt, distinct, byRisingId}
 use Rattle.model.specs.Gap.{names, better, bestFrom, bestRanked, gapOr0}
-use Rattle.model.specs.Lists.{all, any, keep, concat, rising, below}
+use Rattle.model.specs.Lists.{any, keep, concat, rising, below}
 use Rattle.model.proofs.Folds.{keep-append, keep-none}
 use Rattle.model.proofs.Lists.{and-left, and-right}
 use Rattle.records.specs.Classes.{classFrom, classesFrom, entryAt, firstFrom, hasId, indexOf, distinctColumn}

@@ -1,8 +1,8 @@
 -- Laws of the loop that fills the tables of an accepted job's type records.
 use mathlib.Core.Bool.{true}
 use mathlib.Core.List.{List, [], _∷_, _++_, map}
-use mathlib.Core.Path.{_≡_, refl, sym, ap, ap₂, subst, _∙_}
-use Prim.Native.Nat.{ℕ, zero, suc, _+_, _*_, _-_, _<_, _≤_}
+use mathlib.Core.Path.{_≡_, sym, ap, ap₂, subst, _∙_}
+use Prim.Native.Nat.{ℕ, _+_, _*_, _-_, _<_}
 use native.Mathlib.Omega.{arith}
 use lib.ListN.{length, getD, drop, set, length-set}
 use lib.Seq.{getD-set-same, getD-set-other}
@@ -15,7 +15,7 @@ use Rattle.model.proofs.Records.{byte-first, byte-behind}
 use Rattle.records.specs.Classes.{classesFrom, distinctColumn}
 use Rattle.job.specs.Gaps.{bestBelow}
 use Rattle.job.specs.Places.{FoundAt, Placed}
-use Rattle.records.specs.Records.{sizeOf, valueOf, valuesOf, Reads}
+use Rattle.records.specs.Records.{sizeOf, valuesOf, Reads}
 use Rattle.job.specs.Table.{HeadIn, gapIn, Stored, Built}
 use Rattle.job.specs.declared.table.Head.{Head}
 use Rattle.job.specs.declared.table.Table.{Table}

@@ -1,20 +1,20 @@
 -- The view that is put together is that of the job, and cause 7 is what is read through it.
-use mathlib.Core.Bool.{Bool, true, false, not, cond, _||_}
-use mathlib.Core.List.{List, [], _∷_, map}
+use mathlib.Core.Bool.{Bool, true, false, cond, _||_}
+use mathlib.Core.List.{List, [], map}
 use mathlib.Core.Path.{_≡_, refl, sym, ap, ap₂, subst, subst₂, _∙_}
 use Prim.Native.Nat.{ℕ, _+_, _*_, _-_, _/_, _<_, _≤_, min}
 use native.Mathlib.Omega.{arith}
 use lib.ListN.{length, getD, take, drop, length-take, length-drop}
 use lib.Seq.{getD-take, getD-drop, take-all, drop-drop}
 use Rattle.model.specs.Content.{Part, Kind, noKind, kindAt, kindCount, pieceCount}
-use Rattle.model.specs.Format.{byteAt, wordAt, boardAt, Got, got, many, readPart, readKind, vertices, kindsAt, kindsLength, kindsStated, kindBytes, kindsGot, content, boardOf, classesAt, classesStated, cause1, cause2, cause3, cause4, cause5, cause6, cause7, refusal}
+use Rattle.model.specs.Format.{byteAt, wordAt, boardAt, got, many, readKind, vertices, kindsAt, kindsLength, kindsStated, kindBytes, kindsGot, content, boardOf, classesAt, classesStated, cause1, cause2, cause3, cause4, cause5, cause6, cause7, refusal}
 use Rattle.model.specs.Gap.{kindGap}
 use Rattle.model.specs.Lists.{any, sum}
 use Rattle.model.specs.Grid.{rows, columns}
 use Rattle.model.proofs.Causes.{NoCause, none-before, refusal-is, Sections, sections, BoardFits, board-fits, classes-distinct, KindsFit, kinds-fit}
 use Rattle.model.proofs.Folds.{any-take-more}
 use Rattle.model.proofs.Readers.{many-length}
-use Rattle.model.proofs.Records.{byte-behind, byte-first, length-vertices, vertices-same, PartRead, part-read}
+use Rattle.model.proofs.Records.{byte-behind, length-vertices, vertices-same, part-read}
 use Rattle.frame.specs.Board.{BoardIn}
 use Rattle.frame.specs.declared.board.Board.{Board}
 use Rattle.records.specs.Classes.{classesFrom, distinctColumn}
@@ -25,7 +25,7 @@ use Rattle.job.specs.Soundness.{badPart, badAt, badKind}
 use Rattle.job.specs.Table.{gapIn, Stored, Built}
 use Rattle.job.specs.declared.View.{View}
 use Rattle.job.specs.declared.table.Table.{Table}
-use Rattle.job.specs.View.{PartAt, KindIn, ViewOf}
+use Rattle.job.specs.View.{PartAt, ViewOf}
 use Rattle.records.specs.Parts.{unfitFrom}
 use Rattle.records.proofs.PartLaws.{unfit-same}
 use Rattle.job.proofs.CauseLaws.{classes-are, ids-distinct, list-is, list-length}

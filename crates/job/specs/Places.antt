@@ -1,11 +1,11 @@
 -- Where the parts of a type record begin.
 use mathlib.Core.List.{List, []}
 use mathlib.Core.Path.{_≡_}
-use Prim.Native.Nat.{ℕ, _+_, _<_, _≤_}
+use Prim.Native.Nat.{ℕ, _+_, _<_}
 use lib.ListN.{length, getD, drop}
 use Rattle.model.specs.Content.{Part}
-use Rattle.model.specs.Format.{Got, got, many, readPart}
-use Rattle.records.specs.Records.{sizeOf, valueOf, valuesOf}
+use Rattle.model.specs.Format.{got, many, readPart}
+use Rattle.records.specs.Records.{sizeOf, valuesOf}
 
 -- The part P stands o bytes behind a place at which the bytes s begin, base bytes from the front.
 pub record FoundAt (s : List ℕ) (base o : ℕ) (P : Part) : Type 0 where

@@ -8,7 +8,7 @@ use borrow.Author.Tests.{lt-ltb, le-ltb, eq-eqb, ne-eqb}
 use lib.ListN.{length, length-append, take, drop}
 use Rattle.words.specs.Number.{count}
 use Rattle.model.specs.Content.{kindCount, pieceCount}
-use Rattle.model.specs.Format.{wordAt, boardAt, boardOf, classesAt, classesStated, classesOf, byRisingId, kindsAt, kindsLength, kindsStated, kindBytes, kindsGot, many, readKind, content, refusal}
+use Rattle.model.specs.Format.{wordAt, boardAt, boardOf, classesAt, classesStated, classesOf, byRisingId, kindsAt, kindsLength, kindsStated, kindBytes, kindsGot, readKind, content, refusal}
 use Rattle.model.specs.Lists.{concat, below, rising}
 use Rattle.model.specs.Services.{writeOutcome, numbersIn, withNumbers, kindNumbers, contentNumbers, readContent}
 use Rattle.model.specs.Services as Services

@@ -3,7 +3,7 @@ use mathlib.Core.Bool.{true, false}
 use mathlib.Core.List.{List, [], _∷_, _++_, map}
 use mathlib.Core.Path.{_≡_, refl, sym, ap, ap₂, _∙_}
 use Prim.Native.Nat.{ℕ, _+_, _*_, _-_, _<_, _≤_}
-use native.Mathlib.Nat.{add-assoc, add-zero}
+use native.Mathlib.Nat.{add-assoc}
 use native.Mathlib.Omega.{arith}
 use lib.ListN.{length, length-map, drop}
 use Rattle.model.specs.Content.{Part, Kind}
@@ -15,7 +15,7 @@ use Rattle.model.proofs.Lists.{length-below}
 use Rattle.model.proofs.Readers.{many-sum}
 use Rattle.model.proofs.Records.{byte-first, byte-behind, length-vertices, part-read, kind-read}
 use Rattle.records.specs.Parts.{vertexFrom, partFrom}
-use Rattle.records.specs.Records.{valueOf, valuesOf, Reads}
+use Rattle.records.specs.Records.{Reads}
 use Rattle.records.proofs.NextLaws.{PartNext, nextKind, kind-next, kind-begins, kind-values, kind-parts}
 use Rattle.records.proofs.PartLaws.{part-corners}
 use Rattle.records.proofs.RecordLaws.{values-from}

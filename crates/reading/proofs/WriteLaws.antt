@@ -1,23 +1,23 @@
 -- Laws of numbers written one after the other.
 use mathlib.Core.Bool.{Bool, true, false, _&&_, false≢true}
 use mathlib.Core.List.{List, [], _∷_, _++_, map, append-assoc, append-nil}
-use mathlib.Core.Path.{_≡_, refl, sym, ap, ap₂, subst, _∙_}
+use mathlib.Core.Path.{_≡_, refl, sym, ap, ap₂, _∙_}
 use Prim.Native.Nat.{ℕ, zero, suc, _+_, _*_, _-_, _<_, _≤_}
 use native.Mathlib.Numerals.{add-one}
 use native.Mathlib.Omega.{arith}
 use borrow.Author.Tests.{le-ltb, ltb-true, ltb-false}
 use lib.Dec.{ltb}
 use lib.IntN.{pos, negsuc}
-use lib.ListN.{length, length-map, take, drop, length-append, length-drop, take-append-drop}
+use lib.ListN.{length, length-map, take, drop, length-append, take-append-drop}
 use lib.Seq.{length-take-le, take-at, drop-at, drop-drop}
 use mir.Val.{sel}
 use Rattle.integers.specs.Byte.{signed}
 use Rattle.integers.proofs.Bytes.{signed-low, signed-toZ}
-use Rattle.words.specs.Number.{bytes, bytesOf, withNumber, filled}
+use Rattle.words.specs.Number.{bytesOf, withNumber, filled}
 use Rattle.words.proofs.Row.{length-bytesOf, bytesOf-append}
 use Rattle.model.specs.Content.{Vertex}
 use Rattle.model.specs.Lists.{concat, below, rising}
-use Rattle.model.specs.Services.{coordinate, vertexNumbers, partNumbers}
+use Rattle.model.specs.Services.{coordinate, vertexNumbers}
 use Rattle.model.proofs.Folds.{map-append, map-below-more, concat-more}
 use Rattle.model.specs.Format.{byteAt, Got, got, many}
 use Rattle.model.proofs.Lists.{length-below}
@@ -44,10 +44,6 @@ written-all ns s = let e : (0 + length ns) * 2 ≡ length ns * 2 = omega arith i
 module _ (at : ℕ) (ns s : List ℕ) (fits : (at + length ns) * 2 ≤ length s) where
   head-length : length (take (at * 2) s ++ bytesOf 2 ns) ≡ (at + length ns) * 2
   head-length = rw (length-append, length-take-le (at * 2) s (omega arith), length-bytesOf) (omega arith)
-
-  pub length-written : length (written at ns s) ≡ length s
-  unfolding written
-  length-written = rw (length-append (take (at * 2) s ++ bytesOf 2 ns), head-length, length-drop) (omega arith)
 
   pub written-more : (ms : List ℕ) → written (at + length ns) ms (written at ns s) ≡ written at (ns ++ ms) s
   unfolding written

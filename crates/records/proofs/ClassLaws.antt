@@ -1,19 +1,18 @@
 -- Laws of the loops over the class list, and of the class that an id finds.
 use mathlib.Core.Bool.{Bool, true, false, not, cond, _&&_, _||_}
-use mathlib.Core.List.{List, [], _∷_, _++_, map, map-map}
+use mathlib.Core.List.{List, _++_, map}
 use mathlib.Core.Path.{_≡_, refl, sym, ap, _∙_}
-use Prim.Native.Nat.{ℕ, zero, suc, _+_, _*_, _-_, _<_, _≤_}
-use native.Mathlib.Nat.{zero-add, add-zero}
+use Prim.Native.Nat.{ℕ, zero, suc, _+_, _*_, _-_, _<_}
 use native.Mathlib.Numerals.{add-one}
 use native.Mathlib.Omega.{arith}
-use borrow.Author.Tests.{eqb-true, eq-eqb, ne-eqb, lt-ltb, le-ltb}
-use lib.Dec.{eqb, ltb}
+use borrow.Author.Tests.{eq-eqb, ne-eqb}
+use lib.Dec.{eqb}
 use Rattle.model.specs.Content.{SpacingClass}
-use Rattle.model.specs.Format.{byteAt, classInRange, distinct}
-use Rattle.model.specs.Lists.{all, any, keep, concat, rising, below}
+use Rattle.model.specs.Format.{classInRange, distinct}
+use Rattle.model.specs.Lists.{all, any, concat, rising, below}
 use Rattle.model.proofs.Box.{all-map}
 use Rattle.model.proofs.Folds.{map-below-more, concat-more}
-use Rattle.records.specs.Classes.{classFrom, classesFrom, entryAt, allInRange, distinctColumn, firstFrom, hasId, indexOf, classesOfId, risenBelow}
+use Rattle.records.specs.Classes.{classFrom, entryAt, allInRange, distinctColumn, firstFrom, hasId, indexOf, classesOfId, risenBelow}
 
 -- The record of class j is in range.
 abbrev pub inRangeAt : List ℕ → ℕ → ℕ → Bool

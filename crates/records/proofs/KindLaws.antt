@@ -2,21 +2,20 @@
 use mathlib.Core.Bool.{Bool, true, false, not, cond, _&&_, _||_}
 use mathlib.Core.List.{List, [], _∷_, _++_, map}
 use mathlib.Core.Path.{_≡_, refl, sym, ap, ap₂, _∙_}
-use Prim.Native.Nat.{ℕ, zero, suc, _+_, _*_, _-_, _<_, _≤_}
+use Prim.Native.Nat.{ℕ, zero, suc, _+_, _*_, _-_, _≤_}
 use native.Mathlib.Omega.{arith}
 use borrow.Author.Tests.{lt-ltb, le-ltb}
 use lib.Dec.{eqb, ltb}
 use lib.ListN.{length, drop}
-use Rattle.words.specs.Bits.{testBit}
 use Rattle.model.specs.Content.{SpacingClass, Kind, noKind}
-use Rattle.model.specs.Format.{byteAt, Got, bad, got, many, readKind, namesPresent, kindsUnfit}
+use Rattle.model.specs.Format.{byteAt, bad, got, many, readKind, namesPresent, kindsUnfit}
 use Rattle.model.specs.Lists.{all, any, sum, rising, below}
-use Rattle.model.proofs.Folds.{all-numbers-more, all-more, sum-more, map-append}
-use Rattle.model.proofs.Records.{byte-first, byte-behind, KindRead, kind-read}
+use Rattle.model.proofs.Folds.{all-more, sum-more, map-append}
+use Rattle.model.proofs.Records.{byte-first, byte-behind, kind-read}
 use Rattle.records.specs.Classes.{classFrom, classesFrom, entryAt, firstFrom, hasId, indexOf}
 use Rattle.records.specs.Kinds.{present, notAbsent, absentNone, listUnfit}
 use Rattle.records.specs.Records.{sizeOf, valueOf, valuesOf, Reads}
-use Rattle.records.proofs.RecordLaws.{next-got, kind-none, values-none, values-more, size-is}
+use Rattle.records.proofs.RecordLaws.{next-got, kind-none, values-none, values-more}
 
 -- ---- The classes that a mask names
 

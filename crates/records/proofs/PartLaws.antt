@@ -1,15 +1,15 @@
 -- Laws of the loops over a part's corners, and that they judge the part that the model reads.
-use mathlib.Core.Bool.{Bool, true, false, not, cond, _&&_, _||_}
-use mathlib.Core.List.{List, [], _∷_, _++_, map}
-use mathlib.Core.Path.{_≡_, refl, sym, ap, ap₂, _∙_}
-use Prim.Native.Nat.{ℕ, zero, suc, _+_, _*_, _-_, _<_, _≤_}
+use mathlib.Core.Bool.{Bool, true, false, not, cond, _||_}
+use mathlib.Core.List.{List}
+use mathlib.Core.Path.{_≡_, refl, sym, ap, _∙_}
+use Prim.Native.Nat.{ℕ, _+_, _*_, _-_, _<_}
 use native.Mathlib.Numerals.{add-one}
 use native.Mathlib.Omega.{arith}
-use borrow.Author.Tests.{eq-eqb, ne-eqb, eqb-true, eqb-false}
+use borrow.Author.Tests.{eqb-false}
 use lib.Dec.{eqb}
 use lib.IntN.{ℤ, pos, _-ℤ_, _*ℤ_}
 use lib.Signed.{ltZ}
-use lib.ListN.{length, getD, drop, length-map, List·getD-map}
+use lib.ListN.{getD, drop, length-map}
 use lib.Seq.{ext-getD}
 use mir.Syntax.{w8, w16}
 use mir.Val.{Fits, SFits, toZ, ofZ}
@@ -18,11 +18,11 @@ use Rattle.integers.proofs.Machine.{fits₂, gives₂}
 use Rattle.integers.proofs.Sizes.{sized}
 use Rattle.integers.proofs.Solver.{_⊟_}
 use Rattle.integers.specs.Byte.{signed}
-use Rattle.model.specs.Content.{Vertex, vertex, Part, origin}
+use Rattle.model.specs.Content.{Vertex, origin}
 use Rattle.model.specs.Format.{byteAt, vertices, vertexInRange}
 use Rattle.model.specs.Geometry.{strictlyLeft, vertexAt, following, edgeSound}
 use Rattle.model.specs.Geometry as Geometry
-use Rattle.model.specs.Lists.{all, rising, below}
+use Rattle.model.specs.Lists.{all, below}
 use Rattle.model.proofs.Box.{all-map}
 use Rattle.model.proofs.Folds.{getD-map-at, all-same}
 use Rattle.model.proofs.Lists.{length-below, getD-below}

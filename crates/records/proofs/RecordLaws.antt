@@ -1,19 +1,19 @@
 -- Laws of the readers of records: sizes, and one record more.
 use mathlib.Core.Bool.{Bool, true, false, cond, _&&_}
 use mathlib.Core.List.{List, [], _∷_, _++_}
-use mathlib.Core.Path.{_≡_, refl, sym, ap, ap₂, subst, _∙_}
-use Prim.Native.Nat.{ℕ, zero, suc, _+_, _-_, _*_, _<_, _≤_}
+use mathlib.Core.Path.{_≡_, refl, sym, ap, ap₂, _∙_}
+use Prim.Native.Nat.{ℕ, _+_, _-_, _*_, _<_, _≤_}
 use native.Mathlib.Omega.{arith}
 use borrow.Author.Tests.{le-leb, lt-leb, leb-true}
-use lib.Dec.{leb, ltb}
+use lib.Dec.{leb}
 use lib.ListN.{length, take, drop, length-drop}
 use lib.Seq.{take-all}
-use Rattle.model.specs.Content.{Part, Kind, noKind}
+use Rattle.model.specs.Content.{Part, Kind}
 use Rattle.model.specs.Format.{byteAt, Got, bad, got, many, readPart, readKind, headInRange, withParts, vertices}
 use Rattle.model.specs.Lists.{between}
-use Rattle.model.proofs.Lists.{and-right, and-four}
+use Rattle.model.proofs.Lists.{and-four}
 use Rattle.model.proofs.Readers.{many-none, many-more, many-bad, many-least}
-use Rattle.model.proofs.Records.{between-both, PartRead, part-read, KindRead, kind-read}
+use Rattle.model.proofs.Records.{between-both, part-read, kind-read}
 use Rattle.records.specs.Records.{sizeOf, valueOf, valuesOf, Reads}
 
 -- A piece of a slice from a place to its end.

@@ -1,11 +1,11 @@
 -- The classes that stand in a job's bytes from a place on, and what is asked of them.
 use mathlib.Core.Bool.{Bool, not, cond, _||_}
 use mathlib.Core.List.{List, map}
-use Prim.Native.Nat.{ℕ, zero, suc, _+_, _*_, _-_}
+use Prim.Native.Nat.{ℕ, zero, suc, _+_, _*_}
 use lib.Dec.{ltb, eqb}
 use Rattle.model.specs.Content.{SpacingClass, spacingClass}
 use Rattle.model.specs.Format.{byteAt, classInRange, distinct}
-use Rattle.model.specs.Lists.{all, any, keep, concat, rising, below}
+use Rattle.model.specs.Lists.{all, keep, concat, below}
 
 -- The class whose record begins at byte o.
 abbrev pub classFrom : List ℕ → ℕ → SpacingClass

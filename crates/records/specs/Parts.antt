@@ -1,12 +1,12 @@
 -- A part as it stands in bytes that begin at it: corner i has its x at byte 2 i + 1 and its y behind that.
-use mathlib.Core.Bool.{Bool, not, cond, _&&_, _||_}
+use mathlib.Core.Bool.{Bool, not, cond, _||_}
 use mathlib.Core.List.{List, map}
 use Prim.Native.Nat.{ℕ, _+_, _*_}
 use lib.Dec.{eqb}
 use Rattle.integers.specs.Byte.{signed}
 use Rattle.model.specs.Content.{Vertex, vertex, Part}
 use Rattle.model.specs.Format.{byteAt, vertexInRange}
-use Rattle.model.specs.Geometry.{strictlyLeft, sound}
+use Rattle.model.specs.Geometry.{strictlyLeft}
 use Rattle.model.specs.Lists.{all, below}
 
 -- Corner i.

@@ -2,11 +2,9 @@
 use crate::classes;
 use crate::sizes;
 use frame::fields;
-ghost use mathlib.Core.Bool.{Bool};
 ghost use mathlib.Core.Path.{_≡_};
 ghost use Prim.Native.Nat.{_+_, _*_, _≤_, _<_};
 ghost use lib.ListN.{length};
-ghost use Rattle.model.specs.Format.{kindsUnfit, many, readKind};
 ghost use Rattle.records.specs.Classes.{classesFrom};
 ghost use Rattle.records.specs.Kinds.{named, absentNone, listUnfit};
 

@@ -9,7 +9,7 @@ ghost use lib.IntN.{negsuc, _-ℤ_};
 ghost use lib.ListN.{length};
 ghost use lib.Signed.{leZ};
 ghost use Rattle.integers.specs.Byte.{signed};
-ghost use Rattle.model.specs.Format.{byteAt, vertexInRange};
+ghost use Rattle.model.specs.Format.{byteAt};
 ghost use Rattle.model.specs.Geometry.{strictlyLeft};
 ghost use Rattle.records.specs.Parts.{vertexFrom, nextOf, edgeSoundFrom, soundFrom, inRangeFrom, unfitFrom};
 

@@ -1,5 +1,5 @@
 use mathlib.Core.Bool.{true, false}
-use mathlib.Core.Path.{_≡_, sym, ap, _∙_}
+use mathlib.Core.Path.{sym, _∙_}
 use native.Mathlib.Omega.{arith}
 use Rattle.job.proofs.ViewLaws.{refusal-six, refusal-seven, few-kinds}
 use borrow.Author.Needs.{needs}

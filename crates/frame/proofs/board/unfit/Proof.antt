@@ -1,7 +1,7 @@
 use mathlib.Core.Path.{ap, ap₂, _∙_}
 use Prim.Native.Nat.{_*_}
 use lib.Dec.{ltb}
-use Rattle.frame.proofs.BoardLaws.{dots-fit, Divides, divides, judged}
+use Rattle.frame.proofs.BoardLaws.{dots-fit, divides, judged}
 use borrow.Author.Needs.{needs}
 use Rattle.frame.proofs.board.unfit.Statement.{statement}
 use Rattle.frame.proofs.board.unfit.Tie as tie

@@ -7,7 +7,6 @@ use Rattle.model.specs.Content.{kindAt}
 use Rattle.model.specs.Format.{content}
 use Rattle.model.specs.Lists.{any}
 use Rattle.job.specs.Soundness.{badPart}
-use Rattle.job.specs.View.{PartAt, KindIn}
 use Rattle.job.proofs.ViewLaws.{any-none, part-room, parts-more, parts-all}
 use borrow.Author.Needs.{needs}
 use Rattle.job.proofs.accepted.kind_refused.Statement.{statement}

@@ -1,4 +1,3 @@
-use mathlib.Core.Path.{_≡_, sym, ap, _∙_}
 use native.Mathlib.Omega.{arith}
 use Rattle.records.proofs.RecordLaws.{tail-length}
 use Rattle.job.proofs.ViewLaws.{part-judged}

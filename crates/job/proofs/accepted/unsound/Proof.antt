@@ -7,7 +7,6 @@ use Rattle.model.specs.Content.{kindCount}
 use Rattle.model.specs.Format.{content}
 use Rattle.model.specs.Lists.{any}
 use Rattle.job.specs.Soundness.{badKind}
-use Rattle.job.specs.View.{ViewOf}
 use Rattle.job.proofs.ViewLaws.{any-none, kinds-more, kinds-all}
 use borrow.Author.Needs.{needs}
 use Rattle.job.proofs.accepted.unsound.Statement.{statement}

@@ -1,7 +1,5 @@
-use mathlib.Core.Path.{_≡_, refl, sym, ap, _∙_}
-use Prim.Native.Nat.{_≤_}
+use mathlib.Core.Path.{refl}
 use native.Mathlib.Omega.{arith}
-use Rattle.model.specs.Format.{boardOf}
 use Rattle.job.proofs.ViewLaws.{inside, board-in, kinds-in, ids-in, list-reads, length-list, view-is, board-read}
 use borrow.Author.Needs.{needs}
 use Rattle.job.proofs.accepted.view_of.Statement.{statement}

@@ -1,14 +1,7 @@
-use mathlib.Core.Bool.{cond, true, false}
-use mathlib.Core.Bool.{_&&_}
-use mathlib.Core.Path.{_≡_, sym, ap, ap₂, _∙_}
 use Prim.Native.Nat.{_<_}
 use native.Mathlib.Omega.{arith}
 use borrow.Author.Tests.{ltb-true}
-use lib.Dec.{ltb}
-use Rattle.words.specs.Bits.{testBit}
 use Rattle.model.proofs.Lists.{and-left}
-use Rattle.records.specs.Classes.{indexOf}
-use Rattle.job.specs.Gaps.{offered, offeredId}
 use Rattle.job.proofs.GapLaws.{offered-yes, offered-no}
 use borrow.Author.Needs.{needs}
 use Rattle.job.proofs.gaps.offer_id.Statement.{statement}

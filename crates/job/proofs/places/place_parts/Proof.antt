@@ -5,7 +5,7 @@ use Rattle.model.specs.Format.{many, readPart}
 use Rattle.job.specs.Places.{Placed}
 use Rattle.records.specs.Records.{Reads}
 use Rattle.job.proofs.PlaceLaws.{placed-none, placed-more, placed-end}
-use Rattle.records.proofs.NextLaws.{PartNext, parts-start, parts-end, part-begins, part-next}
+use Rattle.records.proofs.NextLaws.{parts-start, parts-end, part-begins, part-next}
 use borrow.Author.Needs.{needs}
 use Rattle.job.proofs.places.place_parts.Statement.{statement}
 use Rattle.job.proofs.places.place_parts.Tie as tie

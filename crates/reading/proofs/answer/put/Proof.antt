@@ -1,4 +1,4 @@
-use mathlib.Core.Path.{_≡_, _∙_}
+use mathlib.Core.Path.{_∙_}
 use Rattle.reading.proofs.WriteLaws.{written-one}
 use borrow.Author.Needs.{needs}
 use Rattle.reading.proofs.answer.put.Statement.{statement}

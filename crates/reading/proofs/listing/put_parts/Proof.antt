@@ -5,7 +5,7 @@ use lib.ListN.{length, drop}
 use Rattle.model.specs.Format.{many, readPart}
 use Rattle.model.specs.Services.{partNumbers}
 use Rattle.records.specs.Records.{Reads}
-use Rattle.records.proofs.NextLaws.{PartNext, parts-start, parts-end, part-begins, part-next}
+use Rattle.records.proofs.NextLaws.{parts-start, parts-end, part-begins, part-next}
 use Rattle.reading.specs.Write.{written, partsNumbers}
 use Rattle.reading.proofs.ListingLaws.{part-each, parts-more, parts-done}
 use Rattle.reading.proofs.WriteLaws.{records-none}

@@ -1,7 +1,6 @@
 use mathlib.Core.Path.{_≡_, sym, _∙_}
 use Prim.Native.Nat.{_≤_, _-_}
 use native.Mathlib.Omega.{arith}
-use Rattle.model.specs.Format.{byteAt}
 use Rattle.records.specs.Classes.{firstFrom, hasId, indexOf}
 use Rattle.records.proofs.ClassLaws.{index-start, index-found, index-next, index-none}
 use borrow.Author.Needs.{needs}
