@@ -1,22 +1,68 @@
-// Every small board of document 01, marked and unmarked, put through the compiled services: a line or more for each, held to `stdout`.
-mod jobs;
-mod pairs;
-mod refusals;
-mod runs;
+// Every small board of document 01, marked and unmarked, put through the compiled services. The boards, and what is asked of each, are
+// this program's input, `stdin`; a line or more for each answer is held to `stdout`.
+ghost use Prim.Native.Nat.{_≤_};
+ghost use lib.ListN.{length};
+use input::Numbers;
+use libc::STDIN_FILENO;
+use libc::STDOUT_FILENO;
+
+mod input;
 mod show;
 
+// The budget of a run: the one that is given, or else the command program's.
+fn budget_of(given: usize, number: u8) -> u32 {
+    if given == 0 { 1000000 } else { number as u32 }
+}
+
+// The question of this word about a job: read, row, check or run, told by its second letter.
+fn ask(word: u8, job: Numbers, asked: Numbers)
+    requires { ⌜ (job .count ≤ length (job .bytes)) × (asked .count ≤ length (asked .bytes)) ⌝ }
+{
+    let bytes = job.bytes;
+    let size = job.count;
+    let given = asked.bytes;
+    let count = asked.count;
+    let job = &bytes[0..size];
+    match word {
+        b'e' => show::read(job),
+        b'o' => show::row(job, given[0]),
+        b'h' => show::check(job, &given[0..count]),
+        _ => show::run(job, budget_of(count, given[0])),
+    }
+}
+
+// The answer to the question at `at`, behind the name of its board. The bytes of the job are in the line below the name.
+fn answer(text: &[u8], name: usize, at: usize, word: u8)
+    requires { ⌜ (name ≤ length (now text)) × (at ≤ length (now text)) ⌝ }
+{
+    let end = bytes::scan::find(text, name, text.len(), b'\n');
+    if name + 5 <= end {
+        io::write_all(STDOUT_FILENO, &text[name + 5..end]);
+        ask(
+            word,
+            input::numbers_at(text, end + 6),
+            input::numbers_at(text, at + 5),
+        );
+    }
+}
+
+// Each line is the name of a board, the bytes of its job, a question, or a remark.
+fn answer_all(text: &[u8]) {
+    let mut name = 0;
+    let mut at = 0;
+    while at + 1 < text.len() {
+        let word = text[at + 1];
+        match word {
+            b'a' => name = at,
+            b'e' | b'o' | b'h' | b'u' => answer(text, name, at, word),
+            _ => (),
+        }
+        at = bytes::scan::find(text, at, text.len(), b'\n') + 1;
+    }
+}
+
 fn main() {
-    runs::budgets();
-    runs::lengths();
-    runs::gaps();
-    runs::triangles();
-    runs::strips();
-    runs::parts_that_overlap();
-    runs::bars();
-    runs::classes();
-    pairs::meeting();
-    pairs::apart_by_a_gap();
-    refusals::dots();
-    refusals::corners();
-    refusals::star();
+    let mut input = [0u8; 32768];
+    let n = io::read_full(STDIN_FILENO, &mut input);
+    answer_all(&input[0..n]);
 }

@@ -84,7 +84,6 @@ bit-member s k i h e = go (le-or-lt 64 i)
 pub bits-where : (p : ℕ → Bool) (first v : ℕ) → v ≡ bitsWhere 64 (λ i. p (first + i)) → (i : ℕ) → i < 64 → testBit v i ≡ p (first + i)
 bits-where p first v e i l = ap (λ (w : ℕ). testBit w i) e ∙ testBit-bitsWhere 64 (λ i. p (first + i)) i l
 
-
 -- ---- A set made from the one of the level before
 
 module _ (j : Job) (bound t n u from to words : ℕ) (work₀ work : List ℕ) (r : Narrowable j t n u from to words work₀) (k : ℕ) (h : k < words)

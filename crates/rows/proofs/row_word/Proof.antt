@@ -48,9 +48,9 @@ loop-again c =
     let bits : ℕ → Bool = λ k. bitOf (e .args .view) (e .args .boxes) (now (e .args .turned)) (e .args .p) (e .args .a) (e .args .q) (e .args .u) (e .args .gap) (e .args .w * 64 + k) in (
       omega arith,
       c .assign-bit .ensures
-      ∙ ap (assignedBit on (at .loop .word)) (mod-eq-of-lt (omega arith))
-      ∙ ap (λ (w : ℕ). assignedBit on w i) (at .loop .inv .1)
-      ∙ bitsWhere-next bits i on (c .before .row-bit .ensures),
+          ∙ ap (assignedBit on (at .loop .word)) (mod-eq-of-lt (omega arith))
+          ∙ ap (λ (w : ℕ). assignedBit on w i) (at .loop .inv .1)
+          ∙ bitsWhere-next bits i on (c .before .row-bit .ensures),
     )
 
 returns : tie.Need-returns Inv-loop μ-loop

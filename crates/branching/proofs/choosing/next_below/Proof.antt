@@ -37,7 +37,7 @@ larger-requires : tie.Need-larger-requires Inv-loop μ-loop
 larger-requires c κs = search needs
 
 returns : tie.Need-returns Inv-loop μ-loop
-returns c = passing-ends _ _ _ _ _ _ _ _ (c .before .before .before .before .loop .inv .1) (c .before .before .end-of .result) _ (c .before .before .before .loop-test .taken) (c .before .before .end-of .ensures) (c .before .if1 .taken) (c .larger .ensures)
+returns c = passing-ends _ _ _ _ _ _ _ _ (c .before .before .before .before .loop .inv .1) (c .before .before .end-of .result) _ (c .before .before .before .loop-test .taken) (c .before .before .end-of .ensures) (omega (arith, c .before .if1 .taken)) (c .larger .ensures)
 
 cast-next-member-2 : tie.Need-cast-next-member-2 Inv-loop μ-loop
 cast-next-member-2 c = omega (arith, few (c .before .before .before .before .before .before .before))
@@ -50,7 +50,7 @@ next-member-requires-2 c κs = c .before .before .before .before .before .before
 
 -- The next member is larger, and nothing between them is one.
 next : (c : tie.After-next-member2 Inv-loop μ-loop) → (c .before .before .before .before .loop .n < c .next-member2 .result) × Passing (content (c .before .before .before .before .before .before .before .before .args .job .now)) (c .before .before .before .before .before .before .before .before .args .u) (c .before .before .before .before .before .before .before .before .args .bound) (c .before .before .before .before .before .before .before .before .args .set .now) (c .before .before .before .before .before .before .before .before .args .plan .words * 64) (c .before .before .before .before .before .before .before .before .args .from) (c .next-member2 .result)
-next c = passing-next _ _ _ _ _ _ (c .before .before .before .before .loop .n) (c .next-member2 .result) (c .before .before .before .before .loop .inv .1) (c .before .before .before .loop-test .taken) (rw (← (c .before .before .end-of .ensures)) (c .before .if1 .left)) (c .next-member2 .ensures)
+next c = passing-next _ _ _ _ _ _ (c .before .before .before .before .loop .n) (c .next-member2 .result) (c .before .before .before .before .loop .inv .1) (c .before .before .before .loop-test .taken) (omega (arith, c .before .before .end-of .ensures, c .before .if1 .left)) (c .next-member2 .ensures)
 
 loop-less : tie.Need-loop-less Inv-loop μ-loop
 loop-less c = omega (arith, next c .0, c .before .before .before .loop-test .taken)
