@@ -1,5 +1,5 @@
 // A line of the input has a word in five columns, and then numbers in three columns each: a space and two hexadecimal digits.
-ghost use Prim.Native.Nat.{_+_, _≤_, _<_};
+ghost use Prim.Native.Nat.{_+_, _≤_};
 ghost use lib.ListN.{length};
 
 // The numbers of a line, a byte each, and how many there are.
@@ -8,11 +8,9 @@ pub struct Numbers {
     pub count: usize,
 }
 
-// The value of a hexadecimal digit, a capital letter where it is above 9.
-fn digit(b: u8) -> u8
-    ensures { λ r. ⌜ r < 16 ⌝ }
-{
-    (b % 16 + b / 64 * 9) % 16
+// The byte that two hexadecimal digits say. Those above 9 are capital letters, so that 64 is in them and not in the others.
+fn byte_of(high: u8, low: u8) -> u8 {
+    (high % 16 + high / 64 * 9) % 16 * 16 + (low % 16 + low / 64 * 9) % 16
 }
 
 // The numbers from this column on.
@@ -30,7 +28,7 @@ pub fn numbers_at(text: &[u8], from: usize) -> Numbers
         if text[p] != b' ' {
             break;
         }
-        bytes[count] = digit(text[p + 1]) * 16 + digit(text[p + 2]);
+        bytes[count] = byte_of(text[p + 1], text[p + 2]);
         count += 1;
         p += 3;
     }

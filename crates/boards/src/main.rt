@@ -63,6 +63,6 @@ fn answer_all(text: &[u8]) {
 
 fn main() {
     let mut input = [0u8; 32768];
-    let n = io::read_full(STDIN_FILENO, &mut input);
-    answer_all(&input[0..n]);
+    io::read_full(STDIN_FILENO, &mut input);
+    answer_all(&input);
 }

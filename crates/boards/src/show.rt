@@ -18,12 +18,12 @@ fn say_last(words: &[u8], n: u64) {
 
 // What the command program would print of a run of the job.
 pub fn run(job: &[u8], budget: u32) {
+    say(b", budget ", budget as u64);
+    io::write_all(STDOUT_FILENO, b": ");
     let mut work = [0u8; 49152];
     let mut answer = [0u8; 96];
     let mut text = [0u8; 512];
     let len = command::respond(job, budget, &mut work, &mut answer, &mut text);
-    say(b", budget ", budget as u64);
-    io::write_all(STDOUT_FILENO, b": ");
     io::write_all(STDOUT_FILENO, &text[0..len]);
 }
 
