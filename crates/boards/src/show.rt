@@ -29,7 +29,7 @@ pub fn run(job: &[u8], budget: u32) {
 
 // The length of the layout, or the refusal.
 pub fn check(job: &[u8], layout: &[u8]) {
-    match layouts::check(job, layout) {
+    match checking::check(job, layout) {
         Checked::Refused(n) => say_last(b": check refused ", n as u64),
         Checked::Passes(len) => say_last(b": check passes ", len as u64),
     }

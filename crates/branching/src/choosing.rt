@@ -8,7 +8,7 @@ ghost use Rattle.model.specs.Candidate.{isCandidate};
 ghost use Rattle.model.specs.Content.{pieceCount};
 ghost use Rattle.model.specs.Format.{content};
 ghost use Rattle.model.specs.Services.{workWords};
-ghost use Rattle.plans.specs.Known.{PlanOf};
+ghost use Rattle.plans.specs.Planned.{PlanOf};
 ghost use Rattle.stepping.specs.Levels.{pieceKind, placedOf};
 ghost use Rattle.stepping.specs.Slots.{slotOf, KeepsSince};
 ghost use Rattle.branching.specs.Choosing.{NextBelow, NextLive};

@@ -16,7 +16,7 @@ use Rattle.candidates.specs.Conflicts.{placedOf, conflictBetween}
 use Rattle.nofit.specs.declared.offsets.Window.{Window}
 use Rattle.shapes.specs.declared.pieces.Piece.{Piece}
 use Rattle.candidates.proofs.PreparedLaws.{numbers-conflict}
-use Rattle.plans.specs.Known.{Known}
+use Rattle.live_sets.specs.Known.{Known}
 use Rattle.plans.proofs.PlanLaws.{plan-viewed}
 use Rattle.live_sets.specs.Narrowing.{stays}
 use Rattle.plans.specs.declared.plan.Plan.{Plan}

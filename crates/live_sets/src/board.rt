@@ -5,7 +5,7 @@ ghost use Rattle.model.specs.Candidate.{isCandidate};
 ghost use Rattle.model.specs.Format.{content};
 ghost use Rattle.model.specs.Layout.{entryOf, conflict};
 ghost use Rattle.candidates.specs.Conflicts.{placedOf};
-ghost use Rattle.plans.specs.Known.{Known};
+ghost use Rattle.live_sets.specs.Known.{Known};
 ghost use Rattle.live_sets.specs.Narrowing.{stays};
 use candidates::conflicts::Placed;
 use candidates::conflicts::conflict_between;

@@ -7,7 +7,7 @@ ghost use Rattle.words.specs.Sets.{member};
 ghost use Rattle.model.specs.Candidate.{isCandidate};
 ghost use Rattle.model.specs.Format.{content};
 ghost use Rattle.candidates.specs.Conflicts.{placedOf};
-ghost use Rattle.plans.specs.Known.{Known};
+ghost use Rattle.live_sets.specs.Known.{Known};
 ghost use Rattle.live_sets.specs.Narrowing.{stays, BitsAdmitted, Filled, Narrowable};
 use crate::board;
 use candidates::conflicts::Placed;

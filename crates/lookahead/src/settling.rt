@@ -7,7 +7,7 @@ ghost use Rattle.words.specs.Sets.{countMembers};
 ghost use Rattle.model.specs.Content.{kindCount};
 ghost use Rattle.model.specs.Format.{content};
 ghost use Rattle.model.specs.Search.{copiesLeft};
-ghost use Rattle.plans.specs.Known.{Known};
+ghost use Rattle.live_sets.specs.Known.{Known};
 ghost use Rattle.stepping.specs.Levels.{piecesFrom};
 ghost use Rattle.stepping.specs.Slots.{SetPlace};
 ghost use Rattle.lookahead.specs.Settled.{Placeable, Made, KindSettled, Settled};

@@ -31,7 +31,7 @@ pub extern "C" fn nest_row(
 pub extern "C" fn nest_check(job: &[u8], layout: &[u8]) -> u64
     ensures { λ r. ⌜ r ≡ checkWord (Services.check (now (job .entry)) (now (layout .entry))) ⌝ }
 {
-    answers::check_word(layouts::check(job, layout))
+    answers::check_word(checking::check(job, layout))
 }
 
 // The walk under a step budget.

@@ -21,7 +21,7 @@ use Rattle.candidates.specs.Conflicts.{placedOf, Near}
 use Rattle.candidates.proofs.PreparedLaws.{bounded, extent-is, number-near, candidate-number}
 use Rattle.stepping.proofs.Extents.{candidate-entry}
 use Rattle.stepping.proofs.Limits.{few-words}
-use Rattle.plans.specs.Known.{PlanOf}
+use Rattle.plans.specs.Planned.{PlanOf}
 use Rattle.plans.specs.declared.plan.Plan.{Plan}
 
 -- A candidate is one of a kind that exists.

@@ -10,7 +10,7 @@ ghost use Rattle.model.specs.Layout.{entryOf, entryExtent};
 ghost use Rattle.shapes.specs.Pieces.{PieceOf};
 ghost use Rattle.candidates.specs.Conflicts.{placedOf};
 ghost use Rattle.stepping.specs.Slots.{SetPlace};
-ghost use Rattle.plans.specs.Known.{PlanOf};
+ghost use Rattle.plans.specs.Planned.{PlanOf};
 use crate::plan::Plan;
 use candidates::conflicts::Placed;
 use candidates::conflicts::larger_gap;

@@ -10,7 +10,7 @@ ghost use Rattle.shapes.specs.Boxes.{BoxesOf};
 ghost use Rattle.shapes.specs.Pieces.{Fitting};
 ghost use Rattle.shapes.specs.Turned.{Viewed};
 ghost use Rattle.stepping.specs.Levels.{piecesFrom};
-ghost use Rattle.plans.specs.Known.{KindsOf, CopiesOf, EndsOf, SizesOf, PlanOf};
+ghost use Rattle.plans.specs.Planned.{KindsOf, CopiesOf, EndsOf, SizesOf, PlanOf};
 use job::View;
 use shapes::boxes::Boxes;
 use shapes::pieces::Piece;

@@ -4,7 +4,7 @@ ghost use mathlib.Core.Path.{_≡_};
 ghost use Prim.Native.Nat.{_/_, _%_, _≤_, _<_};
 ghost use Rattle.model.specs.Format.{content};
 ghost use Rattle.model.specs.Services.{withLayout};
-ghost use Rattle.plans.specs.Known.{PlanOf};
+ghost use Rattle.plans.specs.Planned.{PlanOf};
 ghost use Rattle.plans.specs.Recording.{fourIn, layoutOf, Recordable};
 use crate::plan::Plan;
 use words::numbers;

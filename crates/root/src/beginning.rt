@@ -9,7 +9,7 @@ ghost use Rattle.model.specs.Format.{content};
 ghost use Rattle.model.specs.Services.{workWords};
 ghost use Rattle.shapes.specs.Boxes.{BoxesOf};
 ghost use Rattle.shapes.specs.Turned.{Viewed};
-ghost use Rattle.plans.specs.Known.{PlanOf};
+ghost use Rattle.plans.specs.Planned.{PlanOf};
 ghost use Rattle.live_sets.specs.Narrowing.{Filled, Fillable};
 ghost use Rattle.lookahead.specs.Settled.{Settled};
 use candidates::placements::is_candidate;

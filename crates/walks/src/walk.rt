@@ -2,7 +2,7 @@
 ghost use Prim.Native.Nat.{_+_, _<_};
 ghost use Rattle.model.specs.Content.{pieceCount};
 ghost use Rattle.model.specs.Format.{content};
-ghost use Rattle.plans.specs.Known.{Known};
+ghost use Rattle.live_sets.specs.Known.{Known};
 ghost use Rattle.stepping.specs.Levels.{tryLevel, goOnLevel, numbersAt};
 ghost use Rattle.walks.specs.Walk.{heldOf, Ready, Taken, Left};
 use branching::choosing::next_live;

@@ -1,4 +1,4 @@
--- What holds for a whole run: the plan of the job and the tables, which are computed once.
+-- What the plan of a job says of it.
 use mathlib.Core.List.{List, []}
 use mathlib.Core.Path.{_≡_}
 use Prim.Native.Nat.{ℕ, _+_, _*_, _<_}
@@ -12,10 +12,7 @@ use Rattle.model.specs.Search.{copiesLeft}
 use Rattle.job.specs.View.{ViewOf}
 use Rattle.job.specs.declared.View.{View}
 use Rattle.shapes.specs.Boxes.{BoxesOf, boxAt}
-use Rattle.nofit.specs.Offsets.{OffsetsOf}
-use Rattle.shapes.specs.Turned.{TurnedOf}
 use Rattle.shapes.specs.declared.boxes.Boxes.{Boxes}
-use Rattle.nofit.specs.declared.offsets.Window.{Window}
 use Rattle.stepping.specs.Levels.{pieceKind, piecesFrom}
 use Rattle.plans.specs.declared.plan.Plan.{Plan}
 
@@ -62,9 +59,3 @@ pub record PlanOf (s : List ℕ) (p : Plan) : Type 0 where
   pub gaps : GapsOf s (p .gaps)
   pub parts : PartsOf s (p .parts)
   pub sizes : SizesOf s (p .sizes)
-
--- The job is accepted, and the plan and the tables are its own.
-pub record Known (s : List ℕ) (p : Plan) (w : Window) (turned : List ℤ) (conflicts : List ℕ) : Type 0 where
-  pub plan : PlanOf s p
-  pub table : TurnedOf s turned
-  pub offsets : OffsetsOf s w conflicts

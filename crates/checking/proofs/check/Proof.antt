@@ -1,12 +1,12 @@
--- `layouts::check` meets its contract. Assumes nothing.
+-- `checking::check` meets its contract. Assumes nothing.
 use mathlib.Core.Path.{refl, sym, ap, _∙_}
 use denote.Ref.{now}
 use Rattle.model.specs.declared.Checked.the-variants as C
 use Rattle.shapes.specs.Turned.{Viewed}
 use Rattle.layouts.proofs.PassingLaws.{check-refused, check-accepted}
 use borrow.Author.Needs.{needs}
-use Rattle.layouts.proofs.check.Statement.{statement}
-use Rattle.layouts.proofs.check.Tie as tie
+use Rattle.checking.proofs.check.Statement.{statement}
+use Rattle.checking.proofs.check.Tie as tie
 
 open-requires : tie.Need-open-requires
 open-requires c κs = search needs
