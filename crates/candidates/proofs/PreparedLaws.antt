@@ -30,8 +30,8 @@ use Rattle.model.proofs.Numbers.{rows-positive}
 use Rattle.model.proofs.Moves.{Vertexed, separated-placed}
 use Rattle.model.proofs.AcceptedKinds.{gap-most}
 use Rattle.model.proofs.Causes.{no-cause, board-fits}
-use Rattle.geometry.specs.Boxes.{extentsOf}
-use Rattle.geometry.specs.Flat.{shifted}
+use Rattle.polygons.specs.Boxes.{extentsOf}
+use Rattle.polygons.specs.Flat.{shifted}
 use Rattle.job.specs.declared.View.{View}
 use Rattle.shapes.specs.Boxes.{boxAt, turnedVertices, BoxesOf}
 use Rattle.shapes.specs.Pieces.{PieceOf}

@@ -4,7 +4,7 @@ use mathlib.Core.List.{List, map}
 use Prim.Native.Nat.{ℕ, _*_, _/_, _%_, _≤_, _<_}
 use lib.IntN.{ℤ, pos, _-ℤ_}
 use Rattle.model.specs.Geometry.{piecesConflict}
-use Rattle.geometry.specs.Flat.{shifted}
+use Rattle.polygons.specs.Flat.{shifted}
 use Rattle.job.specs.declared.View.{View}
 use Rattle.shapes.specs.Boxes.{BoxesOf}
 use Rattle.shapes.specs.Pieces.{partsIn}

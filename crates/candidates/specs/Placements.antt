@@ -8,7 +8,7 @@ use lib.ListN.{getD}
 use lib.Signed.{leZ}
 use Rattle.words.specs.Bits.{testBit}
 use Rattle.model.specs.Candidate.{natural}
-use Rattle.geometry.specs.declared.extents.Extents.{Extents}
+use Rattle.polygons.specs.declared.extents.Extents.{Extents}
 use Rattle.job.specs.declared.View.{View}
 use Rattle.shapes.specs.Boxes.{boxAt}
 use Rattle.shapes.specs.declared.boxes.Boxes.{Boxes}

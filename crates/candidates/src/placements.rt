@@ -4,8 +4,8 @@ ghost use Prim.Native.Nat.{_+_, _*_, _≤_, _<_};
 ghost use lib.IntN.{pos, _+ℤ_};
 ghost use Rattle.model.specs.Candidate.{natural};
 ghost use Rattle.candidates.specs.Placements.{Bounded, within, fitsAt, placeable, offered, extentAt};
-use geometry::extents::Extents;
 use job::View;
+use polygons::extents::Extents;
 use shapes::boxes::Boxes;
 
 // Whether what lies from low to high stays, moved by this much, within 0 and the limit.

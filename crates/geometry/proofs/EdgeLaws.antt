@@ -17,7 +17,7 @@ use Rattle.model.specs.Lists.{any, rising, below, largestZ}
 use Rattle.model.proofs.Box.{all-below-bound}
 use Rattle.model.proofs.Lists.{all-at, all-of}
 use Rattle.model.proofs.Tests.{any-map}
-use Rattle.geometry.specs.Flat.{normalOf}
+use Rattle.polygons.specs.Flat.{normalOf}
 
 -- ---- the edges
 

@@ -1,8 +1,5 @@
 -- What is proved about the flat parts, the sizes and the tests of this crate.
-pub mod Flat
 pub mod Sizes
 pub mod Lowest
 pub mod EdgeLaws
-pub mod BoxLaws
 pub mod PairLaws
-pub mod TurnLaws

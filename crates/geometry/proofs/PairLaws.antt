@@ -16,8 +16,9 @@ use Rattle.model.proofs.Conflict.{separates-negated, separated-groups}
 use Rattle.model.proofs.Extremes.{leZ-same}
 use Rattle.model.proofs.Moves.{largest-shifted, smallest-shifted, normals-shifted}
 use Rattle.model.proofs.Tests.{any-same}
-use Rattle.geometry.specs.Boxes.{clearOf, extentsOf, boxesApart, apartAt}
-use Rattle.geometry.specs.Flat.{shifted}
+use Rattle.geometry.specs.Apart.{clearOf, boxesApart, apartAt}
+use Rattle.polygons.specs.Boxes.{extentsOf}
+use Rattle.polygons.specs.Flat.{shifted}
 use Rattle.geometry.specs.Reach.{reachOf, clears}
 
 -- ---- tests of order

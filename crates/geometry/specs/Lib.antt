@@ -1,4 +1,3 @@
 -- The definitions that the contracts of this crate cite beside the model's.
-pub mod Flat
 pub mod Reach
-pub mod Boxes
+pub mod Apart

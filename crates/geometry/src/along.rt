@@ -9,10 +9,10 @@ ghost use Rattle.model.specs.Content.{vertex};
 ghost use Rattle.model.specs.Geometry;
 ghost use Rattle.model.specs.Geometry.{direction, vertexAt, clearance};
 ghost use Rattle.model.specs.Lists.{smallestZ};
-ghost use Rattle.geometry.specs.Flat.{partOf};
+ghost use Rattle.polygons.specs.Flat.{partOf};
 ghost use Rattle.geometry.specs.Reach.{Small, reachOf};
-use super::vertices::coordinate;
 use integers::dot;
+use polygons::vertices::coordinate;
 
 // The size of a number, whatever its sign.
 fn magnitude(a: i32) -> i64

@@ -6,11 +6,11 @@ ghost use lib.ListN.{length};
 ghost use Rattle.model.specs.Content.{vertex};
 ghost use Rattle.model.specs.Geometry.{vertexAt, following, normals};
 ghost use Rattle.model.specs.Lists.{any};
-ghost use Rattle.geometry.specs.Flat.{partOf, coordinateOf};
+ghost use Rattle.polygons.specs.Flat.{partOf, coordinateOf};
 ghost use Rattle.geometry.specs.Reach.{clears};
-use super::along::reach;
-use super::along::vertex_along;
-use super::vertices::coordinate;
+use crate::along::reach;
+use crate::along::vertex_along;
+use polygons::vertices::coordinate;
 
 // Coordinate c of vertex m less that of vertex k.
 fn difference(p: &[i16], m: usize, k: usize, c: usize) -> i32

@@ -2,11 +2,11 @@
 ghost use mathlib.Core.List.{map};
 ghost use mathlib.Core.Path.{_≡_};
 ghost use Rattle.model.specs.Geometry;
-ghost use Rattle.geometry.specs.Boxes.{clearOf, boxesApart, apartAt};
-ghost use Rattle.geometry.specs.Flat.{partOf, shifted};
-use super::edges::edges_separate;
-use super::extents::Extents;
-use super::extents::bounds;
+ghost use Rattle.geometry.specs.Apart.{clearOf, boxesApart, apartAt};
+ghost use Rattle.polygons.specs.Flat.{partOf, shifted};
+use crate::edges::edges_separate;
+use polygons::extents::Extents;
+use polygons::extents::bounds;
 
 // Whether what ends at `high` and is moved by `from` clears, by the gap, what begins at `low` and is moved by `to`.
 fn clear_of(high: i16, from: i16, low: i16, to: i16, gap: u16) -> bool

@@ -22,7 +22,7 @@ use Rattle.model.specs.Layout.{entry, entryOf, entryKind, conflict}
 use Rattle.model.proofs.AcceptedKinds.{kind-ranges}
 use Rattle.model.proofs.Lists.{and-left, and-right}
 use Rattle.model.proofs.Moves.{Vertexed}
-use Rattle.geometry.specs.Flat.{shifted}
+use Rattle.polygons.specs.Flat.{shifted}
 use Rattle.nofit.specs.Offsets.{offsetConflict, width, height, area, turns, sectionOf, sections, cellOf, cells, offsetCell, fromMiddle, distance, covered, Needed, Sized, OffsetsOf}
 use Rattle.candidates.specs.Conflicts.{placedOf}
 use Rattle.candidates.specs.declared.conflicts.Placed.{Placed}

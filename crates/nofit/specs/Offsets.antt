@@ -14,7 +14,7 @@ use Rattle.model.specs.Content.{Job, kindAt, kindCount}
 use Rattle.model.specs.Format.{content, refusal}
 use Rattle.model.specs.Gap.{pairGap}
 use Rattle.model.specs.Geometry.{rotated, piecesConflict}
-use Rattle.geometry.specs.Flat.{shifted}
+use Rattle.polygons.specs.Flat.{shifted}
 use Rattle.job.specs.declared.View.{View}
 use Rattle.shapes.specs.Pieces.{Fitting, partsIn}
 use Rattle.candidates.specs.Placements.{Bounded}

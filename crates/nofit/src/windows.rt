@@ -5,9 +5,9 @@ ghost use Prim.Native.Nat.{_≤_};
 ghost use Rattle.nofit.specs.Offsets.{cells, Roomy, Growing};
 ghost use Rattle.candidates.specs.Placements.{Bounded};
 use crate::offsets::Window;
-use geometry::extents::Extents;
-use geometry::extents::join;
 use job::View;
+use polygons::extents::Extents;
+use polygons::extents::join;
 use shapes::boxes::Boxes;
 
 // How many cells a window has.

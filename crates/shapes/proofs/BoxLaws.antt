@@ -9,9 +9,9 @@ use Rattle.model.specs.Content.{Part}
 use Rattle.model.specs.Lists.{concat, rising, below}
 use Rattle.model.proofs.Box.{concat-one}
 use Rattle.model.proofs.Folds.{concat-more, map-below-more}
-use Rattle.geometry.specs.Boxes.{extentsOf, joined}
-use Rattle.geometry.proofs.BoxLaws.{extents-append}
-use Rattle.geometry.proofs.Flat.{part-length}
+use Rattle.polygons.specs.Boxes.{extentsOf, joined}
+use Rattle.polygons.proofs.BoxLaws.{extents-append}
+use Rattle.polygons.proofs.Flat.{part-length}
 use Rattle.shapes.specs.Pieces.{Fitting, partIn}
 use Rattle.shapes.specs.declared.pieces.Piece.{Piece}
 

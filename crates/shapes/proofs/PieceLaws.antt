@@ -15,7 +15,7 @@ use Rattle.model.specs.Geometry.{rotated, separated, piecesConflict}
 use Rattle.model.specs.Lists.{any, rising, below}
 use Rattle.model.proofs.Folds as Folds
 use Rattle.model.proofs.Tests.{any-map}
-use Rattle.geometry.specs.Flat.{partOf, shifted}
+use Rattle.polygons.specs.Flat.{partOf, shifted}
 use Rattle.shapes.specs.Pieces.{PieceOf, partIn, partsIn, partConflicts}
 use Rattle.shapes.specs.Turned.{Viewed, TurnedOf, slot}
 use Rattle.job.specs.declared.View.{View}

@@ -24,7 +24,7 @@ use Rattle.model.specs.Format.{byteAt, vertices, content}
 use Rattle.model.specs.Geometry.{rotated}
 use Rattle.model.proofs.Records.{length-vertices, byte-behind}
 use Rattle.words.proofs.Cases.{le-or-lt, eq-or-ne}
-use Rattle.geometry.specs.Flat.{partOf, withVertex}
+use Rattle.polygons.specs.Flat.{partOf, withVertex}
 use Rattle.shapes.specs.Turned.{numbersOf, vertexIn, withPart, slot, Holds, Kept, PartTurned, KindTurned, TurnedOf}
 
 -- ---- coordinates

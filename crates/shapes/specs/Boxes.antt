@@ -8,8 +8,8 @@ use Rattle.model.specs.Content.{Vertex, kindAt, kindCount}
 use Rattle.model.specs.Format.{content}
 use Rattle.model.specs.Geometry.{rotated}
 use Rattle.model.specs.Lists.{concat}
-use Rattle.geometry.specs.Boxes.{box, extentsOf}
-use Rattle.geometry.specs.declared.extents.Extents.{Extents}
+use Rattle.polygons.specs.Boxes.{box, extentsOf}
+use Rattle.polygons.specs.declared.extents.Extents.{Extents}
 use Rattle.shapes.specs.declared.boxes.Boxes.{Boxes}
 
 -- Where no box stands.

@@ -9,7 +9,7 @@ use Rattle.model.specs.Content.{Part, kindAt}
 use Rattle.model.specs.Format.{content}
 use Rattle.model.specs.Geometry.{separated}
 use Rattle.model.specs.Lists.{any, below}
-use Rattle.geometry.specs.Flat.{partOf}
+use Rattle.polygons.specs.Flat.{partOf}
 use Rattle.shapes.specs.declared.pieces.Piece.{Piece}
 
 -- The piece has one to six parts of one to eight vertices each, which stand within a plane.

@@ -3,7 +3,7 @@ ghost use mathlib.Core.Path.{_≡_};
 ghost use Prim.Native.Nat.{_+_, _*_, _<_};
 ghost use lib.ListN.{length};
 ghost use Rattle.model.specs.Lists.{concat};
-ghost use Rattle.geometry.specs.Boxes.{extentsOf};
+ghost use Rattle.polygons.specs.Boxes.{extentsOf};
 ghost use Rattle.shapes.specs.Turned.{Viewed, TurnedOf};
 ghost use Rattle.shapes.specs.Pieces.{Fitting, partIn, partsIn};
 ghost use Rattle.shapes.specs.Boxes.{BoxesOf};
@@ -11,11 +11,11 @@ use crate::pieces::Piece;
 use crate::pieces::part_length;
 use crate::pieces::part_start;
 use crate::pieces::piece_of;
-use geometry::extents::Extents;
-use geometry::extents::bounds;
-use geometry::extents::join;
-use geometry::extents::point;
 use job::View;
+use polygons::extents::Extents;
+use polygons::extents::bounds;
+use polygons::extents::join;
+use polygons::extents::point;
 
 // The box of kind t turned k quarter turns stands at t × 4 + k.
 pub struct Boxes {

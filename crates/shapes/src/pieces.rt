@@ -7,7 +7,7 @@ ghost use lib.ListN.{length, getD};
 ghost use Rattle.model.specs.Content.{kindCount};
 ghost use Rattle.model.specs.Format.{content};
 ghost use Rattle.model.specs.Geometry.{separated, piecesConflict};
-ghost use Rattle.geometry.specs.Flat.{shifted};
+ghost use Rattle.polygons.specs.Flat.{shifted};
 ghost use Rattle.shapes.specs.Turned.{Viewed};
 ghost use Rattle.shapes.specs.Pieces.{PieceOf, Fitting, partIn, partsIn, partConflicts};
 use crate::turned::byte;

@@ -6,7 +6,7 @@ ghost use lib.ListN.{length, drop};
 ghost use Rattle.model.specs.Content.{kindCount};
 ghost use Rattle.model.specs.Format.{content, byteAt, vertices};
 ghost use Rattle.model.specs.Geometry.{rotated};
-ghost use Rattle.geometry.specs.Flat.{withVertex};
+ghost use Rattle.polygons.specs.Flat.{withVertex};
 ghost use Rattle.shapes.specs.Turned.{Viewed, vertexIn, withPart, PartTurned, KindTurned, TurnedOf};
 use job::View;
 
@@ -32,7 +32,7 @@ fn turn_vertex(job: &[u8], from: usize, k: usize, turned: &mut [i16], to: usize)
 {
     let x = integers::signed_byte(job, from);
     let y = integers::signed_byte(job, from + 1);
-    geometry::put_rotated(turned, to, x, y, k);
+    polygons::put_rotated(turned, to, x, y, k);
 }
 
 // The n vertices whose bytes begin at `from`, turned k quarter turns, into the table from `to` on.

@@ -6,7 +6,7 @@ use denote.Ref.{now}
 use mir.Syntax.{w16}
 use mir.ValLaws.{toZ-ofZ}
 use Rattle.model.specs.Geometry.{piecesConflict}
-use Rattle.geometry.specs.Flat.{shifted}
+use Rattle.polygons.specs.Flat.{shifted}
 use Rattle.shapes.specs.Pieces.{partsIn}
 use Rattle.candidates.specs.Conflicts.{conflictBetween}
 use borrow.Author.Needs.{needs}

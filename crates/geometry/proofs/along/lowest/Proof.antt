@@ -14,8 +14,8 @@ use Rattle.integers.specs.Extrema.{minZ}
 use Rattle.integers.proofs.Machine.{read₂}
 use Rattle.model.specs.Geometry.{along, direction}
 use Rattle.model.specs.Lists.{smallestZ}
-use Rattle.geometry.specs.Flat.{partOf}
-use Rattle.geometry.proofs.Flat.{part-length}
+use Rattle.polygons.specs.Flat.{partOf}
+use Rattle.polygons.proofs.Flat.{part-length}
 use Rattle.geometry.proofs.Lowest.{Lowering, lowest-none, lowest-first, lowest-next, lowest-last, lowest-kept}
 use Rattle.geometry.proofs.Sizes.{small-as}
 use Rattle.geometry.proofs.along.lowest.Statement.{statement}

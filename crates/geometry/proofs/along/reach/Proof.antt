@@ -7,7 +7,7 @@ use mir.Syntax.{w32}
 use Rattle.integers.proofs.Machine.{read₂}
 use Rattle.model.specs.Geometry.{along, clearance, direction}
 use Rattle.model.specs.Lists.{smallestZ}
-use Rattle.geometry.specs.Flat.{partOf}
+use Rattle.polygons.specs.Flat.{partOf}
 use Rattle.geometry.specs.Reach.{Small, reachOf}
 use Rattle.geometry.proofs.Sizes.{small-as, dot-small, there-fits, back-fits, reach-fits, reach-gives, one-move}
 use Rattle.geometry.proofs.along.reach.Statement.{statement}

@@ -19,10 +19,10 @@ use Rattle.integers.proofs.Order.{leZ-true, leZ-false}
 use Rattle.model.specs.Content.{Vertex, vertex, Part}
 use Rattle.model.specs.Geometry.{Direction, along, direction, vertexAt, outwardNormal, normals}
 use Rattle.model.specs.Lists.{any, largestZ}
-use Rattle.geometry.specs.Flat.{partOf, normalOf}
+use Rattle.polygons.specs.Flat.{partOf, normalOf}
 use Rattle.geometry.specs.Reach.{clears}
 use Rattle.geometry.proofs.EdgeLaws.{normal-at, Remaining, remaining-all, remaining-next, remaining-found, remaining-none, all-within, one-beyond}
-use Rattle.geometry.proofs.Flat.{part-length}
+use Rattle.polygons.proofs.Flat.{part-length}
 use Rattle.geometry.proofs.edges.edges_separate.Statement.{statement}
 use Rattle.geometry.proofs.edges.edges_separate.Tie as tie
 

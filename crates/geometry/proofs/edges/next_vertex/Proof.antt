@@ -1,9 +1,9 @@
 -- `geometry::edges::next_vertex` meets its contract: the place of the next vertex is within the slice exactly if there is a next vertex. Assumes nothing.
 use native.Mathlib.Omega.{arith}
 use denote.Ref.{now}
-use Rattle.geometry.specs.Flat.{partOf}
+use Rattle.polygons.specs.Flat.{partOf}
 use Rattle.geometry.proofs.EdgeLaws.{next-inside, next-first}
-use Rattle.geometry.proofs.Flat.{part-length}
+use Rattle.polygons.proofs.Flat.{part-length}
 use Rattle.geometry.proofs.edges.next_vertex.Statement.{statement}
 use Rattle.geometry.proofs.edges.next_vertex.Tie as tie
 

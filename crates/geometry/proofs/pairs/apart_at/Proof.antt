@@ -9,8 +9,9 @@ use mir.ValLaws.{toZ-ofZ}
 use Rattle.model.specs.Content.{vertex}
 use Rattle.model.specs.Geometry.{normals}
 use Rattle.model.specs.Lists.{any}
-use Rattle.geometry.specs.Boxes.{extentsOf, boxesApart, apartAt}
-use Rattle.geometry.specs.Flat.{partOf}
+use Rattle.geometry.specs.Apart.{boxesApart, apartAt}
+use Rattle.polygons.specs.Boxes.{extentsOf}
+use Rattle.polygons.specs.Flat.{partOf}
 use Rattle.geometry.specs.Reach.{clears}
 use Rattle.geometry.proofs.PairLaws.{first-held, second-held, third-decides}
 use Rattle.geometry.proofs.pairs.apart_at.Statement.{statement}

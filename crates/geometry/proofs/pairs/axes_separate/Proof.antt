@@ -3,8 +3,8 @@ use mathlib.Core.Path.{_∙_}
 use lib.IntN.{pos}
 use mir.Syntax.{w16}
 use mir.ValLaws.{toZ-ofZ}
-use Rattle.geometry.specs.Boxes.{clearOf, boxesApart}
-use Rattle.geometry.proofs.BoxLaws.{or-four}
+use Rattle.geometry.specs.Apart.{clearOf, boxesApart}
+use Rattle.polygons.proofs.BoxLaws.{or-four}
 use borrow.Author.Needs.{sfits-of}
 use Rattle.geometry.proofs.pairs.axes_separate.Statement.{statement}
 use Rattle.geometry.proofs.pairs.axes_separate.Tie as tie

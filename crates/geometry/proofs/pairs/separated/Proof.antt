@@ -2,8 +2,8 @@
 use mathlib.Core.Path.{_∙_}
 use native.Mathlib.Omega.{arith}
 use denote.Ref.{now}
-use Rattle.geometry.specs.Flat.{partOf}
-use Rattle.geometry.proofs.Flat.{part-length}
+use Rattle.polygons.specs.Flat.{partOf}
+use Rattle.polygons.proofs.Flat.{part-length}
 use Rattle.geometry.proofs.PairLaws.{apart-empty, apart-moved}
 use borrow.Author.Needs.{needs}
 use Rattle.geometry.proofs.pairs.separated.Statement.{statement}

@@ -10,7 +10,7 @@ use mir.Syntax.{w16}
 use mir.ValLaws.{toZ-ofZ}
 use Rattle.words.specs.Sets.{wordOffset}
 use Rattle.model.specs.Geometry.{piecesConflict}
-use Rattle.geometry.specs.Flat.{shifted}
+use Rattle.polygons.specs.Flat.{shifted}
 use Rattle.shapes.specs.Pieces.{partsIn}
 use Rattle.words.specs.Bytes.{AreBytes}
 use Rattle.nofit.specs.Offsets.{area, height, Written, conflictAtCell}

@@ -9,7 +9,7 @@ use denote.Ref.{now}
 use lib.ListN.{length, getD, length-set}
 use Rattle.model.specs.Content.{Part}
 use Rattle.model.specs.Lists.{concat}
-use Rattle.geometry.specs.Boxes.{extentsOf}
+use Rattle.polygons.specs.Boxes.{extentsOf}
 use Rattle.shapes.specs.Boxes.{noBox, turnedVertices}
 use Rattle.shapes.proofs.PieceLaws.{written-more, parts-turned}
 use Rattle.shapes.proofs.ViewLaws.{few-kinds}

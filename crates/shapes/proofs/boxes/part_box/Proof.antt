@@ -2,7 +2,7 @@
 use mathlib.Core.Path.{ap, _∙_}
 use borrow.Author.Needs.{needs}
 use denote.Ref.{now}
-use Rattle.geometry.specs.Boxes.{extentsOf}
+use Rattle.polygons.specs.Boxes.{extentsOf}
 use Rattle.shapes.proofs.PieceLaws.{part-window}
 use Rattle.shapes.proofs.boxes.part_box.Statement.{statement}
 use Rattle.shapes.proofs.boxes.part_box.Tie as tie

@@ -6,7 +6,7 @@ use native.Mathlib.Omega.{arith}
 use borrow.Author.Needs.{needs}
 use denote.Ref.{now}
 use Rattle.model.specs.Lists.{concat, below}
-use Rattle.geometry.specs.Boxes.{extentsOf, joined}
+use Rattle.polygons.specs.Boxes.{extentsOf, joined}
 use Rattle.shapes.specs.Pieces.{partIn, partsIn}
 use Rattle.shapes.proofs.BoxLaws.{box-first, box-more, part-some}
 use Rattle.shapes.proofs.boxes.piece_box.Statement.{statement}

@@ -12,7 +12,7 @@ use mir.Val.{toZ, ofZ}
 use Rattle.integers.proofs.Machine.{read₂}
 use Rattle.shapes.proofs.PieceLaws.{conflictAt, none-yet, none-more, some-below, part-conflicts-below}
 use Rattle.model.specs.Lists.{any, below}
-use Rattle.geometry.specs.Flat.{shifted}
+use Rattle.polygons.specs.Flat.{shifted}
 use Rattle.shapes.specs.Pieces.{partIn, partsIn, partConflicts}
 use Rattle.shapes.proofs.pieces.part_conflicts.Statement.{statement}
 use Rattle.shapes.proofs.pieces.part_conflicts.Tie as tie

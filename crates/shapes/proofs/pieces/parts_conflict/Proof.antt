@@ -9,7 +9,7 @@ use mir.Val.{toZ, ofZ}
 use Rattle.integers.proofs.Machine.{read₂}
 use Rattle.model.specs.Content.{Part}
 use Rattle.model.specs.Geometry.{separated}
-use Rattle.geometry.specs.Flat.{shifted}
+use Rattle.polygons.specs.Flat.{shifted}
 use Rattle.shapes.specs.Pieces.{partIn}
 use Rattle.shapes.proofs.PieceLaws.{part-window}
 use Rattle.shapes.proofs.pieces.parts_conflict.Statement.{statement}

@@ -13,7 +13,7 @@ use Rattle.integers.proofs.Machine.{read₂}
 use Rattle.model.specs.Geometry.{piecesConflict}
 use Rattle.shapes.proofs.PieceLaws.{none-yet, none-more, some-below, pieces-conflict-below}
 use Rattle.model.specs.Lists.{any, below}
-use Rattle.geometry.specs.Flat.{shifted}
+use Rattle.polygons.specs.Flat.{shifted}
 use Rattle.shapes.specs.Pieces.{partIn, partsIn, partConflicts}
 use Rattle.shapes.proofs.pieces.pieces_conflict.Statement.{statement}
 use Rattle.shapes.proofs.pieces.pieces_conflict.Tie as tie

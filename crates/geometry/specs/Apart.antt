@@ -1,31 +1,14 @@
--- Bounding boxes, and the four axis directions tested by them.
+-- The test of a pair of parts as it is computed: the four axis directions by the boxes, then the normals of the edges.
 use mathlib.Core.Bool.{Bool, _||_}
-use mathlib.Core.List.{List, map}
 use Prim.Native.Nat.{ℕ}
 use lib.IntN.{ℤ, pos, _+ℤ_, _-ℤ_}
 use lib.Signed.{leZ}
-use Rattle.integers.specs.Extrema.{maxZ, minZ}
-use Rattle.model.specs.Content.{Vertex, vertex, Part}
+use Rattle.model.specs.Content.{vertex, Part}
 use Rattle.model.specs.Geometry.{normals}
-use Rattle.model.specs.Lists.{any, largestZ, smallestZ}
+use Rattle.model.specs.Lists.{any}
+use Rattle.polygons.specs.Boxes.{extentsOf}
 use Rattle.geometry.specs.Reach.{clears}
-use Rattle.geometry.specs.declared.extents.Extents.{Extents}
-
--- The box from lowX to highX and from lowY to highY.
-abbrev pub box : ℤ → ℤ → ℤ → ℤ → Extents
-box lowX highX lowY highY = record { «min_x» = lowX; «max_x» = highX; «min_y» = lowY; «max_y» = highY }
-
--- The box of one vertex.
-abbrev pub boxOf : Vertex → Extents
-boxOf v = box (v .x) (v .x) (v .y) (v .y)
-
--- The least and the largest x and y of some vertices. (Of none, 0.)
-unfoldable pub extentsOf : List Vertex → Extents
-extentsOf vs = box (smallestZ (map (λ v. v .x) vs)) (largestZ (map (λ v. v .x) vs)) (smallestZ (map (λ v. v .y) vs)) (largestZ (map (λ v. v .y) vs))
-
--- The box around two boxes.
-unfoldable pub joined : Extents → Extents → Extents
-joined e f = box (minZ (e .«min_x») (f .«min_x»)) (maxZ (e .«max_x») (f .«max_x»)) (minZ (e .«min_y») (f .«min_y»)) (maxZ (e .«max_y») (f .«max_y»))
+use Rattle.polygons.specs.declared.extents.Extents.{Extents}
 
 -- What ends at high and is moved by from clears, by the gap, what begins at low and is moved by to.
 abbrev pub clearOf : ℕ → ℤ → ℤ → ℤ → ℤ → Bool

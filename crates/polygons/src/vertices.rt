@@ -3,7 +3,7 @@ ghost use mathlib.Core.Path.{_≡_};
 ghost use Prim.Native.Nat.{_+_, _*_, _<_};
 ghost use lib.ListN.{length};
 ghost use Rattle.model.specs.Geometry.{vertexAt};
-ghost use Rattle.geometry.specs.Flat.{partOf, coordinateOf};
+ghost use Rattle.polygons.specs.Flat.{partOf, coordinateOf};
 
 // Coordinate c of vertex k: 0 is x, and 1 is y.
 pub fn coordinate(p: &[i16], k: usize, c: usize) -> i16

@@ -12,10 +12,10 @@ use mir.ValLaws.{toZ-ofZ}
 use Rattle.integers.proofs.Machine.{read₂}
 use Rattle.model.specs.Content.{vertex}
 use Rattle.model.specs.Geometry.{rotated}
-use Rattle.geometry.specs.Flat.{withVertex}
-use Rattle.geometry.proofs.TurnLaws.{one-turn-less}
-use Rattle.geometry.proofs.turns.put_rotated.Statement.{statement}
-use Rattle.geometry.proofs.turns.put_rotated.Tie as tie
+use Rattle.polygons.specs.Flat.{withVertex}
+use Rattle.polygons.proofs.TurnLaws.{one-turn-less}
+use Rattle.polygons.proofs.turns.put_rotated.Statement.{statement}
+use Rattle.polygons.proofs.turns.put_rotated.Tie as tie
 
 -- the bounds of the parameters, as they are read from their bits
 bound-x : (s : tie.Start) → natAbs (toZ w16 (ofZ w16 (s .args .x))) < 32768

@@ -6,9 +6,9 @@ use lib.IntN.{pos, _-ℤ_}
 use mir.Syntax.{w16}
 use mir.ValLaws.{toZ-ofZ}
 use Rattle.integers.proofs.Machine.{op-gives}
-use Rattle.geometry.proofs.TurnLaws.{turned-0, turned-1, turned-2, turned-3, opposite-16}
-use Rattle.geometry.proofs.turns.rotated_x.Statement.{statement}
-use Rattle.geometry.proofs.turns.rotated_x.Tie as tie
+use Rattle.polygons.proofs.TurnLaws.{turned-0, turned-1, turned-2, turned-3, opposite-16}
+use Rattle.polygons.proofs.turns.rotated_x.Statement.{statement}
+use Rattle.polygons.proofs.turns.rotated_x.Tie as tie
 
 sub-result : tie.Need-sub-result
 sub-result c = search (opposite-16, needs)

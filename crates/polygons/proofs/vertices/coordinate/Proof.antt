@@ -5,9 +5,9 @@ use borrow.Author.Needs.{needs, sfits-of}
 use denote.Ref.{now}
 use mir.Syntax.{w16}
 use mir.ValLaws.{toZ-ofZ}
-use Rattle.geometry.proofs.Flat.{coordinate-at}
-use Rattle.geometry.proofs.vertices.coordinate.Statement.{statement}
-use Rattle.geometry.proofs.vertices.coordinate.Tie as tie
+use Rattle.polygons.proofs.Flat.{coordinate-at}
+use Rattle.polygons.proofs.vertices.coordinate.Statement.{statement}
+use Rattle.polygons.proofs.vertices.coordinate.Tie as tie
 
 mul-result : tie.Need-mul-result
 mul-result c = omega arith

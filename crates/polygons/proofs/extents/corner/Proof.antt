@@ -4,10 +4,10 @@ use native.Mathlib.Omega.{arith}
 use borrow.Author.Needs.{sfits-of}
 use mir.Syntax.{w16}
 use Rattle.integers.proofs.Machine.{read₂}
-use Rattle.geometry.specs.Boxes.{box}
-use Rattle.geometry.proofs.BoxLaws.{same-box}
-use Rattle.geometry.proofs.extents.corner.Statement.{statement}
-use Rattle.geometry.proofs.extents.corner.Tie as tie
+use Rattle.polygons.specs.Boxes.{box}
+use Rattle.polygons.proofs.BoxLaws.{same-box}
+use Rattle.polygons.proofs.extents.corner.Statement.{statement}
+use Rattle.polygons.proofs.extents.corner.Tie as tie
 
 coordinate-requires : tie.Need-coordinate-requires
 coordinate-requires c κs = (c .pre, omega arith)

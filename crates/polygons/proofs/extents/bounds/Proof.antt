@@ -4,12 +4,12 @@ use Prim.Native.Nat.{_+_, _-_, _/_, _≤_}
 use native.Mathlib.Omega.{arith}
 use denote.Ref.{now}
 use lib.ListN.{length}
-use Rattle.geometry.specs.Boxes.{joined}
-use Rattle.geometry.specs.Flat.{partOf}
-use Rattle.geometry.proofs.BoxLaws.{Covering, covers-none, covers-first, covers-next, covers-last}
-use Rattle.geometry.proofs.Flat.{part-length}
-use Rattle.geometry.proofs.extents.bounds.Statement.{statement}
-use Rattle.geometry.proofs.extents.bounds.Tie as tie
+use Rattle.polygons.specs.Boxes.{joined}
+use Rattle.polygons.specs.Flat.{partOf}
+use Rattle.polygons.proofs.BoxLaws.{Covering, covers-none, covers-first, covers-next, covers-last}
+use Rattle.polygons.proofs.Flat.{part-length}
+use Rattle.polygons.proofs.extents.bounds.Statement.{statement}
+use Rattle.polygons.proofs.extents.bounds.Tie as tie
 
 abbrev Inv-loop : tie.InvT-loop
 Inv-loop p n e₀ k₀ e k = (n ≡ length p / 2) × (k ≤ n) × Covering (partOf p) k e

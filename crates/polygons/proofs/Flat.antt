@@ -9,7 +9,7 @@ use lib.ListN.{length, getD, set, take, drop}
 use lib.Seq.{drop-nil}
 use Rattle.model.specs.Content.{Vertex, vertex, Part}
 use Rattle.model.specs.Geometry.{vertexAt}
-use Rattle.geometry.specs.Flat.{partOf, coordinateOf, withVertex}
+use Rattle.polygons.specs.Flat.{partOf, coordinateOf, withVertex}
 
 -- two numbers a vertex
 pub part-length : (l : List ℤ) → length (partOf l) ≡ length l / 2

@@ -14,8 +14,8 @@ use Rattle.model.specs.Content.{Vertex, Part, origin}
 use Rattle.model.specs.Geometry.{vertexAt}
 use Rattle.model.specs.Lists.{largestFrom, smallestFrom, largestZ, smallestZ}
 use Rattle.model.proofs.Extremes.{largest-append, smallest-append}
-use Rattle.geometry.specs.Boxes.{box, boxOf, extentsOf, joined}
-use Rattle.geometry.specs.declared.extents.Extents.{Extents}
+use Rattle.polygons.specs.Boxes.{box, boxOf, extentsOf, joined}
+use Rattle.polygons.specs.declared.extents.Extents.{Extents}
 
 -- boxes with equal sides
 pub same-box : {a b c d a′ b′ c′ d′ : ℤ} → a ≡ a′ → b ≡ b′ → c ≡ c′ → d ≡ d′ → box a b c d ≡ box a′ b′ c′ d′

@@ -5,10 +5,10 @@ use mir.Syntax.{w16}
 use mir.ValLaws.{toZ-ofZ}
 use Rattle.integers.specs.Extrema.{maxZ, minZ}
 use Rattle.integers.proofs.Machine.{read₂}
-use Rattle.geometry.specs.Boxes.{joined}
-use Rattle.geometry.proofs.BoxLaws.{same-box}
-use Rattle.geometry.proofs.extents.join.Statement.{statement}
-use Rattle.geometry.proofs.extents.join.Tie as tie
+use Rattle.polygons.specs.Boxes.{joined}
+use Rattle.polygons.proofs.BoxLaws.{same-box}
+use Rattle.polygons.proofs.extents.join.Statement.{statement}
+use Rattle.polygons.proofs.extents.join.Tie as tie
 
 smaller-requires : tie.Need-smaller-requires
 smaller-requires c κs = tt

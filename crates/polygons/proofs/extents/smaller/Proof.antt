@@ -5,8 +5,8 @@ use mir.ValLaws.{toZ-ofZ}
 use Rattle.integers.proofs.Extrema.{min-left, min-right}
 use Rattle.integers.proofs.Machine.{le-held, le-failed}
 use Rattle.integers.proofs.Order.{<ℤ-≤ℤ}
-use Rattle.geometry.proofs.extents.smaller.Statement.{statement}
-use Rattle.geometry.proofs.extents.smaller.Tie as tie
+use Rattle.polygons.proofs.extents.smaller.Statement.{statement}
+use Rattle.polygons.proofs.extents.smaller.Tie as tie
 
 returns : tie.Need-returns
 returns c = toZ-ofZ w16 (c .before .args .a) (c .before .fits .a) ∙ sym (min-left (c .before .args .a) (c .before .args .b) (le-held w16 (c .before .args .a) (c .before .args .b) (c .before .fits .a) (c .before .fits .b) (c .if1 .taken)))

@@ -5,8 +5,8 @@ use mir.ValLaws.{toZ-ofZ}
 use Rattle.integers.proofs.Extrema.{max-right, max-left}
 use Rattle.integers.proofs.Machine.{le-held, le-failed}
 use Rattle.integers.proofs.Order.{<ℤ-≤ℤ}
-use Rattle.geometry.proofs.extents.larger.Statement.{statement}
-use Rattle.geometry.proofs.extents.larger.Tie as tie
+use Rattle.polygons.proofs.extents.larger.Statement.{statement}
+use Rattle.polygons.proofs.extents.larger.Tie as tie
 
 returns : tie.Need-returns
 returns c = toZ-ofZ w16 (c .before .args .b) (c .before .fits .b) ∙ sym (max-right (c .before .args .a) (c .before .args .b) (le-held w16 (c .before .args .a) (c .before .args .b) (c .before .fits .a) (c .before .fits .b) (c .if1 .taken)))

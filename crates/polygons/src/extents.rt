@@ -4,9 +4,9 @@ ghost use Prim.Native.Nat.{_+_, _*_, _<_};
 ghost use lib.ListN.{length};
 ghost use Rattle.integers.specs.Extrema.{maxZ, minZ};
 ghost use Rattle.model.specs.Geometry.{vertexAt};
-ghost use Rattle.geometry.specs.Flat.{partOf};
-ghost use Rattle.geometry.specs.Boxes.{box, boxOf, extentsOf, joined};
-use super::vertices::coordinate;
+ghost use Rattle.polygons.specs.Flat.{partOf};
+ghost use Rattle.polygons.specs.Boxes.{box, boxOf, extentsOf, joined};
+use crate::vertices::coordinate;
 
 // The least and the largest x and y.
 pub struct Extents {

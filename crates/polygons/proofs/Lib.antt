@@ -1,0 +1,3 @@
+pub mod Flat
+pub mod BoxLaws
+pub mod TurnLaws
