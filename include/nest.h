@@ -222,7 +222,7 @@ uint64_t nest_check(const uint8_t *job, size_t job_len, const uint8_t *layout, s
  * stops exactly when it needs more steps than the budget.
  *
  * The work words need no preparation. After every answer above, the needed T * N * NEST_SET_WORDS(dots) ones
- * are zero.
+ * are zero. Besides the buffers lent, nest_run takes up to 256 KiB of stack (measured, not proved).
  *
  * Refusals: 1 to 7; 8 if the work buffer holds fewer words than that; 9 if the answer buffer holds fewer than
  * 4 * N numbers. NEST_MAX_WORK_BYTES and NEST_MAX_LAYOUT_BYTES are enough for every job.

@@ -1,6 +1,6 @@
 /*
  * How much stack nest_run takes, besides the buffers that it is lent: each job runs on a stack of its own that was
- * filled with a pattern, and what is no longer the pattern was used. More than 64 KiB fails.
+ * filled with a pattern, and what is no longer the pattern was used. More than 256 KiB fails.
  * usage: stack BUDGET JOB...
  */
 #define _GNU_SOURCE
@@ -13,7 +13,7 @@
 
 #include "nest.h"
 
-enum { STACK = 1 << 20, LIMIT = 64 * 1024, PATTERN = 0xA5 };
+enum { STACK = 1 << 20, LIMIT = 256 * 1024, PATTERN = 0xA5 };
 
 static unsigned char *stack;
 static uint8_t job[2048], work[49152], answer[96];

@@ -1,10 +1,9 @@
 -- The candidate that a piece takes next.
-use mathlib.Core.Bool.{true, false, _&&_}
+use mathlib.Core.Bool.{true, false}
 use mathlib.Core.List.{List}
 use mathlib.Core.Logic.{_⊎_}
 use mathlib.Core.Path.{_≡_}
 use Prim.Native.Nat.{ℕ, _*_, max, _≤_, _<_}
-use lib.Dec.{ltb}
 use Rattle.words.specs.Sets.{member}
 use Rattle.model.specs.Content.{Job}
 use Rattle.model.specs.Grid.{setWords}
@@ -12,14 +11,12 @@ use Rattle.model.specs.Layout.{Layout, entryOf, entryExtent}
 use Rattle.stepping.specs.LiveSets.{setOf}
 use Rattle.branching.specs.declared.choosing.Next.{Next}
 
--- The first member of a set of kind u, from a number on, that ends below the bound, and how far a layout of this length reaches with it; or
--- there is none below the limit.
-pub record NextBelow (j : Job) (u bound len : ℕ) (s : List ℕ) (limit from : ℕ) (r : Next) : Type 0 where
+-- The first member of a set of kind u, from a number on, and how far a layout of this length reaches with it; or there is none below the limit.
+pub record NextMember (j : Job) (u len : ℕ) (s : List ℕ) (limit from : ℕ) (r : Next) : Type 0 where
   pub above : from ≤ r .number
-  pub passed : (i : ℕ) → from ≤ i → i < r .number → (i < limit) × ((member s i && ltb (entryExtent j (entryOf j u i)) bound) ≡ false)
+  pub passed : (i : ℕ) → from ≤ i → i < r .number → (i < limit) × (member s i ≡ false)
   pub found : r .found ≡ true
-      → (r .number < limit) × ((member s (r .number) && ltb (entryExtent j (entryOf j u (r .number))) bound) ≡ true)
-      × (r .extent ≡ max (entryExtent j (entryOf j u (r .number))) len)
+      → (r .number < limit) × (member s (r .number) ≡ true) × (r .extent ≡ max (entryExtent j (entryOf j u (r .number))) len)
   pub none : r .found ≡ false → limit ≤ r .number
 
 -- A candidate of kind u that is live.
@@ -34,4 +31,4 @@ pub record NextLive (j : Job) (placed : Layout) (bound u len from : ℕ) (r : Ne
   pub above : from ≤ r .number
   pub passed : (i : ℕ) → from ≤ i → i < r .number → setOf j placed bound u i ≡ false
   pub found : r .found ≡ true → Live j placed bound u len (r .number) (r .extent)
-  pub none : r .found ≡ false → (bound ≤ len) ⊎ (setWords (j .sheet) * 64 ≤ r .number)
+  pub none : r .found ≡ false → (bound ≤ len) ⊎ ((i : ℕ) → from ≤ i → setOf j placed bound u i ≡ false)

@@ -10,10 +10,12 @@ ghost use Rattle.model.specs.Format.{content};
 ghost use Rattle.model.specs.Services.{workWords};
 ghost use Rattle.plans.specs.Planned.{PlanOf};
 ghost use Rattle.stepping.specs.Levels.{pieceKind, placedOf};
-ghost use Rattle.stepping.specs.Slots.{slotOf, KeepsSince};
-ghost use Rattle.branching.specs.Choosing.{NextBelow, NextLive};
+ghost use Rattle.stepping.specs.LiveSets.{Spans, Keeps};
+ghost use Rattle.stepping.specs.Slots.{slotOf};
+ghost use Rattle.branching.specs.Choosing.{NextMember, NextLive};
 use plans::lookup;
 use plans::plan::Plan;
+use runs::progress::Progress;
 use words::sets;
 
 // The next candidate to take, where one is found: its number, and how far the layout reaches with it.
@@ -23,32 +25,28 @@ pub struct Next {
     pub extent: usize,
 }
 
-// The first member of a set of kind u, from a number on, that ends below the bound.
-fn next_below(
+// The first member of a set of kind u, from a number on, in its first words.
+fn next_in(
     job: &[u8],
     plan: Plan,
     u: usize,
     set: &[u8],
     from: usize,
     extent: usize,
-    bound: usize,
+    span: usize,
 ) -> Next
-    requires { ⌜ PlanOf (now job) plan × (plan .words * 8 ≤ length (now set)) ⌝ }
-    requires { ⌜ ((m : ℕ) → m < plan .words * 64 → member (now set) m ≡ true → isCandidate (content (now job)) u m ≡ true) ⌝ }
-    ensures { λ r. ⌜ NextBelow (content (now (job .entry))) u bound extent (now (set .entry)) (plan .words * 64) from r ⌝ }
+    requires { ⌜ PlanOf (now job) plan × (span ≤ 64) × (span * 8 ≤ length (now set)) ⌝ }
+    requires { ⌜ ((m : ℕ) → m < span * 64 → member (now set) m ≡ true → isCandidate (content (now job)) u m ≡ true) ⌝ }
+    ensures { λ r. ⌜ NextMember (content (now (job .entry))) u extent (now (set .entry)) (span * 64) from r ⌝ }
 {
-    let words = plan.words;
-    let mut n = sets::next_member(set, words as u32, from);
-    while n < words * 64 {
+    let n = sets::next_member(set, span as u32, from);
+    if n < span * 64 {
         let end = lookup::end_of(job, plan, u, n);
-        if end < bound {
-            return Next {
-                found: true,
-                number: n,
-                extent: lookup::larger(end, extent),
-            };
-        }
-        n = sets::next_member(set, words as u32, n + 1);
+        return Next {
+            found: true,
+            number: n,
+            extent: lookup::larger(end, extent),
+        };
     }
     Next {
         found: false,
@@ -57,22 +55,22 @@ fn next_below(
     }
 }
 
-// The first live candidate of piece `level`, from a number on. None is where what is placed does not end below the bound.
+// The first live candidate of piece `level`, from a number on: the next member of its set. None is where what is placed does not end below the bound.
 pub fn next_live(
     job: &[u8],
     plan: Plan,
     numbers: [usize; 12],
     level: usize,
     extent: usize,
-    bound: usize,
+    state: Progress,
     work: &[u8],
     from: usize,
 ) -> Next
     requires { ⌜ PlanOf (now job) plan × (level < pieceCount (content (now job))) × (workWords (content (now job)) * 8 ≤ length (now work)) ⌝ }
-    requires { ⌜ KeepsSince (content (now job)) (placedOf (content (now job)) numbers level) bound (pieceKind (content (now job)) level) (slotOf (content (now job)) (now work) level (pieceKind (content (now job)) level)) ⌝ }
-    ensures { λ r. ⌜ NextLive (content (now (job .entry))) (placedOf (content (now (job .entry))) numbers level) bound (pieceKind (content (now (job .entry))) level) extent from r ⌝ }
+    requires { ⌜ Spans (content (now job)) (state .bound) (state .span) × Keeps (content (now job)) (placedOf (content (now job)) numbers level) (state .bound) (state .span) (pieceKind (content (now job)) level) (slotOf (content (now job)) (now work) level (pieceKind (content (now job)) level)) ⌝ }
+    ensures { λ r. ⌜ NextLive (content (now (job .entry))) (placedOf (content (now (job .entry))) numbers level) (state .bound) (pieceKind (content (now (job .entry))) level) extent from r ⌝ }
 {
-    if bound <= extent {
+    if state.bound <= extent {
         return Next {
             found: false,
             number: from,
@@ -82,5 +80,13 @@ pub fn next_live(
     let kinds = plan.kinds;
     let kind = kinds[level];
     let at = lookup::set_start(job, plan, level, kind as usize) * 8;
-    next_below(job, plan, kind as usize, &work[at..], from, extent, bound)
+    next_in(
+        job,
+        plan,
+        kind as usize,
+        &work[at..],
+        from,
+        extent,
+        state.span,
+    )
 }

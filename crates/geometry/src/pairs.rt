@@ -16,7 +16,7 @@ fn clear_of(high: i16, from: i16, low: i16, to: i16, gap: u16) -> bool
 }
 
 // Whether an axis direction separates parts of these boxes, the second moved by (dx, dy).
-fn axes_separate(e: Extents, f: Extents, dx: i16, dy: i16, gap: u16) -> bool
+pub fn axes_separate(e: Extents, f: Extents, dx: i16, dy: i16, gap: u16) -> bool
     ensures { λ r. ⌜ r ≡ boxesApart gap e f dx dy ⌝ }
 {
     clear_of(e.max_x, 0, f.min_x, dx, gap)

@@ -86,8 +86,8 @@ bits-where p first v e i l = ap (λ (w : ℕ). testBit w i) e ∙ testBit-bitsWh
 
 -- ---- A set made from the one of the level before
 
-module _ (j : Job) (bound t n u from to words : ℕ) (work₀ work : List ℕ) (r : Narrowable j t n u from to words work₀) (k : ℕ) (h : k < words)
-    (f : Filled to k (λ m. member work₀ (from * 64 + m) && stays j bound t n u m) work₀ work) where
+module _ (j : Job) (t n u from to words : ℕ) (work₀ work : List ℕ) (r : Narrowable j t n u from to words work₀) (k : ℕ) (h : k < words)
+    (f : Filled to k (λ m. member work₀ (from * 64 + m) && stays j t n u m) work₀ work) where
   -- A word of the first set has the members that it had at the beginning.
   word-same : (i : ℕ) → i < 64 → member work ((from + k) * 64 + i) ≡ member work₀ (from * 64 + (k * 64 + i))
   word-same i l =
@@ -102,9 +102,9 @@ module _ (j : Job) (bound t n u from to words : ℕ) (work₀ work : List ℕ) (
         r .admitted (k * 64 + i) (omega (arith, b .0)) (sym (word-same i (b .0)) ∙ b .1)
 
     -- The word that stays of it is the next of the second set.
-    pub word-narrowed : (v : ℕ) → ((i : ℕ) → testBit v i ≡ (testBit w i && stays j bound t n u (k * 64 + i))) → v < 2 ^ 64 → length work ≡ length work₀
-        → Filled to (k + 1) (λ m. member work₀ (from * 64 + m) && stays j bound t n u m) work₀ (withNumber 8 work ((to + k) * 8) v)
+    pub word-narrowed : (v : ℕ) → ((i : ℕ) → testBit v i ≡ (testBit w i && stays j t n u (k * 64 + i))) → v < 2 ^ 64 → length work ≡ length work₀
+        → Filled to (k + 1) (λ m. member work₀ (from * 64 + m) && stays j t n u m) work₀ (withNumber 8 work ((to + k) * 8) v)
     word-narrowed v bits small l =
-        filled-next to k (λ m. member work₀ (from * 64 + m) && stays j bound t n u m) work₀ work v f (omega (arith, r .fits, l)) small
+        filled-next to k (λ m. member work₀ (from * 64 + m) && stays j t n u m) work₀ work v f (omega (arith, r .fits, l)) small
         (λ i q. bits i
-        ∙ ap (λ (b : Bool). b && stays j bound t n u (k * 64 + i)) (ap (λ (x : ℕ). testBit x i) e ∙ sym (member-word work (from + k) i q) ∙ word-same i q))
+        ∙ ap (λ (b : Bool). b && stays j t n u (k * 64 + i)) (ap (λ (x : ℕ). testBit x i) e ∙ sym (member-word work (from + k) i q) ∙ word-same i q))

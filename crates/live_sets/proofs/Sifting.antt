@@ -1,13 +1,14 @@
 -- A word from which the bits that fail a test are dropped, one by one.
-use mathlib.Core.Bool.{Bool, true, false, _&&_, _||_}
+use mathlib.Core.Bool.{Bool, true, false, not, _&&_, _||_, Bool·not-not}
 use mathlib.Core.Logic.{_⊎_, inl, inr}
 use mathlib.Core.Path.{_≡_, refl, sym, ap, _∙_, subst}
-use Prim.Native.Nat.{ℕ, _<_}
+use Prim.Native.Nat.{ℕ, _-_, _^_, _≤_, _<_}
+use lib.Bits.{bitAnd}
 use lib.Pow.{pow-pos}
 use native.Mathlib.Omega.{arith}
 use Rattle.words.specs.Bits.{testBit, withoutBit, assignedBit}
-use Rattle.words.proofs.Bit.{testBit-none, testBit-with-same, testBit-with-other, testBit-without-same, testBit-without-other}
-use Rattle.words.proofs.Cases.{eq-or-ne}
+use Rattle.words.proofs.Bit.{testBit-above, testBit-and-not, testBit-none, testBit-with-same, testBit-with-other, testBit-without-same, testBit-without-other}
+use Rattle.words.proofs.Cases.{eq-or-ne, le-or-lt}
 use Rattle.model.proofs.Lists.{not-both}
 
 -- Of the bits of w, those still in `left` are kept untested, and of the others those that pass.
@@ -63,3 +64,43 @@ without-smaller w b e = rw e (omega (arith, pow-pos b, positive))
         go : (w ≡ 0) ⊎ (w ≡ 0 → ⊥) → 0 < w
         go (inl p) = absurd (not-both (subst (λ (x : ℕ). testBit x b ≡ true) p e) (testBit-none b))
         go (inr p) = omega arith
+
+-- ---- a word of 64 bits taken as a whole
+
+-- A bit that is set is one of the 64.
+pub bit-below : (w i : ℕ) → w < 2 ^ 64 → testBit w i ≡ true → i < 64
+bit-below w i h e = go (le-or-lt 64 i)
+  where
+    go : (64 ≤ i) ⊎ (i < 64) → i < 64
+    go (inl l) = absurd (not-both e (testBit-above w 64 i h l))
+    go (inr l) = l
+
+module _ (keep : ℕ → Bool) (w : ℕ) where
+  -- All that is set stays.
+  pub keeps-all : ((i : ℕ) → testBit w i ≡ true → keep i ≡ true) → (i : ℕ) → testBit w i ≡ (testBit w i && keep i)
+  keeps-all h i = go (testBit w i) refl
+    where
+      go : (b : Bool) → testBit w i ≡ b → b ≡ (b && keep i)
+      go true e = sym (h i e)
+      go false e = refl
+
+  -- Nothing of it does.
+  pub keeps-none : ((i : ℕ) → testBit w i ≡ true → keep i ≡ false) → (i : ℕ) → testBit 0 i ≡ (testBit w i && keep i)
+  keeps-none h i = testBit-none i ∙ go (testBit w i) refl
+    where
+      go : (b : Bool) → testBit w i ≡ b → false ≡ (b && keep i)
+      go true e = sym (h i e)
+      go false e = refl
+
+  -- Nothing is set.
+  pub keeps-nothing : w ≡ 0 → (i : ℕ) → testBit 0 i ≡ (testBit w i && keep i)
+  keeps-nothing e i = testBit-none i ∙ sym (ap (λ (b : Bool). b && keep i) (ap (λ (x : ℕ). testBit x i) e ∙ testBit-none i))
+
+  -- What another word has goes (`w & !v` in code).
+  pub keeps-others : (v : ℕ) → w < 2 ^ 64 → v < 2 ^ 64 → ((i : ℕ) → i < 64 → testBit w i ≡ true → testBit v i ≡ not (keep i))
+      → (i : ℕ) → testBit (bitAnd w (2 ^ 64 - 1 - v)) i ≡ (testBit w i && keep i)
+  keeps-others v hw hv h i = testBit-and-not 64 w v i hw hv ∙ go (testBit w i) refl
+    where
+      go : (b : Bool) → testBit w i ≡ b → (b && not (testBit v i)) ≡ (b && keep i)
+      go true e = ap not (h i (bit-below w i hw e) e) ∙ Bool·not-not (keep i)
+      go false e = refl

@@ -10,15 +10,12 @@ use Rattle.words.specs.Bits.{testBit}
 use Rattle.words.specs.Sets.{member}
 use Rattle.model.specs.Candidate.{isCandidate}
 use Rattle.model.specs.Content.{Job, kindCount}
-use Rattle.model.specs.Layout.{entryOf, entryExtent, conflict}
+use Rattle.model.specs.Grid.{setWords}
+use Rattle.model.specs.Layout.{entryOf, conflict}
 
--- Candidate m of kind u stays once candidate n of kind t is placed: it ends below the bound, is not in conflict with it, and if it is of the
--- same kind its number is larger.
-unfoldable pub stays : Job → ℕ → ℕ → ℕ → ℕ → ℕ → Bool
-stays j bound t n u m =
-    ltb (entryExtent j (entryOf j u m)) bound
-    && not (conflict j (entryOf j t n) (entryOf j u m))
-    && (not (eqb t u) || ltb n m)
+-- Candidate m of kind u stays once candidate n of kind t is placed: it is not in conflict with it, and if it is of the same kind its number is larger.
+unfoldable pub stays : Job → ℕ → ℕ → ℕ → ℕ → Bool
+stays j t n u m = not (conflict j (entryOf j t n) (entryOf j u m)) && (not (eqb t u) || ltb n m)
 
 -- The bits of w that are set are those of candidates of kind u, from number first on.
 abbrev pub BitsAdmitted : Job → ℕ → ℕ → ℕ → Type 0
@@ -31,10 +28,11 @@ pub record Filled (to words : ℕ) (test : ℕ → Bool) (work work′ : List �
   pub behind : drop ((to + words) * 8) work′ ≡ drop ((to + words) * 8) work
 
 -- What is asked of two sets in the work words, the second of which is made from the first by placing candidate n of kind t: the first has
--- only candidates of kind u, and the second lies behind it.
+-- only candidates of kind u, both are no longer than a set of the board, and the second lies behind it.
 pub record Narrowable (j : Job) (t n u from to words : ℕ) (work : List ℕ) : Type 0 where
   pub placed : isCandidate j t n ≡ true
   pub few : words ≤ 64
+  pub within : words ≤ setWords (j .sheet)
   pub behind : from + words ≤ to
   pub fits : (to + words) * 8 ≤ length work
   pub admitted : (m : ℕ) → m < words * 64 → member work (from * 64 + m) ≡ true → isCandidate j u m ≡ true

@@ -10,11 +10,14 @@ ghost use Rattle.model.specs.Search.{copiesLeft};
 ghost use Rattle.live_sets.specs.Known.{Known};
 ghost use Rattle.stepping.specs.Levels.{piecesFrom};
 ghost use Rattle.stepping.specs.Slots.{SetPlace};
-ghost use Rattle.lookahead.specs.Settled.{Placeable, Made, KindSettled, Settled};
+ghost use Rattle.lookahead.specs.Settled.{Placeable, Latest, Made, KindSettled, Settled};
+use candidates::conflicts::Placed;
+use candidates::conflicts::placed_of;
 use live_sets::narrowing::narrow;
-use nofit::offsets::Window;
+use nofit::places::Nofit;
 use plans::lookup::set_start;
 use plans::plan::Plan;
+use runs::progress::Progress;
 use words::sets;
 
 // Whether the set of so many words, from word `at` on, has members for so many copies.
@@ -22,70 +25,73 @@ pub fn has_members(work: &[u8], at: usize, words: usize, copies: u8) -> bool
     requires { ⌜ (words ≤ 64) × (at ≤ 6144) × ((at + words) * 8 ≤ length (now work)) ⌝ }
     ensures { λ r. ⌜ r ≡ leb copies (countMembers (words * 64) (drop (at * 8) (now (work .entry)))) ⌝ }
 {
-    let members = sets::count(&work[at * 8..], words as u32);
-    copies as u64 <= members
+    sets::has_members(&work[at * 8..], words as u32, copies as u64)
 }
 
-// The set of this level and kind, at word `to`: what is left of the set of the level before.
+// The set of this level and kind, at word `to`: what is left of the set of the level before once candidate n of kind t, the latest of the numbers, is placed.
 fn make_set(
     job: &[u8],
     plan: Plan,
-    window: Window,
+    nofit: Nofit,
     turned: &[i16],
-    conflicts: &[u8],
-    bound: usize,
+    strings: &[u8],
+    state: Progress,
     numbers: [usize; 12],
     level: usize,
+    t: usize,
+    n: usize,
+    place: Placed,
     u: usize,
     work: &mut [u8],
     to: usize,
 )
-    requires { ⌜ Known (now job) plan window (now turned) (now conflicts) ⌝ }
-    requires { ⌜ Placeable (content (now job)) numbers level bound (now work) ⌝ }
+    requires { ⌜ Known (now job) plan nofit (now turned) (now strings) ⌝ }
+    requires { ⌜ Placeable (content (now job)) numbers level (state .bound) (state .span) (now work) ⌝ }
     requires { ⌜ (u < kindCount (content (now job))) × (0 < copiesLeft u (piecesFrom (content (now job)) level)) × SetPlace (content (now job)) level u to ⌝ }
-    ensures { λ _. ⌜ Made (content (now (job .entry))) numbers level bound u (now (work .entry)) (now (work .exit)) ⌝ }
+    requires { ⌜ Latest (content (now job)) (plan .rows) numbers level t n place ⌝ }
+    ensures { λ _. ⌜ Made (content (now (job .entry))) numbers level (state .bound) (state .span) u (now (work .entry)) (now (work .exit)) ⌝ }
 {
-    let before = level - 1;
-    let from = set_start(job, plan, before, u);
-    let kinds = plan.kinds;
-    let kind = kinds[before];
+    let from = set_start(job, plan, level - 1, u);
     narrow(
         job,
         plan,
-        window,
+        nofit,
         turned,
-        conflicts,
-        bound,
-        kind as usize,
-        numbers[before],
+        strings,
+        t,
+        n,
+        place,
         u,
         work,
         from,
         to,
-        plan.words,
+        state.span,
     );
 }
 
-// The set of this level and kind, if copies of the kind are left, and whether it has members for them.
+// The set of this level and kind, if copies of the kind are left, and whether it has members for them. What is the same for all kinds is handed in.
 fn settle_kind(
     job: &[u8],
     plan: Plan,
-    window: Window,
+    nofit: Nofit,
     turned: &[i16],
-    conflicts: &[u8],
-    bound: usize,
+    strings: &[u8],
+    state: Progress,
     numbers: [usize; 12],
     level: usize,
+    t: usize,
+    n: usize,
+    place: Placed,
     u: usize,
+    copies: u8,
     work: &mut [u8],
 ) -> bool
-    requires { ⌜ Known (now job) plan window (now turned) (now conflicts) ⌝ }
-    requires { ⌜ Placeable (content (now job)) numbers level bound (now work) ⌝ }
-    requires { ⌜ u < kindCount (content (now job)) ⌝ }
-    ensures { λ r. ⌜ KindSettled (content (now (job .entry))) numbers level bound u (now (work .entry)) (now (work .exit)) r ⌝ }
+    requires { ⌜ Known (now job) plan nofit (now turned) (now strings) ⌝ }
+    requires { ⌜ Placeable (content (now job)) numbers level (state .bound) (state .span) (now work) ⌝ }
+    requires { ⌜ (u < kindCount (content (now job))) × (copies ≡ copiesLeft u (piecesFrom (content (now job)) level)) ⌝ }
+    requires { ⌜ Latest (content (now job)) (plan .rows) numbers level t n place ⌝ }
+    ensures { λ r. ⌜ KindSettled (content (now (job .entry))) numbers level (state .bound) (state .span) u (now (work .entry)) (now (work .exit)) r ⌝ }
 {
-    let table = plan.copies;
-    let copies = table[level * 8 + u];
     if copies == 0 {
         return true;
     }
@@ -93,48 +99,61 @@ fn settle_kind(
     make_set(
         job,
         plan,
-        window,
+        nofit,
         turned,
-        conflicts,
-        bound,
+        strings,
+        state,
         numbers,
         level,
+        t,
+        n,
+        place,
         u,
         work,
         at,
     );
-    has_members(work, at, plan.words, copies)
+    has_members(work, at, state.span, copies)
 }
 
 // The sets of this level, and look-ahead. It ends at the first kind with too few members.
 pub fn settle(
     job: &[u8],
     plan: Plan,
-    window: Window,
+    nofit: Nofit,
     turned: &[i16],
-    conflicts: &[u8],
-    bound: usize,
+    strings: &[u8],
+    state: Progress,
     numbers: [usize; 12],
     level: usize,
     work: &mut [u8],
 ) -> bool
-    requires { ⌜ Known (now job) plan window (now turned) (now conflicts) ⌝ }
-    requires { ⌜ Placeable (content (now job)) numbers level bound (now work) ⌝ }
-    ensures { λ r. ⌜ Settled (content (now (job .entry))) numbers level bound (now (work .entry)) (now (work .exit)) r ⌝ }
+    requires { ⌜ Known (now job) plan nofit (now turned) (now strings) ⌝ }
+    requires { ⌜ Placeable (content (now job)) numbers level (state .bound) (state .span) (now work) ⌝ }
+    ensures { λ r. ⌜ Settled (content (now (job .entry))) numbers level (state .bound) (state .span) (now (work .entry)) (now (work .exit)) r ⌝ }
 {
     let kinds = plan.types;
+    let before = level - 1;
+    let n = numbers[before];
+    let order = plan.kinds;
+    let t = order[before] as usize;
+    let place = placed_of(plan.rows, n);
+    let copies = plan.copies;
     let mut u = 0;
     while u < kinds {
         if !settle_kind(
             job,
             plan,
-            window,
+            nofit,
             turned,
-            conflicts,
-            bound,
+            strings,
+            state,
             numbers,
             level,
+            t,
+            n,
+            place,
             u,
+            copies[level * 8 + u],
             work,
         ) {
             return false;

@@ -1,2 +1,5 @@
-pub mod OffsetLaws
-pub mod OffsetFilling
+pub mod PlaceLaws
+pub mod PatternLaws
+pub mod MeasureLaws
+pub mod FillingLaws
+pub mod PairLaws

@@ -1,1 +1,4 @@
-pub mod Offsets
+pub mod Patterns
+pub mod Measures
+pub mod Places
+pub mod Filling

@@ -1,3 +1,4 @@
-// Conflict by the offset from dot to dot: a table that a run fills once and then looks up.
-pub mod offsets;
-pub mod windows;
+// No-fit patterns: which offsets from a placed piece are blocked for another, as strings of bits that a run fills once and then reads a word at a time.
+pub mod measures;
+pub mod patterns;
+pub mod places;

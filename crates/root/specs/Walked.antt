@@ -1,7 +1,8 @@
--- What the whole walk asks and leaves.
+-- What the whole walk asks and leaves, and what is computed before it.
 use mathlib.Core.List.{List}
 use mathlib.Core.Path.{_≡_}
 use Prim.Native.Nat.{ℕ, _+_, _*_, _≤_}
+use lib.IntN.{ℤ}
 use lib.ListN.{length, drop}
 use Rattle.model.specs.Content.{Job, pieceCount}
 use Rattle.model.specs.Services.{workWords, numbersIn, withLayout}
@@ -9,6 +10,14 @@ use Rattle.stepping.specs.Levels.{walkSpent}
 use Rattle.stepping.specs.LiveSets.{boundOf}
 use Rattle.walks.specs.Walk.{heldOf}
 use Rattle.runs.specs.declared.progress.Progress.{Progress}
+use Rattle.job.specs.declared.View.{View}
+use Rattle.shapes.specs.Boxes.{BoxesOf}
+use Rattle.shapes.specs.Turned.{Viewed, TurnedOf}
+use Rattle.shapes.specs.declared.boxes.Boxes.{Boxes}
+use Rattle.plans.specs.Planned.{PlanOf}
+use Rattle.plans.specs.declared.plan.Plan.{Plan}
+use Rattle.nofit.specs.Patterns.{MeasuresOf}
+use Rattle.nofit.specs.declared.places.Nofit.{Nofit}
 
 -- The buffers are large enough.
 pub record RoomFor (j : Job) (work out : List ℕ) : Type 0 where
@@ -24,3 +33,11 @@ pub record Walked (j : Job) (budget : ℕ) (work out work′ out′ : List ℕ) 
   pub lowered : st .bound ≤ j .sheet .L + 1
   pub written : out′ ≡ withLayout (walkSpent j budget .held) out
   pub behind : drop (workWords j * 8) work′ ≡ drop (workWords j * 8) work
+
+-- What a run computes once is the job's own: its view, turned vertices, boxes and plan, and the measures of its table of no-fit strings.
+pub record Computed (s : List ℕ) (v : View) (turned : List ℤ) (b : Boxes) (p : Plan) (w : Nofit) : Type 0 where
+  pub viewed : Viewed s v
+  pub table : TurnedOf s turned
+  pub boxed : BoxesOf s b
+  pub plan : PlanOf s p
+  pub measures : MeasuresOf s w

@@ -6,6 +6,7 @@ ghost use Rattle.words.specs.Bits.{bitsWhere};
 ghost use Rattle.model.specs.Candidate.{isCandidate};
 ghost use Rattle.model.specs.Content.{kindCount};
 ghost use Rattle.model.specs.Format.{content};
+ghost use Rattle.model.specs.Grid.{setWords};
 ghost use Rattle.model.specs.Services.{workWords};
 ghost use Rattle.shapes.specs.Boxes.{BoxesOf};
 ghost use Rattle.shapes.specs.Turned.{Viewed};
@@ -54,7 +55,7 @@ fn fill(job: &[u8], view: View, boxes: Boxes, u: usize, work: &mut [u8], to: usi
 pub fn settle_first(job: &[u8], view: View, boxes: Boxes, plan: Plan, work: &mut [u8]) -> bool
     requires { ⌜ Viewed (now job) view × BoxesOf (now job) boxes × PlanOf (now job) plan ⌝ }
     requires { ⌜ workWords (content (now job)) * 8 ≤ length (now work) ⌝ }
-    ensures { λ r. ⌜ Settled (content (now (job .entry))) (replicate 12 0) 0 (content (now (job .entry)) .sheet .L + 1) (now (work .entry)) (now (work .exit)) r ⌝ }
+    ensures { λ r. ⌜ Settled (content (now (job .entry))) (replicate 12 0) 0 (content (now (job .entry)) .sheet .L + 1) (setWords (content (now (job .entry)) .sheet)) (now (work .entry)) (now (work .exit)) r ⌝ }
 {
     let kinds = plan.types;
     let copies = plan.copies;

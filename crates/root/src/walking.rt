@@ -1,31 +1,118 @@
 // The walk of an accepted job from its root, where nothing is placed.
-ghost use Prim.Native.Nat.{_≤_};
+ghost use Prim.Native.Nat.{_*_, _+_, _≤_};
+ghost use lib.ListN.{length, replicate};
 ghost use Rattle.model.specs.Format.{content};
 ghost use Rattle.shapes.specs.Turned.{Viewed};
-ghost use Rattle.root.specs.Walked.{RoomFor, Walked};
+ghost use Rattle.stepping.specs.Levels.{tryLevel, numbersAt};
+ghost use Rattle.walks.specs.Walk.{heldOf, Ready, Left};
+ghost use Rattle.root.specs.Walked.{RoomFor, Walked, Computed};
 use crate::beginning::settle_first;
 use job::View;
-use nofit::offsets::make_offsets;
-use nofit::windows::window_of;
+use nofit::measures::nofit_of;
+use nofit::patterns::make_nofit;
+use nofit::places::Nofit;
+use plans::plan::Plan;
 use plans::plan::make_plan;
 use runs::progress::Progress;
 use runs::progress::begin;
+use shapes::boxes::Boxes;
 use shapes::boxes::boxes_of;
 use shapes::turned::turn_all;
 use walks::walk::try_piece;
 
-// How many bits the table of conflicts may have. The fewer the steps, the fewer are worth their price; 196,608 fill its 24,576 bytes.
-fn table_limit(budget: u32) -> usize
-    ensures { λ r. ⌜ r ≤ 196608 ⌝ }
+// How many words the no-fit strings may take. The fewer the steps, the fewer strings are worth their price; 25,399 words, with the parities and a word more,
+// fill the larger of the two tables.
+fn room_for(budget: u32) -> usize
+    ensures { λ r. ⌜ r ≤ 25399 ⌝ }
 {
-    if budget < 3072 {
-        budget as usize * 64
+    if budget < 6349 {
+        budget as usize * 4
     } else {
-        196608
+        25399
     }
 }
 
-// The walk of an accepted job, in buffers that are large enough. What holds for the whole walk is computed first; the table of conflicts only
+// The walk of the first piece, with the table of no-fit strings in the bytes lent.
+fn walk_over(
+    job: &[u8],
+    view: View,
+    turned: &[i16],
+    boxes: Boxes,
+    plan: Plan,
+    nofit: Nofit,
+    strings: &mut [u8],
+    work: &mut [u8],
+    answer: &mut [u8],
+    start: Progress,
+) -> Progress
+    requires { ⌜ Computed (now job) view (now turned) boxes plan nofit ⌝ }
+    requires { ⌜ (nofit .first + nofit .held * nofit .size + 1) * 8 ≤ length (now strings) ⌝ }
+    requires { ⌜ Ready (content (now job)) (now work) (now answer) (replicate 12 0) 0 1 0 start ⌝ }
+    ensures { λ r. ⌜ Left (content (now (job .entry))) (replicate 12 0) (now (work .entry)) (now (answer .entry)) (now (work .exit)) (now (answer .exit)) 1 start r (tryLevel (content (now (job .entry))) (numbersAt (replicate 12 0)) 0 0 (start .left) (heldOf (content (now (job .entry))) (start .found) (now (answer .entry)))) ⌝ }
+{
+    make_nofit(job, view, turned, boxes, nofit, strings);
+    try_piece(
+        job,
+        plan,
+        nofit,
+        turned,
+        strings,
+        work,
+        answer,
+        [0usize; 12],
+        0,
+        0,
+        start,
+    )
+}
+
+// The same with a table of its own: a small one where that is enough, since a table is cleared before it is filled.
+fn walk_with_table(
+    job: &[u8],
+    view: View,
+    turned: &[i16],
+    boxes: Boxes,
+    plan: Plan,
+    nofit: Nofit,
+    work: &mut [u8],
+    answer: &mut [u8],
+    start: Progress,
+) -> Progress
+    requires { ⌜ Computed (now job) view (now turned) boxes plan nofit × (nofit .first + nofit .held * nofit .size + 1 ≤ 25600) ⌝ }
+    requires { ⌜ Ready (content (now job)) (now work) (now answer) (replicate 12 0) 0 1 0 start ⌝ }
+    ensures { λ r. ⌜ Left (content (now (job .entry))) (replicate 12 0) (now (work .entry)) (now (answer .entry)) (now (work .exit)) (now (answer .exit)) 1 start r (tryLevel (content (now (job .entry))) (numbersAt (replicate 12 0)) 0 0 (start .left) (heldOf (content (now (job .entry))) (start .found) (now (answer .entry)))) ⌝ }
+{
+    if nofit.first + nofit.held * nofit.size < 1024 {
+        let mut strings = [0u8; 8192];
+        return walk_over(
+            job,
+            view,
+            turned,
+            boxes,
+            plan,
+            nofit,
+            &mut strings,
+            work,
+            answer,
+            start,
+        );
+    }
+    let mut strings = [0u8; 204800];
+    walk_over(
+        job,
+        view,
+        turned,
+        boxes,
+        plan,
+        nofit,
+        &mut strings,
+        work,
+        answer,
+        start,
+    )
+}
+
+// The walk of an accepted job, in buffers that are large enough. What holds for the whole walk is computed first; the table of no-fit strings only
 // where look-ahead lets the walk begin.
 pub fn walk(job: &[u8], view: View, budget: u32, work: &mut [u8], answer: &mut [u8]) -> Progress
     requires { ⌜ Viewed (now job) view × RoomFor (content (now job)) (now work) (now answer) ⌝ }
@@ -35,24 +122,10 @@ pub fn walk(job: &[u8], view: View, budget: u32, work: &mut [u8], answer: &mut [
     turn_all(job, view, &mut turned);
     let boxes = boxes_of(job, view, &turned);
     let plan = make_plan(job, view, boxes);
-    let start = begin(budget, view.length);
+    let start = begin(budget, view.length, plan.words);
     if !settle_first(job, view, boxes, plan, work) {
         return start;
     }
-    let window = window_of(view, boxes, table_limit(budget));
-    let mut conflicts = [0u8; 24576];
-    make_offsets(job, view, &turned, window, &mut conflicts);
-    try_piece(
-        job,
-        plan,
-        window,
-        &turned,
-        &conflicts,
-        work,
-        answer,
-        [0usize; 12],
-        0,
-        0,
-        start,
-    )
+    let nofit = nofit_of(job, view, boxes, room_for(budget));
+    walk_with_table(job, view, &turned, boxes, plan, nofit, work, answer, start)
 }

@@ -7,20 +7,20 @@ use Rattle.model.specs.declared.RunAnswer.the-variants as R
 use Rattle.runs.specs.declared.progress.Progress.{Progress}
 
 -- The whole budget is left, nothing is held, and the bound bounds nothing.
-abbrev pub begun : ℕ → ℕ → Progress
-begun budget length = record { left = budget; bound = length + 1; found = false; stopped = false }
+abbrev pub begun : ℕ → ℕ → ℕ → Progress
+begun budget length span = record { left = budget; bound = length + 1; span = span; found = false; stopped = false }
 
 -- One step less of the budget.
 abbrev pub stepped : Progress → Progress
-stepped st = record { left = st .left - 1; bound = st .bound; found = st .found; stopped = false }
+stepped st = record { left = st .left - 1; bound = st .bound; span = st .span; found = st .found; stopped = false }
 
 -- Stopped, with the budget spent.
 abbrev pub halted : Progress → Progress
-halted st = record { left = 0; bound = st .bound; found = st .found; stopped = true }
+halted st = record { left = 0; bound = st .bound; span = st .span; found = st .found; stopped = true }
 
 -- A layout of this length is held.
-abbrev pub completed : Progress → ℕ → Progress
-completed st length = record { left = st .left; bound = length; found = true; stopped = false }
+abbrev pub completed : Progress → ℕ → ℕ → Progress
+completed st length span = record { left = st .left; bound = length; span = span; found = true; stopped = false }
 
 -- The answer by whether the walk stopped, whether a layout is held, that layout's length and the steps.
 abbrev pub told : Bool → Bool → ℕ → ℕ → RunAnswer

@@ -5,22 +5,25 @@ ghost use Rattle.runs.specs.Told.{begun, stepped, halted, completed, tol
 use model::Held;
 use model::RunAnswer;
 
-// How far the walk has come: what is left of the budget, what an end has to stay below, whether a layout is held, whether the walk stopped.
+// How far the walk has come: what is left of the budget, what an end has to stay below, in how many words of a live set candidates lie that do so, whether a
+// layout is held, whether the walk stopped.
 pub struct Progress {
     pub left: u32,
     pub bound: usize,
+    pub span: usize,
     pub found: bool,
     pub stopped: bool,
 }
 
-// At the beginning: the whole budget is left, and on a board of this length the bound bounds nothing.
-pub fn begin(budget: u32, length: usize) -> Progress
+// At the beginning: the whole budget is left, and on a board of this length the bound bounds nothing; the words of a set are so many.
+pub fn begin(budget: u32, length: usize, span: usize) -> Progress
     requires { ⌜ length ≤ 1000 ⌝ }
-    ensures { λ r. ⌜ r ≡ begun budget length ⌝ }
+    ensures { λ r. ⌜ r ≡ begun budget length span ⌝ }
 {
     Progress {
         left: budget,
         bound: length + 1,
+        span,
         found: false,
         stopped: false,
     }
@@ -34,6 +37,7 @@ pub fn step(st: Progress) -> Progress
     Progress {
         left: st.left - 1,
         bound: st.bound,
+        span: st.span,
         found: st.found,
         stopped: false,
     }
@@ -46,18 +50,20 @@ pub fn halt(st: Progress) -> Progress
     Progress {
         left: 0,
         bound: st.bound,
+        span: st.span,
         found: st.found,
         stopped: true,
     }
 }
 
-// A layout of this length was completed: from now on an end has to stay below it.
-pub fn complete(st: Progress, length: usize) -> Progress
-    ensures { λ r. ⌜ r ≡ completed st length ⌝ }
+// A layout of this length was completed: from now on an end has to stay below it, and candidates that do so lie in so many words.
+pub fn complete(st: Progress, length: usize, span: usize) -> Progress
+    ensures { λ r. ⌜ r ≡ completed st length span ⌝ }
 {
     Progress {
         left: st.left,
         bound: length,
+        span,
         found: true,
         stopped: false,
     }

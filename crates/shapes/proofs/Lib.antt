@@ -2,3 +2,4 @@ pub mod TurnLaws
 pub mod ViewLaws
 pub mod PieceLaws
 pub mod BoxLaws
+pub mod Apart

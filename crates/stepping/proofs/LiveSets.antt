@@ -68,6 +68,11 @@ module _ (j : Job) where
 
   -- ---- How a set changes
 
+  -- Where nothing is placed the members are the candidates that end below the bound.
+  pub set-first : (bound u m : ℕ) → setOf j [] bound u m ≡ (isCandidate j u m && ltb (entryExtent j (entryOf j u m)) bound)
+  unfolding setOf free any abovePrevious
+  set-first bound u m = rw (and-true, and-true)
+
   -- At the beginning every candidate is a member.
   pub set-begin : (u m : ℕ) → setOf j [] (j .sheet .L + 1) u m ≡ isCandidate j u m
   unfolding setOf free any abovePrevious

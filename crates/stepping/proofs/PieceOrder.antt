@@ -12,6 +12,7 @@ use Rattle.words.proofs.Cases.{le-or-lt}
 use Rattle.model.specs.Content.{Job, kindAt, kindCount, pieceCount}
 use Rattle.model.specs.Lists.{concat, countOf, rising, below}
 use Rattle.model.specs.Search.{pieces, copiesLeft}
+use Rattle.model.proofs.Search.Pieces.{count-pieces}
 use Rattle.model.proofs.Sorted.{blocks}
 use Rattle.stepping.specs.Levels.{pieceKind, piecesFrom}
 use Rattle.stepping.proofs.Levels.{pieces-next, pieces-end, copies-next}
@@ -71,6 +72,11 @@ module _ (j : Job) where
   pub copies-end : (u : ℕ) → copiesLeft u (piecesFrom j (pieceCount j)) ≡ 0
   unfolding copiesLeft countOf
   copies-end u = rw (pieces-end j (pieceCount j) (omega arith))
+
+  -- Before the first piece all demanded copies are left.
+  pub copies-first : (u : ℕ) → u < kindCount j → copiesLeft u (piecesFrom j 0) ≡ kindAt j u .demand
+  unfolding copiesLeft piecesFrom
+  copies-first u h = count-pieces j u h
 
   -- A copy of a piece's kind is left before the piece.
   pub copies-here : (l : ℕ) → l < pieceCount j → 0 < copiesLeft (pieceKind j l) (piecesFrom j l)

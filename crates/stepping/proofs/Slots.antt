@@ -13,7 +13,7 @@ use Rattle.model.specs.Grid.{setWords}
 use Rattle.model.specs.Layout.{Layout}
 use Rattle.model.specs.Services.{workWords}
 use Rattle.stepping.specs.LiveSets.{Keeps}
-use Rattle.stepping.specs.Slots.{setStart, slotOf, KeepsSince, Frame}
+use Rattle.stepping.specs.Slots.{setStart, slotOf, Frame}
 
 module _ (j : Job) where
   -- ---- Places
@@ -57,16 +57,16 @@ module _ (j : Job) where
   slot-member work l u m = member-drop (setStart j l u) work m
 
   -- A set whose members did not change is kept.
-  pub keeps-same : (placed : Layout) (bound l u : ℕ) (work work′ : List ℕ)
-      → ((m : ℕ) → m < setWords (j .sheet) * 64 → member work′ (setStart j l u * 64 + m) ≡ member work (setStart j l u * 64 + m))
-      → Keeps j placed bound u (slotOf j work l u) → Keeps j placed bound u (slotOf j work′ l u)
-  keeps-same placed bound l u work work′ f k m h = slot-member work′ l u m ∙ f m h ∙ sym (slot-member work l u m) ∙ k m h
+  pub keeps-same : (placed : Layout) (bound span l u : ℕ) (work work′ : List ℕ)
+      → ((m : ℕ) → m < span * 64 → member work′ (setStart j l u * 64 + m) ≡ member work (setStart j l u * 64 + m))
+      → Keeps j placed bound span u (slotOf j work l u) → Keeps j placed bound span u (slotOf j work′ l u)
+  keeps-same placed bound span l u work work′ f k m h = slot-member work′ l u m ∙ f m h ∙ sym (slot-member work l u m) ∙ k m h
 
   -- So is one below a level, where only that level and those above it changed.
-  pub keeps-frame : (placed : Layout) (bound l k u : ℕ) (work work′ : List ℕ) → l < k → u < kindCount j → Frame j k work work′
-      → KeepsSince j placed bound u (slotOf j work l u) → KeepsSince j placed bound u (slotOf j work′ l u)
-  keeps-frame placed bound l k u work work′ h g f s =
-      (s .0, s .1, keeps-same placed (s .0) l u work work′ (λ m q. f .lower (setStart j l u * 64 + m) (omega (arith, start-lower l k u h g))) (s .2))
+  pub keeps-frame : (placed : Layout) (bound span l k u : ℕ) (work work′ : List ℕ) → span ≤ setWords (j .sheet) → l < k → u < kindCount j → Frame j k work work′
+      → Keeps j placed bound span u (slotOf j work l u) → Keeps j placed bound span u (slotOf j work′ l u)
+  keeps-frame placed bound span l k u work work′ few h g f s =
+      keeps-same placed bound span l u work work′ (λ m q. f .lower (setStart j l u * 64 + m) (omega (arith, start-lower l k u h g))) s
 
   -- ---- Frames
 
@@ -75,9 +75,6 @@ module _ (j : Job) where
 
   pub frame-then : (l : ℕ) (a b c : List ℕ) → Frame j l a b → Frame j l b c → Frame j l a c
   frame-then l a b c f g = record { lower = λ m h. g .lower m h ∙ f .lower m h; behind = g .behind ∙ f .behind }
-
-  pub frame-lower : (l k : ℕ) (a b : List ℕ) → l ≤ k → Frame j k a b → Frame j l a b
-  frame-lower l k a b h f = record { lower = λ m q. f .lower m (omega (arith, start-levels l k h)); behind = f .behind }
 
 -- A part of a list to its end.
 pub part-rest : (a : ℕ) (s : List ℕ) → take (length s - a) (drop a s) ≡ drop a s

@@ -1,9 +1,9 @@
 -- The live sets that the search keeps, one for each kind: which numbers are in them.
-use mathlib.Core.Bool.{Bool, _&&_, _||_}
+use mathlib.Core.Bool.{Bool, true, _&&_, _||_}
 use mathlib.Core.List.{List}
 use mathlib.Core.Option.{Option, none, some}
 use mathlib.Core.Path.{_≡_}
-use Prim.Native.Nat.{ℕ, _+_, _*_, _<_}
+use Prim.Native.Nat.{ℕ, _+_, _*_, _≤_, _<_}
 use lib.Dec.{leb, ltb, eqb}
 use Rattle.words.specs.Sets.{member}
 use Rattle.model.specs.Candidate.{isCandidate}
@@ -31,9 +31,15 @@ boundOf j (some es) = layoutLength j es
 unfoldable pub membersOf : Job → Layout → ℕ → ℕ → ℕ
 membersOf j placed bound u = countOf (setOf j placed bound u) (below (setWords (j .sheet) * 64))
 
--- These bytes keep the set: of all numbers that its words have a bit for, the members are those in it.
-abbrev pub Keeps : Job → Layout → ℕ → ℕ → List ℕ → Type 0
-Keeps j placed bound u s = (m : ℕ) → m < setWords (j .sheet) * 64 → member s m ≡ setOf j placed bound u m
+-- All candidates that end below the bound lie in so many words of a set.
+pub record Spans (j : Job) (bound span : ℕ) : Type 0 where
+  pub within : span ≤ setWords (j .sheet)
+  pub covers : (u m : ℕ) → isCandidate j u m ≡ true → entryExtent j (entryOf j u m) < bound → m < span * 64
+
+-- These bytes keep the set: of all numbers that its first `span` words have a bit for, the members are those in it. (The words behind them are not looked
+-- at any more.)
+abbrev pub Keeps : Job → Layout → ℕ → ℕ → ℕ → List ℕ → Type 0
+Keeps j placed bound span u s = (m : ℕ) → m < span * 64 → member s m ≡ setOf j placed bound u m
 
 -- Look-ahead on the sets: each kind with copies left has at least as many members.
 unfoldable pub enough : Job → List ℕ → Layout → ℕ → Bool

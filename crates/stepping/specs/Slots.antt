@@ -6,9 +6,7 @@ use lib.ListN.{drop}
 use Rattle.words.specs.Sets.{member}
 use Rattle.model.specs.Content.{Job, kindCount}
 use Rattle.model.specs.Grid.{setWords}
-use Rattle.model.specs.Layout.{Layout}
 use Rattle.model.specs.Services.{workWords}
-use Rattle.stepping.specs.LiveSets.{Keeps}
 
 -- The word at which the set of level l and kind u begins.
 unfoldable pub setStart : Job → ℕ → ℕ → ℕ
@@ -17,10 +15,6 @@ setStart j l u = (l * kindCount j + u) * setWords (j .sheet)
 -- The bytes from there on.
 unfoldable pub slotOf : Job → List ℕ → ℕ → ℕ → List ℕ
 slotOf j work l u = drop (setStart j l u * 8) work
-
--- These bytes keep the set as it was at some earlier bound: the members that end below this bound are the set's.
-abbrev pub KeepsSince : Job → Layout → ℕ → ℕ → List ℕ → Type 0
-KeepsSince j placed bound u s = (earlier : ℕ) × (bound ≤ earlier) × Keeps j placed earlier u s
 
 -- From work to work′ the sets of the levels below l did not change, and nothing behind the needed words.
 pub record Frame (j : Job) (l : ℕ) (work work′ : List ℕ) : Type 0 where

@@ -9,7 +9,7 @@ use native.Mathlib.Omega.{arith}
 use lib.ListN.{length, length-map}
 use Rattle.words.proofs.Cases.{eq-or-ne}
 use Rattle.model.specs.Candidate.{isCandidate}
-use Rattle.model.specs.Content.{Job, kindCount, pieceCount}
+use Rattle.model.specs.Content.{Job, kindAt, kindCount, pieceCount}
 use Rattle.model.specs.Grid.{dots, numberLimit}
 use Rattle.model.specs.Layout.{Layout, entryOf, entryAt, noEntry, isEntry, layoutLength}
 use Rattle.model.specs.Lists.{all, below}
@@ -17,18 +17,21 @@ use Rattle.model.specs.Search.{copiesLeft}
 use Rattle.model.specs.Services.{layoutIn, withLayout}
 use Rattle.model.proofs.Lists.{and-left, and-right, length-below, getD-map-below}
 use Rattle.model.proofs.ReadBack.{Small, read-layout}
-use Rattle.stepping.specs.LiveSets.{boundOf, enough}
+use Rattle.stepping.specs.LiveSets.{boundOf, enough, Keeps}
 use Rattle.stepping.specs.Levels.{pieceKind, piecesFrom, placedBelow, tryLevel, goOnLevel, numbersAt, placedOf}
-use Rattle.stepping.specs.Slots.{slotOf, KeepsSince}
+use Rattle.stepping.specs.Slots.{slotOf}
 use Rattle.stepping.specs.Spending.{spent}
-use Rattle.lookahead.specs.Settled.{Placeable, Settled}
+use Rattle.bounding.specs.Trimmed.{Admitted, Lowered}
+use Rattle.lookahead.specs.Settled.{SetsKept, Placeable, Settled}
 use Rattle.plans.specs.Recording.{layoutOf, Recordable}
 use Rattle.walks.specs.Walk.{heldOf, Ready, Taken, Left}
 use Rattle.runs.specs.Told.{completed}
 use Rattle.runs.specs.declared.progress.Progress.{Progress}
 use Rattle.stepping.proofs.Extents.{candidate-entry, candidate-below, candidate-bounds, bounds-small}
 use Rattle.stepping.proofs.Levels.{placed-layout, level-last, level-back, level-deep}
-use Rattle.stepping.proofs.Slots.{keeps-frame, frame-same, frame-then, frame-lower}
+use Rattle.stepping.proofs.Kept.{kept-candidate}
+use Rattle.stepping.proofs.Slots.{slot-member, keeps-frame}
+use Rattle.walks.proofs.Lowered.{lowered-sets, lowered-spans}
 use Rattle.stepping.proofs.Steps.{bound-complete}
 
 module _ (j : Job) (ns : List ℕ) where
@@ -74,14 +77,22 @@ module _ (j : Job) (ns : List ℕ) where
     record-ready d k e =
         record { small = numbers-small d k (subst (λ (l : ℕ). all (isEntry j) (placedOf j ns l) ≡ true) e (r .admitted)); fits = r .out-fits }
 
-    pub go-last : (out′ : List ℕ) (st′ : Progress) → st′ ≡ completed st len → dots (j .sheet) ≤ 1024 → kindCount j ≤ 8 → level ≡ pieceCount j → out′ ≡ withLayout (some (layoutOf j ns)) out
-        → Left j work out work out′ level st st′ (goOnLevel j (numbersAt ns) level (st .left) (heldOf j (st .found) out))
-    go-last out′ st′ q d k e o =
+    -- The sets of a complete layout's levels can be trimmed: their members are candidates.
+    pub lower-ready : level ≡ pieceCount j → Admitted j (st .span) work
+    lower-ready e l u m hl hu c h q =
+        kept-candidate j (placedOf j ns l) (st .bound) (st .span) u (slotOf j work l u) (r .sets l u (omega arith) hu c) m h (slot-member j work l u m ∙ q)
+
+    pub go-last : (work′ out′ : List ℕ) (left : ℕ) (st′ : Progress) → st′ ≡ completed st len left → dots (j .sheet) ≤ 1024 → kindCount j ≤ 8
+        → ((u : ℕ) → u < kindCount j → 0 < kindAt j u .demand) → 0 < level → level ≡ pieceCount j
+        → out′ ≡ withLayout (some (layoutOf j ns)) out → Lowered j len (st .span) work work′ left
+        → Left j ns work out work′ out′ level st st′ (goOnLevel j (numbersAt ns) level (st .left) (heldOf j (st .found) out))
+    go-last work′ out′ left st′ q d k demanded one e o v =
         let w : goOnLevel j (numbersAt ns) level (st .left) (heldOf j (st .found) out) ≡ spent (st .left) (some (layoutOf j ns)) false =
         ap (λ (l : ℕ). goOnLevel j (numbersAt ns) l (st .left) (heldOf j (st .found) out)) e
         ∙ level-last j (numbersAt ns) (st .left) (heldOf j (st .found) out)
         ∙ ap (λ (es : Layout). spent (st .left) (some es) false) layout-placed in
         let a : all (isEntry j) (placedOf j ns (pieceCount j)) ≡ true = subst (λ (l : ℕ). all (isEntry j) (placedOf j ns l) ≡ true) e (r .admitted) in
+        let sets : SetsKept j ns (pieceCount j) (st .bound) (st .span) work = subst (λ (l : ℕ). SetsKept j ns l (st .bound) (st .span) work) e (r .sets) in
         rw (w, q) (record {
           left = refl;
           stopped = refl;
@@ -89,20 +100,22 @@ module _ (j : Job) (ns : List ℕ) where
           bound-is = r .len-is ∙ ap (λ (l : ℕ). layoutLength j (placedOf j ns l)) e ∙ sym (bound-complete j (placedOf j ns (pieceCount j))) ∙ ap (λ (es : Layout). boundOf j (some es)) layout-placed;
           lowered = omega arith;
           written = o;
-          frame = frame-same j level work;
+          spans = lowered-spans j ns (st .bound) (st .span) len left work work′ (r .spans) sets (omega arith) v (rw (← e) one) demanded;
+          sets = subst (λ (l : ℕ). SetsKept j ns l len left work′) (sym e) (lowered-sets j ns (st .bound) (st .span) len left work work′ (r .spans) sets (omega arith) v);
+          behind = v .trimmed .behind;
         })
 
     -- ---- Look-ahead
 
-    pub settle-ready : level < pieceCount j → Taken j ns level len st → Placeable j ns level (st .bound) work
-    settle-ready h t = record { within = h; fits = r .work-fits; later = t .some; latest = t .latest; sets = r .sets }
+    pub settle-ready : level < pieceCount j → Taken j ns level len st → Placeable j ns level (st .bound) (st .span) work
+    settle-ready h t = record { within = h; fits = r .work-fits; later = t .some; latest = t .latest; spans = r .spans; sets = r .sets }
 
     short : layoutLength j (placedOf j ns level) < boundOf j (heldOf j (st .found) out)
     short = rw (← (r .len-is), ← (r .bound-is)) under
 
     -- It fails: the candidate is given back.
-    pub go-back : (work′ : List ℕ) (told : Bool) → level < pieceCount j → told ≡ false → Settled j ns level (st .bound) work work′ told
-        → Left j work out work′ out level st st (goOnLevel j (numbersAt ns) level (st .left) (heldOf j (st .found) out))
+    pub go-back : (work′ : List ℕ) (told : Bool) → level < pieceCount j → told ≡ false → Settled j ns level (st .bound) (st .span) work work′ told
+        → Left j ns work out work′ out level st st (goOnLevel j (numbersAt ns) level (st .left) (heldOf j (st .found) out))
     go-back work′ told h e s =
         let w : goOnLevel j (numbersAt ns) level (st .left) (heldOf j (st .found) out) ≡ spent (st .left) (heldOf j (st .found) out) false =
         level-back j (numbersAt ns) level (heldOf j (st .found) out) (r .admitted) short (st .left) h
@@ -114,11 +127,13 @@ module _ (j : Job) (ns : List ℕ) where
           bound-is = r .bound-is;
           lowered = omega arith;
           written = sym (r .written);
-          frame = s .frame;
+          spans = r .spans;
+          sets = λ l u h g k. keeps-frame j (placedOf j ns l) (st .bound) (st .span) l level u work work′ (r .spans .within) h g (s .frame) (r .sets l u h g k);
+          behind = s .frame .behind;
         })
 
     -- It holds: the next piece tries its candidates.
-    pub deep-ready : (work′ : List ℕ) (told : Bool) → told ≡ true → Settled j ns level (st .bound) work work′ told → length work′ ≡ length work
+    pub deep-ready : (work′ : List ℕ) (told : Bool) → told ≡ true → Settled j ns level (st .bound) (st .span) work work′ told → length work′ ≡ length work
         → Ready j work′ out ns level (level + 1) len st
     deep-ready work′ told e s q =
         record {
@@ -130,19 +145,20 @@ module _ (j : Job) (ns : List ℕ) where
           bound-is = r .bound-is;
           written = r .written;
           running = r .running;
+          spans = r .spans;
           sets = λ l u h g k. sets l u h g k (eq-or-ne l level);
         }
       where
         sets : (l u : ℕ) → l < level + 1 → u < kindCount j → 0 < copiesLeft u (piecesFrom j l) → (l ≡ level) ⊎ (l ≡ level → ⊥)
-            → KeepsSince j (placedOf j ns l) (st .bound) u (slotOf j work′ l u)
+            → Keeps j (placedOf j ns l) (st .bound) (st .span) u (slotOf j work′ l u)
         sets l u h g k (inl c) =
-            subst (λ (l : ℕ). KeepsSince j (placedOf j ns l) (st .bound) u (slotOf j work′ l u)) (sym c)
-            (st .bound, omega arith, s .kept e u g (subst (λ (l : ℕ). 0 < copiesLeft u (piecesFrom j l)) c k))
-        sets l u h g k (inr c) = keeps-frame j (placedOf j ns l) (st .bound) l level u work work′ (omega arith) g (s .frame) (r .sets l u (omega arith) g k)
+            subst (λ (l : ℕ). Keeps j (placedOf j ns l) (st .bound) (st .span) u (slotOf j work′ l u)) (sym c)
+            (s .kept e u g (subst (λ (l : ℕ). 0 < copiesLeft u (piecesFrom j l)) c k))
+        sets l u h g k (inr c) = keeps-frame j (placedOf j ns l) (st .bound) (st .span) l level u work work′ (r .spans .within) (omega arith) g (s .frame) (r .sets l u (omega arith) g k)
 
-    pub go-deep : (work′ work″ out′ : List ℕ) (st′ : Progress) (told : Bool) → level < pieceCount j → told ≡ true → Settled j ns level (st .bound) work work′ told
-        → Left j work′ out work″ out′ (level + 1) st st′ (tryLevel j (numbersAt ns) level 0 (st .left) (heldOf j (st .found) out))
-        → Left j work out work″ out′ level st st′ (goOnLevel j (numbersAt ns) level (st .left) (heldOf j (st .found) out))
+    pub go-deep : (work′ work″ out′ : List ℕ) (st′ : Progress) (told : Bool) → level < pieceCount j → told ≡ true → Settled j ns level (st .bound) (st .span) work work′ told
+        → Left j ns work′ out work″ out′ (level + 1) st st′ (tryLevel j (numbersAt ns) level 0 (st .left) (heldOf j (st .found) out))
+        → Left j ns work out work″ out′ level st st′ (goOnLevel j (numbersAt ns) level (st .left) (heldOf j (st .found) out))
     go-deep work′ work″ out′ st′ told h e s d =
         let w : goOnLevel j (numbersAt ns) level (st .left) (heldOf j (st .found) out) ≡ tryLevel j (numbersAt ns) level 0 (st .left) (heldOf j (st .found) out) =
         level-deep j (numbersAt ns) level (heldOf j (st .found) out) (r .admitted) short (st .left) h
@@ -154,5 +170,7 @@ module _ (j : Job) (ns : List ℕ) where
           bound-is = d .bound-is;
           lowered = d .lowered;
           written = d .written;
-          frame = frame-then j level work work′ work″ (s .frame) (frame-lower j level (level + 1) work′ work″ (omega arith) (d .frame));
+          spans = d .spans;
+          sets = λ l u h. d .sets l u (omega arith);
+          behind = d .behind ∙ s .frame .behind;
         })

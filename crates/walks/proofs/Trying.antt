@@ -7,19 +7,20 @@ use mathlib.Core.Path.{_≡_, refl, sym, ap, _∙_, subst}
 use Prim.Native.Nat.{ℕ, suc, _+_, _*_, _-_, max, _≤_, _<_}
 use native.Mathlib.Numerals.{add-one}
 use native.Mathlib.Omega.{arith}
-use lib.ListN.{length, set, length-set, length-map}
+use lib.ListN.{length, drop, set, length-set, length-map}
 use lib.Seq.{getD-set-same, getD-set-other}
 use Rattle.words.specs.Number.{count}
 use Rattle.model.specs.Content.{Job, pieceCount}
 use Rattle.model.specs.Grid.{setWords}
 use Rattle.model.specs.Layout.{Layout, entryOf, entryExtent, isEntry, layoutLength}
 use Rattle.model.specs.Lists.{all, below}
-use Rattle.model.specs.Services.{entryIn, layoutIn, withLayout, numbersIn}
+use Rattle.model.specs.Services.{entryIn, layoutIn, withLayout, numbersIn, workWords}
 use Rattle.model.proofs.Lists.{length-below}
 use Rattle.model.proofs.Search.Completions.{length-cons}
-use Rattle.stepping.specs.LiveSets.{setOf, boundOf}
+use Rattle.stepping.specs.LiveSets.{setOf, boundOf, Keeps}
 use Rattle.stepping.specs.Levels.{pieceKind, piecesFrom, placedBelow, tryLevel, goOnLevel, numbersAt, placedOf}
-use Rattle.stepping.specs.Slots.{slotOf, KeepsSince, Frame}
+use Rattle.stepping.specs.Slots.{slotOf}
+use Rattle.lookahead.specs.Settled.{SetsKept}
 use Rattle.stepping.specs.Spending.{Spent, spent}
 use Rattle.stepping.specs.Steps.{Entries}
 use Rattle.stepping.proofs.Answer.{layout-after}
@@ -28,7 +29,6 @@ use Rattle.stepping.proofs.Held.{goOn-none}
 use Rattle.stepping.proofs.Levels.{piece-kind, placed-next, placed-same, level-same, level-over, level-past, level-stops, level-ends, level-goes, placed-entries}
 use Rattle.stepping.proofs.LiveSets.{placed-admitted, placed-below}
 use Rattle.stepping.proofs.PieceOrder.{copies-here}
-use Rattle.stepping.proofs.Slots.{keeps-frame, frame-same, frame-then}
 use Rattle.stepping.proofs.Steps.{spent-skip-to}
 use Rattle.branching.specs.Choosing.{NextLive}
 use Rattle.walks.specs.Walk.{heldOf, Ready, Taken, Left}
@@ -70,7 +70,7 @@ pub record Trying (j : Job) (ns : List ℕ) (level len : ℕ) (work₀ out₀ wo
   pub same : tryLevel j (numbersAt ns) level 0 (st₀ .left) (heldOf j (st₀ .found) out₀) ≡ tryLevel j (numbersAt ns) level from (st .left) (heldOf j (st .found) out)
   pub lowered : st .bound ≤ st₀ .bound
   pub written : out ≡ withLayout (heldOf j (st .found) out) out₀
-  pub frame : Frame j (level + 1) work₀ work
+  pub behind : drop (workWords j * 8) work ≡ drop (workWords j * 8) work₀
 
 module _ (j : Job) (ns : List ℕ) (level len : ℕ) where
   -- The whole of it.
@@ -79,12 +79,12 @@ module _ (j : Job) (ns : List ℕ) (level len : ℕ) where
 
   pub trying-begin : (work out : List ℕ) (st : Progress) → Ready j work out ns level (level + 1) len st → Trying j ns level len work out work out st st 0
   trying-begin work out st r =
-      record { ready = r; same = refl; lowered = omega arith; written = sym (r .written); frame = frame-same j (level + 1) work }
+      record { ready = r; same = refl; lowered = omega arith; written = sym (r .written); behind = refl }
 
   module _ (work₀ out₀ work out : List ℕ) (st₀ st : Progress) (from : ℕ) (t : Trying j ns level len work₀ out₀ work out st₀ st from) where
     -- Nothing is left to be done.
     trying-leaves : tryLevel j (numbersAt ns) level from (st .left) (heldOf j (st .found) out) ≡ spent (st .left) (heldOf j (st .found) out) false
-        → Left j work₀ out₀ work out (level + 1) st₀ st (whole st₀ out₀)
+        → Left j ns work₀ out₀ work out (level + 1) st₀ st (whole st₀ out₀)
     trying-leaves e =
         let w : whole st₀ out₀ ≡ spent (st .left) (heldOf j (st .found) out) false = t .same ∙ e in
         let held-is : heldOf j (st .found) out ≡ whole st₀ out₀ .held = sym (ap (λ (w : Spent). w .held) w) in
@@ -95,11 +95,13 @@ module _ (j : Job) (ns : List ℕ) (level len : ℕ) where
           bound-is = t .ready .bound-is ∙ ap (boundOf j) held-is;
           lowered = t .lowered;
           written = t .written ∙ ap (λ (g : Option Layout). withLayout g out₀) held-is;
-          frame = t .frame;
+          spans = t .ready .spans;
+          sets = t .ready .sets;
+          behind = t .behind;
         }
 
     -- The set of the piece is kept.
-    pub trying-keeps : level < pieceCount j → KeepsSince j (placedOf j ns level) (st .bound) (pieceKind j level) (slotOf j work level (pieceKind j level))
+    pub trying-keeps : level < pieceCount j → Keeps j (placedOf j ns level) (st .bound) (st .span) (pieceKind j level) (slotOf j work level (pieceKind j level))
     trying-keeps h = t .ready .sets level (pieceKind j level) (omega arith) (piece-kind j level h) (copies-here j level h)
 
     module _ (r : Next) (v : NextLive j (placedOf j ns level) (st .bound) (pieceKind j level) len from r) where
@@ -110,15 +112,19 @@ module _ (j : Job) (ns : List ℕ) (level len : ℕ) where
           (λ i p q. ap (λ (b : ℕ). setOf j (placedOf j ns level) b (pieceKind j level) i) (sym (t .ready .bound-is)) ∙ v .passed i p q)
 
       -- There is none: what is placed does not end below the bound, or no member is left.
-      pub trying-past : r .found ≡ false → Left j work₀ out₀ work out (level + 1) st₀ st (whole st₀ out₀)
+      pub trying-past : r .found ≡ false → Left j ns work₀ out₀ work out (level + 1) st₀ st (whole st₀ out₀)
       trying-past f = go (v .none f)
         where
-          go : (st .bound ≤ len) ⊎ (setWords (j .sheet) * 64 ≤ r .number) → Left j work₀ out₀ work out (level + 1) st₀ st (whole st₀ out₀)
+          go : (st .bound ≤ len) ⊎ ((i : ℕ) → from ≤ i → setOf j (placedOf j ns level) (st .bound) (pieceKind j level) i ≡ false) → Left j ns work₀ out₀ work out (level + 1) st₀ st (whole st₀ out₀)
           go (inl o) =
               trying-leaves (level-over j (numbersAt ns) level (heldOf j (st .found) out) (t .ready .admitted) from (st .left)
               (omega (arith, t .ready .bound-is, t .ready .len-is)))
           go (inr o) =
-              trying-leaves (trying-skips ∙ level-past j (numbersAt ns) level (heldOf j (st .found) out) (t .ready .admitted) (r .number) (st .left) (omega (arith, limit-words (j .sheet))))
+              let past : from ≤ from + setWords (j .sheet) * 64 = omega arith in
+              trying-leaves
+              (level-skip j (numbersAt ns) level (heldOf j (st .found) out) (t .ready .admitted) from (from + setWords (j .sheet) * 64) (st .left) past
+              (λ i p q. ap (λ (b : ℕ). setOf j (placedOf j ns level) b (pieceKind j level) i) (sym (t .ready .bound-is)) ∙ o i p)
+              ∙ level-past j (numbersAt ns) level (heldOf j (st .found) out) (t .ready .admitted) (from + setWords (j .sheet) * 64) (st .left) (omega (arith, limit-words (j .sheet))))
 
       module _ (f : r .found ≡ true) (inside : level < pieceCount j) (few : level < 12) where
         -- The numbers with the new one: those below are as they were.
@@ -148,7 +154,7 @@ module _ (j : Job) (ns : List ℕ) (level len : ℕ) where
             ∙ ap (λ (m : ℕ). tryLevel j (numbersAt (set ns level (r .number))) level m (st .left) (heldOf j (st .found) out)) (sym number-is)
 
         -- The budget is spent.
-        pub trying-stops : (st′ : Progress) → st′ ≡ halted st → st .left ≡ 0 → Left j work₀ out₀ work out (level + 1) st₀ st′ (whole st₀ out₀)
+        pub trying-stops : (st′ : Progress) → st′ ≡ halted st → st .left ≡ 0 → Left j ns work₀ out₀ work out (level + 1) st₀ st′ (whole st₀ out₀)
         trying-stops st′ q z =
             let w : whole st₀ out₀ ≡ spent 0 (heldOf j (st .found) out) true =
             trying-at ∙ ap (λ (k : ℕ). tryLevel j (numbersAt (set ns level (r .number))) level (numbersAt (set ns level (r .number)) level) k (heldOf j (st .found) out)) z
@@ -161,7 +167,9 @@ module _ (j : Job) (ns : List ℕ) (level len : ℕ) where
               bound-is = t .ready .bound-is ∙ ap (boundOf j) held-is;
               lowered = t .lowered;
               written = t .written ∙ ap (λ (g : Option Layout). withLayout g out₀) held-is;
-              frame = t .frame;
+              spans = t .ready .spans;
+              sets = t .ready .sets;
+              behind = t .behind;
             })
 
         -- ---- A candidate is taken
@@ -187,8 +195,9 @@ module _ (j : Job) (ns : List ℕ) (level len : ℕ) where
               bound-is = t .ready .bound-is;
               written = t .ready .written;
               running = refl;
+              spans = t .ready .spans;
               sets =
-                  λ l u q g k. subst (λ (es : Layout). KeepsSince j es (st .bound) u (slotOf j work l u)) (placed-is l (omega arith)) (t .ready .sets l u q g k);
+                  λ l u q g k. subst (λ (es : Layout). Keeps j es (st .bound) (st .span) u (slotOf j work l u)) (placed-is l (omega arith)) (t .ready .sets l u q g k);
             })
 
         pub taken-taken : (less : Progress) → less ≡ stepped st → Taken j (set ns level (r .number)) (level + 1) (r .extent) less
@@ -205,14 +214,14 @@ module _ (j : Job) (ns : List ℕ) (level len : ℕ) where
 
         module _ (work′ out′ : List ℕ) (st′ : Progress) (work-length : length work′ ≡ length work) (out-length : length out′ ≡ length out)
             (more : 0 < st .left) (less : Progress) (q : less ≡ stepped st)
-            (d : Left j work out work′ out′ (level + 1) less st′ (goOnLevel j (numbersAt (set ns level (r .number))) (level + 1) (less .left) (heldOf j (less .found) out))) where
+            (d : Left j (set ns level (r .number)) work out work′ out′ (level + 1) less st′ (goOnLevel j (numbersAt (set ns level (r .number))) (level + 1) (less .left) (heldOf j (less .found) out))) where
           -- What the walk did below.
-          done : Left j work out work′ out′ (level + 1) (stepped st) st′ (goOnLevel j (numbersAt (set ns level (r .number))) (suc level) (st .left - 1) (heldOf j (st .found) out))
+          done : Left j (set ns level (r .number)) work out work′ out′ (level + 1) (stepped st) st′ (goOnLevel j (numbersAt (set ns level (r .number))) (suc level) (st .left - 1) (heldOf j (st .found) out))
           done =
               subst
-              (λ (l : ℕ). Left j work out work′ out′ (level + 1) (stepped st) st′ (goOnLevel j (numbersAt (set ns level (r .number))) l (st .left - 1) (heldOf j (st .found) out)))
+              (λ (l : ℕ). Left j (set ns level (r .number)) work out work′ out′ (level + 1) (stepped st) st′ (goOnLevel j (numbersAt (set ns level (r .number))) l (st .left - 1) (heldOf j (st .found) out)))
               (add-one level)
-              (subst (λ (s : Progress). Left j work out work′ out′ (level + 1) s st′ (goOnLevel j (numbersAt (set ns level (r .number))) (level + 1) (s .left) (heldOf j (s .found) out))) q d)
+              (subst (λ (s : Progress). Left j (set ns level (r .number)) work out work′ out′ (level + 1) s st′ (goOnLevel j (numbersAt (set ns level (r .number))) (level + 1) (s .left) (heldOf j (s .found) out))) q d)
 
           entries : Entries (pieceCount j) (goOnLevel j (numbersAt (set ns level (r .number))) (suc level) (st .left - 1) (heldOf j (st .found) out) .held)
           entries = placed-entries j (numbersAt (set ns level (r .number))) (suc level) (st .left - 1) (heldOf j (st .found) out) (omega arith) (held-entries j (st .found) out)
@@ -225,8 +234,12 @@ module _ (j : Job) (ns : List ℕ) (level len : ℕ) where
               ∙ layout-after (pieceCount j) _ (heldOf j (st .found) out) out₀
               entries (held-entries j (st .found) out) (none-before j (numbersAt (set ns level (r .number))) (suc level) (st .left - 1) (heldOf j (st .found) out))
 
+          -- The sets that it leaves are those of the pieces placed before.
+          sets-back : SetsKept j ns (level + 1) (st′ .bound) (st′ .span) work′
+          sets-back l u q g k = subst (λ (es : Layout). Keeps j es (st′ .bound) (st′ .span) u (slotOf j work′ l u)) (sym (placed-is l (omega arith))) (done .sets l u q g k)
+
           -- It stopped.
-          pub trying-ends : st′ .stopped ≡ true → Left j work₀ out₀ work′ out′ (level + 1) st₀ st′ (whole st₀ out₀)
+          pub trying-ends : st′ .stopped ≡ true → Left j ns work₀ out₀ work′ out′ (level + 1) st₀ st′ (whole st₀ out₀)
           trying-ends z =
               let w : whole st₀ out₀ ≡ goOnLevel j (numbersAt (set ns level (r .number))) (suc level) (st .left - 1) (heldOf j (st .found) out) =
               trying-at ∙ level-ends j (numbersAt (set ns level (r .number))) level (heldOf j (st .found) out) admitted short member-is (st .left) more (sym (done .stopped) ∙ z) in
@@ -237,7 +250,9 @@ module _ (j : Job) (ns : List ℕ) (level len : ℕ) where
                 bound-is = done .bound-is;
                 lowered = omega (arith, done .lowered, t .lowered);
                 written = over;
-                frame = frame-then j (level + 1) work₀ work work′ (t .frame) (done .frame);
+                spans = done .spans;
+                sets = sets-back;
+                behind = done .behind ∙ t .behind;
               })
 
           -- It came back: the numbers after this one are tried.
@@ -261,12 +276,11 @@ module _ (j : Job) (ns : List ℕ) (level len : ℕ) where
                       ∙ layout-after (pieceCount j) _ _ out entries entries (λ e. e)
                       ∙ sym (done .written);
                   running = z;
-                  sets = λ l u q g k.
-                      let s = keeps-frame j (placedOf j ns l) (st .bound) l (level + 1) u work work′ q g (done .frame) (t .ready .sets l u q g k) in
-                      (s .0, omega (arith, s .1, done .lowered), s .2);
+                  spans = done .spans;
+                  sets = sets-back;
                 };
                 same = w ∙ sym (level-same j (numbersAt ns) (numbersAt (set ns level (r .number))) level (suc (r .number)) (st′ .left) (heldOf j (st′ .found) out′) same-below) ∙ ap (λ (m : ℕ). tryLevel j (numbersAt ns) level m (st′ .left) (heldOf j (st′ .found) out′)) (sym (add-one (r .number)));
                 lowered = omega (arith, done .lowered, t .lowered);
                 written = over ∙ ap (λ (g : Option Layout). withLayout g out₀) (sym (done .held));
-                frame = frame-then j (level + 1) work₀ work work′ (t .frame) (done .frame);
+                behind = done .behind ∙ t .behind;
               }

@@ -4,15 +4,14 @@ use mathlib.Core.List.{List}
 use mathlib.Core.Option.{Option, none, some}
 use mathlib.Core.Path.{_≡_}
 use Prim.Native.Nat.{ℕ, _*_, _-_, _≤_, _<_}
-use lib.ListN.{length}
+use lib.ListN.{length, drop}
 use Rattle.model.specs.Content.{Job, pieceCount}
 use Rattle.model.specs.Layout.{Layout, isEntry, layoutLength}
 use Rattle.model.specs.Lists.{all, below}
 use Rattle.model.specs.Services.{layoutIn, withLayout, numbersIn, workWords}
-use Rattle.stepping.specs.LiveSets.{setOf, boundOf}
+use Rattle.stepping.specs.LiveSets.{setOf, boundOf, Spans}
 use Rattle.stepping.specs.Levels.{pieceKind, numbersAt, placedOf}
 use Rattle.lookahead.specs.Settled.{SetsKept}
-use Rattle.stepping.specs.Slots.{Frame}
 use Rattle.stepping.specs.Spending.{Spent}
 use Rattle.runs.specs.declared.progress.Progress.{Progress}
 
@@ -31,7 +30,8 @@ pub record Ready (j : Job) (work out ns : List ℕ) (level depth len : ℕ) (st 
   pub bound-is : st .bound ≡ boundOf j (heldOf j (st .found) out)
   pub written : withLayout (heldOf j (st .found) out) out ≡ out
   pub running : st .stopped ≡ false
-  pub sets : SetsKept j ns depth (st .bound) work
+  pub spans : Spans j (st .bound) (st .span)
+  pub sets : SetsKept j ns depth (st .bound) (st .span) work
 
 -- A piece was just placed: what is placed ends below the bound, and the piece was a member.
 pub record Taken (j : Job) (ns : List ℕ) (level len : ℕ) (st : Progress) : Type 0 where
@@ -40,12 +40,14 @@ pub record Taken (j : Job) (ns : List ℕ) (level len : ℕ) (st : Progress) : T
   pub below : len < st .bound
   pub latest : setOf j (placedOf j ns (level - 1)) (st .bound) (pieceKind j (level - 1)) (numbersAt ns (level - 1)) ≡ true
 
--- What the walk leaves: what the definition says, the layout held in the answer numbers, and the sets of the levels below `depth`.
-pub record Left (j : Job) (work out work′ out′ : List ℕ) (depth : ℕ) (st st′ : Progress) (w : Spent) : Type 0 where
+-- What the walk leaves: what the definition says, the layout held in the answer numbers, and the sets of the levels below `depth` at the bound that it came to.
+pub record Left (j : Job) (ns work out work′ out′ : List ℕ) (depth : ℕ) (st st′ : Progress) (w : Spent) : Type 0 where
   pub left : st′ .left ≡ w .left
   pub stopped : st′ .stopped ≡ w .stopped
   pub held : heldOf j (st′ .found) out′ ≡ w .held
   pub bound-is : st′ .bound ≡ boundOf j (w .held)
   pub lowered : st′ .bound ≤ st .bound
   pub written : out′ ≡ withLayout (w .held) out
-  pub frame : Frame j depth work work′
+  pub spans : Spans j (st′ .bound) (st′ .span)
+  pub sets : SetsKept j ns depth (st′ .bound) (st′ .span) work′
+  pub behind : drop (workWords j * 8) work′ ≡ drop (workWords j * 8) work

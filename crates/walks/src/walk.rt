@@ -5,9 +5,10 @@ ghost use Rattle.model.specs.Format.{content};
 ghost use Rattle.live_sets.specs.Known.{Known};
 ghost use Rattle.stepping.specs.Levels.{tryLevel, goOnLevel, numbersAt};
 ghost use Rattle.walks.specs.Walk.{heldOf, Ready, Taken, Left};
+use bounding::lowering::lower;
 use branching::choosing::next_live;
 use lookahead::settling::settle;
-use nofit::offsets::Window;
+use nofit::places::Nofit;
 use plans::plan::Plan;
 use plans::recording::record_layout;
 use runs::progress;
@@ -17,9 +18,9 @@ use runs::progress::Progress;
 pub fn try_piece(
     job: &[u8],
     plan: Plan,
-    window: Window,
+    nofit: Nofit,
     turned: &[i16],
-    conflicts: &[u8],
+    strings: &[u8],
     work: &mut [u8],
     out: &mut [u8],
     numbers: [usize; 12],
@@ -27,14 +28,14 @@ pub fn try_piece(
     extent: usize,
     state: Progress,
 ) -> Progress
-    requires { ⌜ Known (now job) plan window (now turned) (now conflicts) × (level < pieceCount (content (now job))) ⌝ }
+    requires { ⌜ Known (now job) plan nofit (now turned) (now strings) × (level < pieceCount (content (now job))) ⌝ }
     requires { ⌜ Ready (content (now job)) (now work) (now out) numbers level (level + 1) extent state ⌝ }
-    ensures { λ r. ⌜ Left (content (now (job .entry))) (now (work .entry)) (now (out .entry)) (now (work .exit)) (now (out .exit)) (level + 1) state r (tryLevel (content (now (job .entry))) (numbersAt numbers) level 0 (state .left) (heldOf (content (now (job .entry))) (state .found) (now (out .entry)))) ⌝ }
+    ensures { λ r. ⌜ Left (content (now (job .entry))) numbers (now (work .entry)) (now (out .entry)) (now (work .exit)) (now (out .exit)) (level + 1) state r (tryLevel (content (now (job .entry))) (numbersAt numbers) level 0 (state .left) (heldOf (content (now (job .entry))) (state .found) (now (out .entry)))) ⌝ }
 {
     let mut st = state;
     let mut from = 0;
     loop {
-        let next = next_live(job, plan, numbers, level, extent, st.bound, work, from);
+        let next = next_live(job, plan, numbers, level, extent, st, work, from);
         if !next.found {
             return st;
         }
@@ -46,9 +47,9 @@ pub fn try_piece(
         st = go_on(
             job,
             plan,
-            window,
+            nofit,
             turned,
-            conflicts,
+            strings,
             work,
             out,
             taken,
@@ -63,13 +64,14 @@ pub fn try_piece(
     }
 }
 
-// What follows once `level` pieces are placed, the latest just counted: a complete layout becomes the best; else look-ahead, and the next piece.
+// What follows once `level` pieces are placed, the latest just counted: a complete layout becomes the best, and the
+// live sets are those at the new bound; else look-ahead, and the next piece.
 fn go_on(
     job: &[u8],
     plan: Plan,
-    window: Window,
+    nofit: Nofit,
     turned: &[i16],
-    conflicts: &[u8],
+    strings: &[u8],
     work: &mut [u8],
     out: &mut [u8],
     numbers: [usize; 12],
@@ -77,22 +79,23 @@ fn go_on(
     extent: usize,
     state: Progress,
 ) -> Progress
-    requires { ⌜ Known (now job) plan window (now turned) (now conflicts) ⌝ }
+    requires { ⌜ Known (now job) plan nofit (now turned) (now strings) ⌝ }
     requires { ⌜ Ready (content (now job)) (now work) (now out) numbers level level extent state ⌝ }
     requires { ⌜ Taken (content (now job)) numbers level extent state ⌝ }
-    ensures { λ r. ⌜ Left (content (now (job .entry))) (now (work .entry)) (now (out .entry)) (now (work .exit)) (now (out .exit)) level state r (goOnLevel (content (now (job .entry))) (numbersAt numbers) level (state .left) (heldOf (content (now (job .entry))) (state .found) (now (out .entry)))) ⌝ }
+    ensures { λ r. ⌜ Left (content (now (job .entry))) numbers (now (work .entry)) (now (out .entry)) (now (work .exit)) (now (out .exit)) level state r (goOnLevel (content (now (job .entry))) (numbersAt numbers) level (state .left) (heldOf (content (now (job .entry))) (state .found) (now (out .entry)))) ⌝ }
 {
     if level == plan.pieces {
         record_layout(job, plan, numbers, out);
-        return progress::complete(state, extent);
+        let span = lower(job, plan, extent, state.span, work);
+        return progress::complete(state, extent, span);
     }
     if settle(
         job,
         plan,
-        window,
+        nofit,
         turned,
-        conflicts,
-        state.bound,
+        strings,
+        state,
         numbers,
         level,
         work,
@@ -100,9 +103,9 @@ fn go_on(
         return try_piece(
             job,
             plan,
-            window,
+            nofit,
             turned,
-            conflicts,
+            strings,
             work,
             out,
             numbers,

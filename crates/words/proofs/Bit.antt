@@ -9,7 +9,7 @@ use native.Mathlib.Numerals.{one-add, add-one}
 use lib.Dec.{eqb, eqb·suc-suc, eqb·suc-zero, eqb·zero-suc}
 use lib.Arith.{digits-mod}
 use lib.Pow.{pow-mono, pow-lt, shr-shr, field, mod-mod-pow}
-use lib.Bits.{bitAnd, bitOr, and-step, or-step, and-shr, or-shr, or-lt, or-add-and, or-disjoint, or-zero-r, or-shifted-r, and-mask}
+use lib.Bits.{bitAnd, bitOr, bitXor, differ, and-step, or-step, xor-step, and-shr, or-shr, xor-shr, or-lt, or-add-and, or-disjoint, or-zero-r, or-shifted-r, and-mask}
 use borrow.Author.Tests.{eqb-true, eqb-false, eq-eqb, ne-eqb}
 use Rattle.words.specs.Bits.{testBit, bitsWhere, withBit, withoutBit, assignedBit}
 use Rattle.words.proofs.Cases.{le-or-lt, eq-or-ne}
@@ -124,6 +124,12 @@ pub testBit-or : (a b i : ℕ) → testBit (bitOr a b) i ≡ testBit a i || test
 testBit-or =
     testBit-op bitOr max _||_ or-shr or-step
     (digits (Acts max _||_) (omega arith, refl) (omega arith, refl) (omega arith, refl) (omega arith, refl))
+
+-- A bit of an exclusive OR is set where exactly one is.
+pub testBit-xor : (a b i : ℕ) → testBit (bitXor a b) i ≡ cond (testBit a i) (not (testBit b i)) (testBit b i)
+testBit-xor =
+    testBit-op bitXor differ (λ (x y : Bool). cond x (not y) y) xor-shr xor-step
+    (digits (Acts differ (λ (x y : Bool). cond x (not y) y)) (omega arith, refl) (omega arith, refl) (omega arith, refl) (omega arith, refl))
 
 -- ---- a power of two, and the complement
 

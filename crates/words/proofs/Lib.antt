@@ -7,3 +7,4 @@ pub mod Bit
 pub mod HowMany
 pub mod Member
 pub mod First
+pub mod StringLaws

@@ -3,10 +3,10 @@ use mathlib.Core.Path.{_≡_, refl, sym, ap, _∙_}
 use mathlib.Core.Bool.{Bool, true, false, not, _&&_, _||_, and-true, and-false, or-true, or-false}
 use mathlib.Core.List.{List}
 use mathlib.Core.Logic.{_⊎_, inl, inr}
-use Prim.Native.Nat.{ℕ, _+_, _*_, _/_, _%_, _^_, _≤_, _<_}
+use Prim.Native.Nat.{ℕ, _+_, _-_, _*_, _/_, _%_, _^_, _≤_, _<_}
 use native.Mathlib.Nat.{mod-eq-of-lt, lt-of-le-of-lt}
 use native.Mathlib.Omega.{arith}
-use lib.Count.{ones}
+use lib.Count.{ones, ones-le}
 use lib.Dec.{eqb}
 use lib.ListN.{length, take, drop, replicate, length-replicate, getD-replicate, replicate-append-replicate}
 use borrow.Author.Tests.{eq-eqb, ne-eqb}
@@ -153,6 +153,17 @@ count-word s k h =
     ∙ ap (λ (x : ℕ). howMany (k * 64) (member s) + x)
     (howMany-cong 64 (λ i. member s (k * 64 + i)) (testBit (numberAt 8 s (k * 8))) (member-word s k)
     ∙ howMany-bits 64 (numberAt 8 s (k * 8)) (word-lt s (k * 8) h))
+
+-- A word that is 0 counts none.
+pub count-empty : (s : List ℕ) (k : ℕ) → AreBytes s → numberAt 8 s (k * 8) ≡ 0 → countMembers ((k + 1) * 64) s ≡ countMembers (k * 64) s
+count-empty s k h e = omega (arith, count-word s k h, ap ones e, ones-le 0 0 (omega arith))
+
+-- More words have no fewer members.
+pub count-le : (s : List ℕ) (k words : ℕ) → k ≤ words → countMembers (k * 64) s ≤ countMembers (words * 64) s
+unfolding countMembers
+count-le s k words l =
+    let e : words * 64 ≡ k * 64 + (words - k) * 64 = omega arith in
+    rw e (omega (arith, howMany-add (k * 64) ((words - k) * 64) (member s)))
 
 -- ---- words that became zero
 

@@ -1,6 +1,7 @@
 // Sets of numbers kept in words of 64 bits within a byte slice: n is bit n mod 64 of word n div 64.
 ghost use mathlib.Core.Path.{_≡_};
 ghost use Prim.Native.Nat.{_+_, _*_, _≤_};
+ghost use lib.Dec.{leb};
 ghost use lib.ListN.{length};
 ghost use Rattle.words.specs.Bits.{assignedBit};
 ghost use Rattle.words.specs.Sets.{wordOffset, member, changed, countMembers, clearedWords, nextMember};
@@ -25,18 +26,25 @@ pub fn assign(s: &mut [u8], n: usize, on: bool)
     numbers::put_u64(s, at, bits::assign_bit(w, n as u64, on));
 }
 
-// How many numbers of the first words are members. (words is a u32, so that the count fits; likewise below.)
-pub fn count(s: &[u8], words: u32) -> u64
+// Whether the first words have at least so many members. Words without a member are passed over, and those behind enough of them are not looked at. (words is a
+// u32, so that the count fits; likewise below.)
+pub fn has_members(s: &[u8], words: u32, wanted: u64) -> bool
     requires { ⌜ words * 8 ≤ length (now s) ⌝ }
-    ensures { λ r. ⌜ r ≡ countMembers (words * 64) (now (s .entry)) ⌝ }
+    ensures { λ r. ⌜ r ≡ leb wanted (countMembers (words * 64) (now (s .entry))) ⌝ }
 {
     let mut r = 0;
     let mut k = 0;
     while k < words {
-        r += bits::count_bits(numbers::get_u64(s, (k as usize) * 8));
+        let w = numbers::get_u64(s, (k as usize) * 8);
+        if w != 0 {
+            r += bits::count_bits(w);
+            if wanted <= r {
+                return true;
+            }
+        }
         k += 1;
     }
-    r
+    wanted <= r
 }
 
 // The first words become zero.

@@ -1,4 +1,4 @@
-//! Jobs to measure: from small to the largest that the format allows, and three series that grow one thing.
+//! Jobs to measure: from small to the largest that the format allows, heavy and long pieces, and three series that grow one thing.
 
 use nest_tests::draft::{encode, Arrangement, Draft};
 
@@ -41,6 +41,18 @@ fn many_parts() -> BenchJob {
     named("six parts, eight corners".into(), draft)
 }
 
+/// Eight types in four turns on 1024 dots, each a third of the board long: far-reaching pieces.
+fn thirds() -> BenchJob {
+    let mut draft = Draft::new(31, 31, 1).classes(&[[0, 1, 1], [1, 0, 0]]);
+    for kind in 0..8 {
+        let (length, height) = (10, 2 + (kind % 4) as i8);
+        let cut = (kind / 4) as i8;
+        let shape: &[(i8, i8)] = &[(0, 0), (length, cut), (length, height), (0, height - cut)];
+        draft = draft.with(if kind < 4 { 2 } else { 1 }, 15, (kind % 3) as u8, &[shape]);
+    }
+    named("thirds: 1024d 8t 12p".into(), draft)
+}
+
 pub fn bench_jobs() -> Vec<BenchJob> {
     let printed = Draft::new(2, 4, 1).with(2, 1, 0, &[&[(0, 0), (2, 0), (2, 2), (0, 2)]]);
     let mut jobs = vec![
@@ -49,6 +61,7 @@ pub fn bench_jobs() -> Vec<BenchJob> {
         grid("middle", 16, 16, 4, 8),
         grid("largest", 32, 32, 8, 12),
         many_parts(),
+        thirds(),
     ];
     // Eight rows: too few for the pieces to stand in one column, so that the walks are long.
     jobs.extend([24, 32, 64, 128].map(|columns| grid("dots grow", 8, columns, 4, 8)));

@@ -34,9 +34,9 @@ fn main() {
     budgets(&jobs);
 }
 
-/// The two have to agree before their speeds are compared.
+/// The two have to agree on steps, length and layout before their speeds are compared.
 fn check_agreement(bench: &BenchJob) {
-    let budget = 20;
+    let budget = 100_000;
     let mut work = vec![0; 49_152];
     let mut answer = vec![0; 96];
     let got = nest::run(&bench.bytes, budget, &mut work, &mut answer);
@@ -44,6 +44,13 @@ fn check_agreement(bench: &BenchJob) {
     let walked = whole_walk(&job, budget.into());
     let length = walked.best.map_or(0, |(length, _)| length as u16);
     assert_eq!((u64::from(got.steps), got.count), (walked.steps, length), "{}", bench.name);
+    let number = |i: usize| {
+        let field = |k: usize| usize::from(u16::from_le_bytes([answer[8 * i + 2 * k], answer[8 * i + 2 * k + 1]]));
+        (field(1) * job.rows + field(2)) * 4 + field(3)
+    };
+    if let Some((_, numbers)) = walked.best {
+        (0..job.pieces).for_each(|i| assert_eq!(number(i), usize::from(numbers[i]), "{} piece {i}", bench.name));
+    }
 }
 
 fn whole_walk(job: &Job, budget: u64) -> opponent::walk::Outcome {

@@ -1,16 +1,12 @@
 -- `live_sets::board::in_conflict` meets its contract.
-use mathlib.Core.Path.{sym, ap, _∙_, subst}
+use mathlib.Core.Path.{sym, ap₂, _∙_, subst}
 use Prim.Native.Nat.{_<_}
-use borrow.Author.Tests.{leb-true}
-use lib.Dec.{leb}
 use Rattle.model.specs.Content.{kindCount}
 use Rattle.model.specs.Format.{content}
-use Rattle.model.proofs.Lists.{and-left, and-right}
-use Rattle.candidates.specs.Conflicts.{Near, placedOf, conflictBetween}
+use Rattle.candidates.specs.Conflicts.{Near, conflictBetween}
 use Rattle.candidates.specs.declared.conflicts.Placed.{Placed}
-use Rattle.plans.proofs.PlanLaws.{candidate-kind, plan-rows, near}
+use Rattle.plans.proofs.PlanLaws.{candidate-kind, near}
 use Rattle.live_sets.proofs.Meeting.{corners-conflict}
-use borrow.Author.Needs.{needs}
 use Rattle.live_sets.proofs.board.in_conflict.Statement.{statement}
 use Rattle.live_sets.proofs.board.in_conflict.Tie as tie
 
@@ -23,57 +19,36 @@ second c = candidate-kind (content (c .args .job .now)) (c .args .u) (c .args .m
 
 -- Both places are near.
 from-near : (c : tie.Start) → Near (c .args .plan .step) (c .args .from)
-from-near c = subst (Near (c .args .plan .step)) (sym (c .pre .1 .1 .0)) (near (c .args .job .now) (c .args .plan) (c .pre .0 .plan) (c .args .t) (c .args .n) (c .pre .1 .0 .0))
+from-near c = subst (Near (c .args .plan .step)) (sym (c .pre .1 .1 .0)) (near (c .args .job .now) (c .args .plan) (c .pre .0 .0) (c .args .t) (c .args .n) (c .pre .1 .0 .0))
 
 place-near : (c : tie.Start) → Near (c .args .plan .step) (c .args .place)
-place-near c = subst (Near (c .args .plan .step)) (sym (c .pre .1 .1 .1)) (near (c .args .job .now) (c .args .plan) (c .pre .0 .plan) (c .args .u) (c .args .m) (c .pre .1 .0 .1))
-
-covers-requires : tie.Need-covers-requires
-covers-requires c κs = search needs
-
-conflict-at-requires : tie.Need-conflict-at-requires
-conflict-at-requires c κs =
-    let ordered = and-left (leb (c .before .before .before .before .args .t) (c .before .before .before .before .args .u)) (c .before .covers .result) (c .if1 .taken) in
-    let covered = and-right (leb (c .before .before .before .before .args .t) (c .before .before .before .before .args .u)) (c .before .covers .result) (c .if1 .taken) in (
-      c .before .before .before .before .pre .0 .offsets,
-      (
-        (plan-rows (c .before .before .before .before .args .job .now) (c .before .before .before .before .args .plan) (c .before .before .before .before .pre .0 .plan), (c .before .before .before .before .pre .1 .1 .0, c .before .before .before .before .pre .1 .1 .1)),
-        ((leb-true _ _ ordered, second (c .before .before .before .before)), (c .before .before .before .before .pre .1 .0, sym (c .before .covers .ensures) ∙ covered)),
-      ),
-    )
-
-returns : tie.Need-returns
-returns c = c .conflict-at .ensures
+place-near c = subst (Near (c .args .plan .step)) (sym (c .pre .1 .1 .1)) (near (c .args .job .now) (c .args .plan) (c .pre .0 .0) (c .args .u) (c .args .m) (c .pre .1 .0 .1))
 
 piece-in-requires : tie.Need-piece-in-requires
-piece-in-requires c κs = (c .before .before .before .before .pre .0 .plan, first (c .before .before .before .before))
+piece-in-requires c κs = (c .before .pre .0 .0, first (c .before))
 
 piece-in-requires-2 : tie.Need-piece-in-requires-2
-piece-in-requires-2 c κs = (c .before .before .before .before .before .pre .0 .plan, second (c .before .before .before .before .before))
+piece-in-requires-2 c κs = (c .before .before .pre .0 .0, second (c .before .before))
 
 pair-gap-requires : tie.Need-pair-gap-requires
-pair-gap-requires c κs = (c .before .before .before .before .before .before .pre .0 .plan, first (c .before .before .before .before .before .before), second (c .before .before .before .before .before .before))
+pair-gap-requires c κs = (c .before .before .before .pre .0 .0, first (c .before .before .before), second (c .before .before .before))
 
 conflict-between-requires : tie.Need-conflict-between-requires
 conflict-between-requires c κs =
-    (((c .before .before .piece-in .ensures .fitting, from-near (c .before .before .before .before .before .before .before)), (c .before .piece-in2 .ensures .fitting, place-near (c .before .before .before .before .before .before .before))), c .before .before .before .before .before .before .before .pre .0 .table .size)
+    (((c .before .before .piece-in .ensures .fitting, from-near (c .before .before .before .before)), (c .before .piece-in2 .ensures .fitting, place-near (c .before .before .before .before))), c .before .before .before .before .pre .0 .1 .size)
 
-returns-2 : tie.Need-returns-2
-returns-2 c =
+returns : tie.Need-returns
+returns c =
     c .conflict-between .ensures
-    ∙ ap (λ (a : Placed). conflictBetween (c .before .before .before .before .before .before .before .before .args .turned .now) (c .before .before .before .before .before .before .before .before .args .plan .step) (c .before .before .before .piece-in .result) a (c .before .before .piece-in2 .result) (c .before .before .before .before .before .before .before .before .args .place) (c .before .pair-gap .result)) (c .before .before .before .before .before .before .before .before .pre .1 .1 .0)
-    ∙ ap (λ (a : Placed). conflictBetween (c .before .before .before .before .before .before .before .before .args .turned .now) (c .before .before .before .before .before .before .before .before .args .plan .step) (c .before .before .before .piece-in .result) (placedOf (c .before .before .before .before .before .before .before .before .args .plan .rows) (c .before .before .before .before .before .before .before .before .args .n)) (c .before .before .piece-in2 .result) a (c .before .pair-gap .result)) (c .before .before .before .before .before .before .before .before .pre .1 .1 .1)
-    ∙ corners-conflict (c .before .before .before .before .before .before .before .before .args .job .now) (c .before .before .before .before .before .before .before .before .args .plan) (c .before .before .before .before .before .before .before .before .args .window) (c .before .before .before .before .before .before .before .before .args .turned .now) (c .before .before .before .before .before .before .before .before .args .conflicts .now) (c .before .before .before .before .before .before .before .before .pre .0) (c .before .before .before .before .before .before .before .before .args .t) (c .before .before .before .before .before .before .before .before .args .n) (c .before .before .before .before .before .before .before .before .args .u) (c .before .before .before .before .before .before .before .before .args .m) (c .before .before .before .piece-in .result) (c .before .before .piece-in2 .result) (c .before .pair-gap .result) (first (c .before .before .before .before .before .before .before .before)) (second (c .before .before .before .before .before .before .before .before)) (c .before .before .before .piece-in .ensures) (c .before .before .piece-in2 .ensures) (c .before .pair-gap .ensures)
+    ∙ ap₂ (λ (a b : Placed). conflictBetween (c .before .before .before .before .before .args .turned .now) (c .before .before .before .before .before .args .plan .step) (c .before .before .before .piece-in .result) a (c .before .before .piece-in2 .result) b (c .before .pair-gap .result)) (c .before .before .before .before .before .pre .1 .1 .0) (c .before .before .before .before .before .pre .1 .1 .1)
+    ∙ corners-conflict (c .before .before .before .before .before .args .job .now) (c .before .before .before .before .before .args .plan) (c .before .before .before .before .before .args .turned .now) (c .before .before .before .before .before .pre .0 .0) (c .before .before .before .before .before .pre .0 .1) (c .before .before .before .before .before .args .t) (c .before .before .before .before .before .args .n) (c .before .before .before .before .before .args .u) (c .before .before .before .before .before .args .m) (c .before .before .before .piece-in .result) (c .before .before .piece-in2 .result) (c .before .pair-gap .result) (first (c .before .before .before .before .before)) (second (c .before .before .before .before .before)) (c .before .before .before .piece-in .ensures) (c .before .before .piece-in2 .ensures) (c .before .pair-gap .ensures)
 
 pub in-conflict-spec : {M : Type 1} → statement M
 in-conflict-spec =
     tie.close
     (tie.spec
-    covers-requires
-    conflict-at-requires
-    returns
     piece-in-requires
     piece-in-requires-2
     pair-gap-requires
     conflict-between-requires
-    returns-2)
+    returns)

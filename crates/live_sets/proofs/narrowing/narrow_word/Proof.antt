@@ -1,81 +1,41 @@
--- `live_sets::narrowing::narrow_word` meets its contract. The invariant: the bits passed are tested, the others are as they were.
-use mathlib.Core.Bool.{true}
-use mathlib.Core.Path.{_≡_, sym, ap, _∙_, subst}
-use Prim.Native.Nat.{ℕ, _+_, _%_, _^_, _<_}
-use native.Mathlib.Nat.{mod-eq-of-lt}
+-- `live_sets::narrowing::narrow_word` meets its contract.
+use mathlib.Core.Bool.{Bool, _&&_}
+use mathlib.Core.Path.{sym, ap, _∙_}
 use native.Mathlib.Omega.{arith}
-use borrow.Author.Needs.{needs}
-use Rattle.words.specs.Bits.{testBit, withoutBit, assignedBit}
-use Rattle.words.proofs.First.{lowest}
-use Rattle.model.specs.Format.{content}
-use Rattle.live_sets.specs.Narrowing.{stays}
-use Rattle.live_sets.proofs.Sifting.{Sifted, sift-begin, sift-end, sift-step, without-smaller}
+use lib.Dec.{leb}
+use Rattle.stepping.proofs.Limits.{few-words}
+use Rattle.live_sets.proofs.Blocking.{word-kind, known-sought, known-laid}
+use Rattle.live_sets.proofs.Sifting.{keeps-nothing}
 use Rattle.live_sets.proofs.narrowing.narrow_word.Statement.{statement}
 use Rattle.live_sets.proofs.narrowing.narrow_word.Tie as tie
 
-abbrev Inv-loop : tie.InvT-loop
-Inv-loop job plan window turned conflicts bound t n place u first w left₀ kept₀ left kept =
-    ((left < 2 ^ 64) × (kept < 2 ^ 64)) × Sifted (λ i. stays (content job) bound t n u (first + i)) w left kept
+returns : tie.Need-returns
+returns c = keeps-nothing _ (c .before .before .before .args .w) (c .if1 .taken)
 
-abbrev μ-loop : tie.MeasureT-loop
-μ-loop job plan window turned conflicts bound t n place u first w left₀ kept₀ left kept = left
+holds-requires : tie.Need-holds-requires
+holds-requires c κs =
+    known-sought _ _ _ _ _ (c .before .before .before .pre .0 .0) _ _ _ (c .before .before .before .pre .0 .1) (c .before .before .before .pre .1 .0 .0) (c .before .before .before .args .u) (c .before .before .before .args .first)
+    (word-kind _ (c .before .before .before .args .u) (c .before .before .before .args .first) (c .before .before .before .args .w) (c .before .before .before .fits .w .fits) (c .if1 .left) (c .before .before .before .pre .1 .1))
 
-loop-holds : tie.Need-loop-holds Inv-loop μ-loop
-loop-holds c = (search needs, sift-begin _ _)
+strain-word-requires : tie.Need-strain-word-requires
+strain-word-requires c κs = (
+  known-laid _ _ _ _ _ (c .before .before .before .before .before .pre .0 .0) _ _ _ (c .before .before .before .before .before .pre .0 .1) (c .before .before .before .before .before .pre .1 .0 .0) (c .before .before .before .before .before .args .u) (c .before .before .before .before .before .args .first)
+      (word-kind _ (c .before .before .before .before .before .args .u) (c .before .before .before .before .before .args .first) (c .before .before .before .before .before .args .w) (c .before .before .before .before .before .fits .w .fits) (c .before .before .if1 .left) (c .before .before .before .before .before .pre .1 .1))
+      (c .before .before .before .before .before .pre .1 .0 .1) (sym (ap (λ (b : Bool). leb (c .before .before .before .before .before .args .t) (c .before .before .before .before .before .args .u) && b) (c .before .holds .ensures)) ∙ c .if2 .taken),
+  c .before .before .before .before .before .pre .1 .1,
+)
 
--- The lowest bit of what is left is one of its bits.
-low : (c : tie.After-lowest-bit Inv-loop μ-loop) → (c .lowest-bit .result < 64) × (testBit (c .before .before .loop .left) (c .lowest-bit .result) ≡ true)
-low c =
-    let f = lowest 64 (c .before .before .loop .left) (c .before .before .loop .inv .0 .0) (c .before .loop-test .taken) in
-    let e : c .lowest-bit .result ≡ f .0 = c .lowest-bit .ensures .0 ∙ f .1 in
-    (omega (arith, f .2, e), subst (λ (b : ℕ). testBit (c .before .before .loop .left) b ≡ true) (sym e) (f .4))
+returns-2 : tie.Need-returns-2
+returns-2 c = c .strain-word .ensures
 
-lowest-bit-requires : tie.Need-lowest-bit-requires Inv-loop μ-loop
-lowest-bit-requires c κs = search needs
+sift-word-requires : tie.Need-sift-word-requires
+sift-word-requires c κs =
+    (((c .before .before .before .before .before .pre .0 .0 .plan, c .before .before .before .before .before .pre .0 .0 .table), c .before .before .before .before .before .pre .0 .1), ((c .before .before .before .before .before .pre .1 .0 .0, omega (arith, c .before .before .before .before .before .pre .1 .0 .1, few-words (c .before .before .before .before .before .args .job .now) (c .before .before .before .before .before .pre .0 .0 .plan .accepted))), c .before .before .before .before .before .pre .1 .1))
 
-add-still-live : tie.Need-add-still-live Inv-loop μ-loop
-add-still-live c = omega (arith, low c .0)
-
-still-live-requires : tie.Need-still-live-requires Inv-loop μ-loop
-still-live-requires c κs =
-    let bit = low c in
-    (c .before .before .before .before .before .pre .0, (c .before .before .before .before .before .pre .1 .0 .0, c .before .before .before .before .before .pre .1 .1 (c .lowest-bit .result) (c .before .before .loop .inv .1 (c .lowest-bit .result) .1 (bit .1))))
-
-assign-bit-requires : tie.Need-assign-bit-requires Inv-loop μ-loop
-assign-bit-requires c κs = search needs
-
-clear-bit-requires : tie.Need-clear-bit-requires Inv-loop μ-loop
-clear-bit-requires c κs = search needs
-
-loop-less : tie.Need-loop-less Inv-loop μ-loop
-loop-less c =
-    let bit = low (c .before .before .before) in
-    let e : c .before .before .before .lowest-bit .result % 64 ≡ c .before .before .before .lowest-bit .result = mod-eq-of-lt (bit .0) in
-    rw (c .clear-bit .ensures, e) (without-smaller (c .before .before .before .before .before .loop .left) (c .before .before .before .lowest-bit .result) (bit .1))
-
-loop-again : tie.Need-loop-again Inv-loop μ-loop
-loop-again c =
-    let bit = low (c .before .before .before) in
-    let e : c .before .before .before .lowest-bit .result % 64 ≡ c .before .before .before .lowest-bit .result = mod-eq-of-lt (bit .0) in
-    let p : c .before .assign-bit .result ≡ assignedBit (c .before .before .still-live .result) (c .before .before .before .before .before .loop .kept) (c .before .before .before .lowest-bit .result) = c .before .assign-bit .ensures ∙ ap (assignedBit (c .before .before .still-live .result) (c .before .before .before .before .before .loop .kept)) e in
-    let q : c .clear-bit .result ≡ withoutBit (c .before .before .before .before .before .loop .left) (c .before .before .before .lowest-bit .result) = c .clear-bit .ensures ∙ ap (withoutBit (c .before .before .before .before .before .loop .left)) e in
-    (search needs, rw (p, q) (sift-step _ _ _ _ (c .before .before .before .lowest-bit .result) (c .before .before .still-live .result) (c .before .before .before .before .before .loop .inv .1) (bit .1) (c .before .before .still-live .ensures)))
-
-returns : tie.Need-returns Inv-loop μ-loop
-returns c = sift-end _ _ _ _ (c .before .loop .inv .1) (c .loop-test .left)
+returns-3 : tie.Need-returns-3
+returns-3 c = c .sift-word .ensures
 
 pub narrow-word-spec : {M : Type 1} → statement M
 narrow-word-spec =
     tie.close
-    (tie.spec
-    Inv-loop
-    μ-loop
-    loop-holds
-    lowest-bit-requires
-    add-still-live
-    still-live-requires
-    assign-bit-requires
-    clear-bit-requires
-    loop-less
-    loop-again
-    returns)
+    (tie.spec returns holds-requires strain-word-requires returns-2 sift-word-requires returns-3)

@@ -6,10 +6,12 @@ use borrow.Author.Tests.{not-true, not-false}
 use lib.ListN.{length, getD, replicate}
 use Rattle.model.specs.Content.{kindCount, pieceCount}
 use Rattle.model.specs.Format.{content}
+use Rattle.model.specs.Grid.{setWords}
 use Rattle.model.specs.Search.{copiesLeft}
 use Rattle.model.proofs.Accepted.{accepted-sensible}
 use Rattle.plans.proofs.PlanLaws.{kinds-few, words-few}
 use Rattle.stepping.specs.Levels.{piecesFrom}
+use Rattle.stepping.proofs.Kept.{spans-all}
 use Rattle.lookahead.specs.Settled.{KindSettled}
 use Rattle.lookahead.proofs.Making.{made-first, kind-made, Settling, settling-begin, settling-next, settled-all, settled-few}
 use Rattle.root.proofs.beginning.settle_first.Statement.{statement}
@@ -17,7 +19,7 @@ use Rattle.root.proofs.beginning.settle_first.Tie as tie
 
 abbrev Inv-loop : tie.InvT-loop
 Inv-loop job view boxes plan work₀ kinds copies u₀ work u =
-    ((u ≤ kinds) × (kinds ≡ kindCount (content job)) × (kinds ≤ 8)) × (length work ≡ length work₀) × Settling (content job) (replicate 12 0) 0 (content job .sheet .L + 1) u work₀ work
+    ((u ≤ kinds) × (kinds ≡ kindCount (content job)) × (kinds ≤ 8)) × (length work ≡ length work₀) × Settling (content job) (replicate 12 0) 0 (content job .sheet .L + 1) (setWords (content job .sheet)) u work₀ work
 
 abbrev μ-loop : tie.MeasureT-loop
 μ-loop job view boxes plan work₀ kinds copies u₀ work u = kinds - u
@@ -33,7 +35,7 @@ kind c = omega (arith, c .before .loop .inv .0)
 loop-holds : tie.Need-loop-holds Inv-loop μ-loop
 loop-holds c =
     let k = c .before .before .before .pre .0 .2 .types in
-    ((omega arith, k, omega (arith, k, kinds-few (c .before .before .before .args .job .now) (c .before .before .before .args .plan) (c .before .before .before .pre .0 .2))), refl, settling-begin _ _ _ _ _)
+    ((omega arith, k, omega (arith, k, kinds-few (c .before .before .before .args .job .now) (c .before .before .before .args .plan) (c .before .before .before .pre .0 .2))), refl, settling-begin _ _ _ _ _ _)
 
 set-start-requires : tie.Need-set-start-requires Inv-loop μ-loop
 set-start-requires c κs = (c .before .before .before .before .before .pre .0 .2, some-piece (c .before .before .before .before .before), kind c)
@@ -62,9 +64,9 @@ told c =
     (c .before .before .before .before .before .pre .0 .2 .copies 0 (c .before .loop .u) (some-piece (c .before .before .before .before .before)) (omega (arith, c .before .loop .inv .0)))
 
 -- The kind is settled.
-settled : (c : tie.After-has-members Inv-loop μ-loop) → KindSettled (content (c .before .before .before .before .before .before .before .before .before .before .before .before .args .job .now)) (replicate 12 0) 0 (content (c .before .before .before .before .before .before .before .before .before .before .before .before .args .job .now) .sheet .L + 1) (c .before .before .before .before .before .before .before .before .loop .u) (c .before .before .before .before .before .before .before .before .loop .work) (c .before .before .before .before .fill .last .1 .1 .1 .1 .0) (c .has-members .result)
+settled : (c : tie.After-has-members Inv-loop μ-loop) → KindSettled (content (c .before .before .before .before .before .before .before .before .before .before .before .before .args .job .now)) (replicate 12 0) 0 (content (c .before .before .before .before .before .before .before .before .before .before .before .before .args .job .now) .sheet .L + 1) (setWords (content (c .before .before .before .before .before .before .before .before .before .before .before .before .args .job .now) .sheet)) (c .before .before .before .before .before .before .before .before .loop .u) (c .before .before .before .before .before .before .before .before .loop .work) (c .before .before .before .before .fill .last .1 .1 .1 .1 .0) (c .has-members .result)
 settled c =
-    kind-made (content (c .before .before .before .before .before .before .before .before .before .before .before .before .args .job .now)) (replicate 12 0) 0 (content (c .before .before .before .before .before .before .before .before .before .before .before .before .args .job .now) .sheet .L + 1) (c .before .before .before .before .before .before .before .before .loop .u) (c .before .before .before .before .before .before .set-start .result) (c .before .before .before .before .before .before .before .before .before .before .before .before .args .plan .words) (getD (c .before .before .before .before .before .before .before .before .before .before .before .before .args .plan .copies) (c .before .before .before .before .before .before .before .before .loop .u) 0) (c .before .before .before .before .before .before .before .before .loop .work) (c .before .before .before .before .fill .last .1 .1 .1 .1 .0) (c .has-members .result) (c .before .before .before .before .before .before .set-start .ensures .place) (c .before .before .before .before .before .before .before .before .before .before .before .before .pre .0 .2 .words)
+    kind-made (content (c .before .before .before .before .before .before .before .before .before .before .before .before .args .job .now)) (replicate 12 0) 0 (content (c .before .before .before .before .before .before .before .before .before .before .before .before .args .job .now) .sheet .L + 1) (setWords (content (c .before .before .before .before .before .before .before .before .before .before .before .before .args .job .now) .sheet)) (c .before .before .before .before .before .before .before .before .loop .u) (c .before .before .before .before .before .before .set-start .result) (c .before .before .before .before .before .before .before .before .before .before .before .before .args .plan .words) (getD (c .before .before .before .before .before .before .before .before .before .before .before .before .args .plan .copies) (c .before .before .before .before .before .before .before .before .loop .u) 0) (c .before .before .before .before .before .before .before .before .loop .work) (c .before .before .before .before .fill .last .1 .1 .1 .1 .0) (c .has-members .result) (c .before .before .before .before .before .before .set-start .ensures .place) (c .before .before .before .before .before .before .before .before .before .before .before .before .pre .0 .2 .words) (spans-all _ _)
     (told (c .before .before .before .before .before .before .before))
     (made-first (content (c .before .before .before .before .before .before .before .before .before .before .before .before .args .job .now)) (replicate 12 0) (c .before .before .before .before .before .before .before .before .loop .u) (c .before .before .before .before .before .before .set-start .result) (c .before .before .before .before .before .before .before .before .before .before .before .before .args .plan .words) (c .before .before .before .before .before .before .before .before .loop .work) (c .before .before .before .before .fill .last .1 .1 .1 .1 .0) (c .before .before .before .before .before .before .set-start .ensures .place) (c .before .before .before .before .before .before .before .before .before .before .before .before .pre .0 .2 .words) (some-piece (c .before .before .before .before .before .before .before .before .before .before .before .before)) (kind (c .before .before .before .before .before .before .before)) (c .before .before .before .before .fill .ensures))
     (c .has-members .ensures)
@@ -74,7 +76,7 @@ same-length c = room (c .before .before .before .before .before)
 
 returns : tie.Need-returns Inv-loop μ-loop
 returns c =
-    settled-few (content (c .before .before .before .before .before .before .before .before .before .before .before .before .before .args .job .now)) _ _ _ (c .before .before .before .before .before .before .before .before .before .loop .u) (c .before .before .before .before .before .before .before .before .before .before .before .before .before .args .work .now) (c .before .before .before .before .before .before .before .before .before .loop .work) _ (c .before .has-members .result) (not-true (c .before .has-members .result) (c .if1 .taken)) (kind (c .before .before .before .before .before .before .before .before)) (c .before .before .before .before .before .before .before .before .before .loop .inv .2) (settled (c .before))
+    settled-few (content (c .before .before .before .before .before .before .before .before .before .before .before .before .before .args .job .now)) _ _ _ _ (c .before .before .before .before .before .before .before .before .before .loop .u) (c .before .before .before .before .before .before .before .before .before .before .before .before .before .args .work .now) (c .before .before .before .before .before .before .before .before .before .loop .work) _ (c .before .has-members .result) (not-true (c .before .has-members .result) (c .if1 .taken)) (kind (c .before .before .before .before .before .before .before .before)) (c .before .before .before .before .before .before .before .before .before .loop .inv .2) (settled (c .before))
 
 add-u : tie.Need-add-u Inv-loop μ-loop
 add-u c = omega (arith, c .before .before .before .before .before .before .before .before .before .loop .inv .0)
@@ -86,7 +88,7 @@ loop-again : tie.Need-loop-again Inv-loop μ-loop
 loop-again c = (
   (omega (arith, c .before .before .before .before .before .before .before .before .before .loop .inv .0), c .before .before .before .before .before .before .before .before .before .loop .inv .0 .1, c .before .before .before .before .before .before .before .before .before .loop .inv .0 .2),
   room (c .before .before .before .before .before),
-  settling-next (content (c .before .before .before .before .before .before .before .before .before .before .before .before .before .args .job .now)) _ _ _ (c .before .before .before .before .before .before .before .before .before .loop .u) (c .before .before .before .before .before .before .before .before .before .before .before .before .before .args .work .now) (c .before .before .before .before .before .before .before .before .before .loop .work) _ (c .before .has-members .result) (not-false (c .before .has-members .result) (c .if1 .left)) (c .before .before .before .before .before .before .before .before .before .loop .inv .2) (settled (c .before)),
+  settling-next (content (c .before .before .before .before .before .before .before .before .before .before .before .before .before .args .job .now)) _ _ _ _ (c .before .before .before .before .before .before .before .before .before .loop .u) (c .before .before .before .before .before .before .before .before .before .before .before .before .before .args .work .now) (c .before .before .before .before .before .before .before .before .before .loop .work) _ (c .before .has-members .result) (not-false (c .before .has-members .result) (c .if1 .left)) (omega arith) (c .before .before .before .before .before .before .before .before .before .loop .inv .2) (settled (c .before)),
 )
 
 same-length-2 : tie.Need-same-length-2 Inv-loop μ-loop
@@ -95,7 +97,7 @@ same-length-2 c = c .before .loop .inv .1
 returns-2 : tie.Need-returns-2 Inv-loop μ-loop
 returns-2 c =
     let e : c .before .loop .u ≡ kindCount (content (c .before .before .before .before .before .args .job .now)) = omega (arith, c .before .loop .inv .0) in
-    settled-all _ _ _ _ _ _ (subst (λ (k : ℕ). Settling (content (c .before .before .before .before .before .args .job .now)) (replicate 12 0) 0 (content (c .before .before .before .before .before .args .job .now) .sheet .L + 1) k (c .before .before .before .before .before .args .work .now) (c .before .loop .work)) e (c .before .loop .inv .2))
+    settled-all _ _ _ _ _ _ _ (subst (λ (k : ℕ). Settling (content (c .before .before .before .before .before .args .job .now)) (replicate 12 0) 0 (content (c .before .before .before .before .before .args .job .now) .sheet .L + 1) (setWords (content (c .before .before .before .before .before .args .job .now) .sheet)) k (c .before .before .before .before .before .args .work .now) (c .before .loop .work)) e (c .before .loop .inv .2))
 
 pub settle-first-spec : {M : Type 1} → statement M
 settle-first-spec =

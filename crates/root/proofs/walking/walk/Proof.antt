@@ -43,44 +43,32 @@ same-length c = c .before .before .before .settle-first .kept .1 .1 .1 .1 .0
 
 returns : tie.Need-returns
 returns c =
-    begin-back _ (c .before .before .before .before .before .before .before .before .before .before .before .before .before .before .before .args .budget) _ _ _ _ (some-piece (c .before .before .before .before .before .before .before .before .before .before .before .before .before .before .before)) (c .before .before .before .before .before .before .before .before .before .before .before .before .before .before .before .pre .0 .view .len) refl (c .before .before .before .before .before .before .before .before .before .before .before .before .before .before .before .pre .1) _ (c .before .before .before .settle-first .result) (c .before .before .before .settle-first .ensures) (c .before .before .before .before .before .begin .result) (c .before .before .before .before .before .begin .ensures) (not-true (c .before .before .before .settle-first .result) (c .if1 .taken))
+    begin-back _ (c .before .before .before .before .before .before .before .before .before .before .before .before .before .before .before .args .budget) _ _ _ _ _ (some-piece (c .before .before .before .before .before .before .before .before .before .before .before .before .before .before .before)) (c .before .before .before .before .before .before .before .before .before .before .before .before .before .before .before .pre .0 .view .len) (c .before .before .before .before .before .before .make-plan .ensures .words) refl (c .before .before .before .before .before .before .before .before .before .before .before .before .before .before .before .pre .1) _ (c .before .before .before .settle-first .result) (c .before .before .before .settle-first .ensures) (c .before .before .before .before .before .begin .result) (c .before .before .before .before .before .begin .ensures) (not-true (c .before .before .before .settle-first .result) (c .if1 .taken))
 
-table-limit-requires : tie.Need-table-limit-requires
-table-limit-requires c κs = search needs
+room-for-requires : tie.Need-room-for-requires
+room-for-requires c κs = search needs
 
-window-of-requires : tie.Need-window-of-requires
-window-of-requires c κs = (bounded (c .before .before .before .before .before .before .before .before .before .before .before .before .before .before .before .before .args .job .now) (c .before .before .before .before .before .before .before .before .before .before .before .before .before .before .before .before .args .view) (c .before .before .before .before .before .before .before .before .before .before .before .before .before .before .before .before .pre .0), c .table-limit .ensures)
+nofit-of-requires : tie.Need-nofit-of-requires
+nofit-of-requires c κs = (c .before .before .before .before .before .before .before .before .before .before .before .before .before .before .before .before .pre .0, c .before .before .before .before .before .before .before .before .boxes-of .ensures)
 
-slice-aggregate-make-offsets : tie.Need-slice-aggregate-make-offsets
-slice-aggregate-make-offsets c = search needs
+slice-aggregate-walk-with-table : tie.Need-slice-aggregate-walk-with-table
+slice-aggregate-walk-with-table c = search needs
 
-slice-aggregate-make-offsets-2 : tie.Need-slice-aggregate-make-offsets-2
-slice-aggregate-make-offsets-2 c = search needs
-
-make-offsets-requires : tie.Need-make-offsets-requires
-make-offsets-requires c κs = ((c .before .before .before .before .before .before .before .before .before .before .before .before .before .before .before .before .before .before .before .pre .0, c .before .before .before .before .before .before .before .before .before .before .before .before .before .before .turn-all .ensures), (c .before .before .window-of .ensures, refl))
-
-slice-aggregate-try-piece : tie.Need-slice-aggregate-try-piece
-slice-aggregate-try-piece c = search needs
-
-slice-aggregate-try-piece-2 : tie.Need-slice-aggregate-try-piece-2
-slice-aggregate-try-piece-2 c = search needs
-
-try-piece-requires : tie.Need-try-piece-requires
-try-piece-requires c κs = (
-  (record { plan = c .before .before .before .before .before .before .before .before .before .before .before .before .before .before .before .before .make-plan .ensures; table = c .before .before .before .before .before .before .before .before .before .before .before .before .before .before .before .before .before .before .before .before .turn-all .ensures; offsets = c .before .before .before .before .before .make-offsets .ensures }, some-piece (c .before .before .before .before .before .before .before .before .before .before .before .before .before .before .before .before .before .before .before .before .before .before .before .before .before)),
-  begin-deep _ (c .before .before .before .before .before .before .before .before .before .before .before .before .before .before .before .before .before .before .before .before .before .before .before .before .before .args .budget) _ _ _ _ (some-piece (c .before .before .before .before .before .before .before .before .before .before .before .before .before .before .before .before .before .before .before .before .before .before .before .before .before)) (c .before .before .before .before .before .before .before .before .before .before .before .before .before .before .before .before .before .before .before .before .before .before .before .before .before .pre .0 .view .len) refl (c .before .before .before .before .before .before .before .before .before .before .before .before .before .before .before .before .before .before .before .before .before .before .before .before .before .pre .1) _ (c .before .before .before .before .before .before .before .before .before .before .before .before .before .settle-first .result) (c .before .before .before .before .before .before .before .before .before .before .before .before .before .settle-first .ensures) (c .before .before .before .before .before .before .before .before .before .before .before .before .before .before .before .begin .result) (c .before .before .before .before .before .before .before .before .before .before .before .before .before .before .before .begin .ensures) (not-false (c .before .before .before .before .before .before .before .before .before .before .before .before .before .settle-first .result) (c .before .before .before .before .before .before .before .before .before .before .if1 .left)) (c .before .before .before .before .before .before .before .before .before .before .before .before .before .settle-first .kept .1 .1 .1 .1 .0),
+walk-with-table-requires : tie.Need-walk-with-table-requires
+walk-with-table-requires c κs = (
+  (record { viewed = c .before .before .before .before .before .before .before .before .before .before .before .before .before .before .before .before .before .before .before .before .pre .0; table = c .before .before .before .before .before .before .before .before .before .before .before .before .before .before .before .turn-all .ensures; boxed = c .before .before .before .before .before .before .before .before .before .before .before .before .boxes-of .ensures; plan = c .before .before .before .before .before .before .before .before .before .before .before .make-plan .ensures; measures = c .before .before .before .nofit-of .ensures .0 }, omega (arith, c .before .before .before .nofit-of .ensures .1, c .before .before .before .nofit-of .ensures .0 .small, c .before .before .before .before .room-for .ensures)),
+  begin-deep _ (c .before .before .before .before .before .before .before .before .before .before .before .before .before .before .before .before .before .before .before .before .args .budget) _ _ _ _ _ (some-piece (c .before .before .before .before .before .before .before .before .before .before .before .before .before .before .before .before .before .before .before .before)) (c .before .before .before .before .before .before .before .before .before .before .before .before .before .before .before .before .before .before .before .before .pre .0 .view .len) (c .before .before .before .before .before .before .before .before .before .before .before .make-plan .ensures .words) refl (c .before .before .before .before .before .before .before .before .before .before .before .before .before .before .before .before .before .before .before .before .pre .1) _ (c .before .before .before .before .before .before .before .before .settle-first .result) (c .before .before .before .before .before .before .before .before .settle-first .ensures) (c .before .before .before .before .before .before .before .before .before .before .begin .result) (c .before .before .before .before .before .before .before .before .before .before .begin .ensures) (not-false (c .before .before .before .before .before .before .before .before .settle-first .result) (c .before .before .before .before .before .if1 .left)) (c .before .before .before .before .before .before .before .before .settle-first .kept .1 .1 .1 .1 .0),
 )
 
 same-length-2 : tie.Need-same-length-2
-same-length-2 c = c .before .before .before .before .try-piece .kept .1 .1 .1 .1 .1 .0 ∙ c .before .before .before .before .before .before .before .before .before .before .before .before .before .before .before .before .before .before .settle-first .kept .1 .1 .1 .1 .0
+same-length-2 c = c .before .before .before .before .walk-with-table .kept .1 .1 .1 .1 .1 .1 .0 ∙ c .before .before .before .before .before .before .before .before .before .before .before .before .before .settle-first .kept .1 .1 .1 .1 .0
 
 same-length-3 : tie.Need-same-length-3
-same-length-3 c = c .before .before .before .before .try-piece .kept .1 .1 .1 .1 .1 .1 .0
+same-length-3 c = c .before .before .before .before .walk-with-table .kept .1 .1 .1 .1 .1 .1 .1 .0
 
 returns-2 : tie.Need-returns-2
 returns-2 c =
-    begin-walks _ (c .before .before .before .before .before .before .before .before .before .before .before .before .before .before .before .before .before .before .before .before .before .before .before .before .before .before .before .before .before .before .args .budget) _ _ _ _ (some-piece (c .before .before .before .before .before .before .before .before .before .before .before .before .before .before .before .before .before .before .before .before .before .before .before .before .before .before .before .before .before .before)) (c .before .before .before .before .before .before .before .before .before .before .before .before .before .before .before .before .before .before .before .before .before .before .before .before .before .before .before .before .before .before .pre .0 .view .len) refl (c .before .before .before .before .before .before .before .before .before .before .before .before .before .before .before .before .before .before .before .before .before .before .before .before .before .before .before .before .before .before .pre .1) _ (c .before .before .before .before .before .before .before .before .before .before .before .before .before .before .before .before .before .before .settle-first .result) (c .before .before .before .before .before .before .before .before .before .before .before .before .before .before .before .before .before .before .settle-first .ensures) (c .before .before .before .before .before .before .before .before .before .before .before .before .before .before .before .before .before .before .before .before .begin .result) (c .before .before .before .before .before .before .before .before .before .before .before .before .before .before .before .before .before .before .before .before .begin .ensures) _ _ (c .before .before .before .before .try-piece .result) (not-false (c .before .before .before .before .before .before .before .before .before .before .before .before .before .before .before .before .before .before .settle-first .result) (c .before .before .before .before .before .before .before .before .before .before .before .before .before .before .before .if1 .left)) (c .before .before .before .before .try-piece .ensures)
+    begin-walks _ (c .before .before .before .before .before .before .before .before .before .before .before .before .before .before .before .before .before .before .before .before .before .before .before .before .before .args .budget) _ _ _ _ _ (some-piece (c .before .before .before .before .before .before .before .before .before .before .before .before .before .before .before .before .before .before .before .before .before .before .before .before .before)) (c .before .before .before .before .before .before .before .before .before .before .before .before .before .before .before .before .before .before .before .before .before .before .before .before .before .pre .0 .view .len) (c .before .before .before .before .before .before .before .before .before .before .before .before .before .before .before .before .make-plan .ensures .words) refl (c .before .before .before .before .before .before .before .before .before .before .before .before .before .before .before .before .before .before .before .before .before .before .before .before .before .pre .1) _ (c .before .before .before .before .before .before .before .before .before .before .before .before .before .settle-first .result) (c .before .before .before .before .before .before .before .before .before .before .before .before .before .settle-first .ensures) (c .before .before .before .before .before .before .before .before .before .before .before .before .before .before .before .begin .result) (c .before .before .before .before .before .before .before .before .before .before .before .before .before .before .before .begin .ensures) _ _ (c .before .before .before .before .walk-with-table .result) (not-false (c .before .before .before .before .before .before .before .before .before .before .before .before .before .settle-first .result) (c .before .before .before .before .before .before .before .before .before .before .if1 .left)) (c .before .before .before .before .walk-with-table .ensures)
 
 pub walk-spec : {M : Type 1} → statement M
 walk-spec =
@@ -95,14 +83,10 @@ walk-spec =
     settle-first-requires
     same-length
     returns
-    table-limit-requires
-    window-of-requires
-    slice-aggregate-make-offsets
-    slice-aggregate-make-offsets-2
-    make-offsets-requires
-    slice-aggregate-try-piece
-    slice-aggregate-try-piece-2
-    try-piece-requires
+    room-for-requires
+    nofit-of-requires
+    slice-aggregate-walk-with-table
+    walk-with-table-requires
     same-length-2
     same-length-3
     returns-2)

@@ -12,9 +12,10 @@ use Rattle.model.specs.Content.{kindCount, pieceCount}
 use Rattle.model.specs.Format.{content}
 use Rattle.model.specs.Grid.{dots, setWords}
 use Rattle.model.proofs.Accepted.{accepted-kinds, accepted-dots}
-use Rattle.stepping.proofs.Limits.{few-pieces, few-words}
-use Rattle.walks.proofs.GoingOn.{record-ready, go-last, settle-ready, go-back, deep-ready, go-deep}
+use Rattle.stepping.proofs.Limits.{few-pieces, few-words, demanded}
+use Rattle.walks.proofs.GoingOn.{record-ready, lower-ready, go-last, settle-ready, go-back, deep-ready, go-deep}
 use Rattle.walks.proofs.Trying.{Trying, trying-begin, trying-keeps, trying-past, trying-stops, taken-ready, taken-taken, trying-ends, trying-goes}
+use Rattle.bounding.proofs.lowering.lower.Reads as lower-reads
 use Rattle.lookahead.proofs.settling.settle.Reads as settle-reads
 use Rattle.plans.proofs.recording.record_layout.Reads as record-layout-reads
 use Rattle.branching.proofs.choosing.next_live.Reads as next-live-reads
@@ -59,57 +60,63 @@ positive n f = omega arith
 -- ---- What follows a candidate taken
 
 -- The dots and the kinds are few.
-few-dots : (t : ℕ) (c : go-on-lts.Start (record-layout-reads.Asked, record-layout-reads.Learnt, complete-reads.Asked, complete-reads.Learnt, settle-reads.Asked, settle-reads.Learnt, try-piece-below t, try-piece.Post) (go-on-at t) go-on.Post) → dots (content (c .args .job .now) .sheet) ≤ 1024
+few-dots : (t : ℕ) (c : go-on-lts.Start (record-layout-reads.Asked, record-layout-reads.Learnt, lower-reads.Asked, lower-reads.Learnt, complete-reads.Asked, complete-reads.Learnt, settle-reads.Asked, settle-reads.Learnt, try-piece-below t, try-piece.Post) (go-on-at t) go-on.Post) → dots (content (c .args .job .now) .sheet) ≤ 1024
 few-dots t c = accepted-dots (c .args .job .now) (c .pre .1 .0 .plan .accepted)
 
-few-kinds : (t : ℕ) (c : go-on-lts.Start (record-layout-reads.Asked, record-layout-reads.Learnt, complete-reads.Asked, complete-reads.Learnt, settle-reads.Asked, settle-reads.Learnt, try-piece-below t, try-piece.Post) (go-on-at t) go-on.Post) → kindCount (content (c .args .job .now)) ≤ 8
+few-kinds : (t : ℕ) (c : go-on-lts.Start (record-layout-reads.Asked, record-layout-reads.Learnt, lower-reads.Asked, lower-reads.Learnt, complete-reads.Asked, complete-reads.Learnt, settle-reads.Asked, settle-reads.Learnt, try-piece-below t, try-piece.Post) (go-on-at t) go-on.Post) → kindCount (content (c .args .job .now)) ≤ 8
 few-kinds t c = accepted-kinds (c .args .job .now) (c .pre .1 .0 .plan .accepted) .few-kinds
 
-go-on-record-layout-requires : (t : ℕ) → go-on-lts.Need-record-layout-requires (record-layout-reads.Asked, record-layout-reads.Learnt, complete-reads.Asked, complete-reads.Learnt, settle-reads.Asked, settle-reads.Learnt, try-piece-below t, try-piece.Post) (go-on-at t) go-on.Post
+go-on-record-layout-requires : (t : ℕ) → go-on-lts.Need-record-layout-requires (record-layout-reads.Asked, record-layout-reads.Learnt, lower-reads.Asked, lower-reads.Learnt, complete-reads.Asked, complete-reads.Learnt, settle-reads.Asked, settle-reads.Learnt, try-piece-below t, try-piece.Post) (go-on-at t) go-on.Post
 go-on-record-layout-requires t c κs = (c .before .before .before .before .before .before .before .pre .1 .0 .plan, record-ready _ _ _ _ _ _ _ (c .before .before .before .before .before .before .before .pre .1 .1 .0) (c .before .before .before .before .before .before .before .pre .1 .1 .1 .below) (few-dots t (c .before .before .before .before .before .before .before)) (few-kinds t (c .before .before .before .before .before .before .before)) (c .before .if1 .taken ∙ c .before .before .before .before .before .before .before .pre .1 .0 .plan .pieces))
 
-go-on-complete-requires : (t : ℕ) → go-on-lts.Need-complete-requires (record-layout-reads.Asked, record-layout-reads.Learnt, complete-reads.Asked, complete-reads.Learnt, settle-reads.Asked, settle-reads.Learnt, try-piece-below t, try-piece.Post) (go-on-at t) go-on.Post
+go-on-lower-requires : (t : ℕ) → go-on-lts.Need-lower-requires (record-layout-reads.Asked, record-layout-reads.Learnt, lower-reads.Asked, lower-reads.Learnt, complete-reads.Asked, complete-reads.Learnt, settle-reads.Asked, settle-reads.Learnt, try-piece-below t, try-piece.Post) (go-on-at t) go-on.Post
+go-on-lower-requires t c κs = ((c .before .before .before .before .before .before .before .before .before .before .before .pre .1 .0 .plan, c .before .before .before .before .before .before .before .before .before .before .before .pre .1 .1 .0 .spans .within), (c .before .before .before .before .before .before .before .before .before .before .before .pre .1 .1 .0 .work-fits, lower-ready _ _ _ _ _ _ _ (c .before .before .before .before .before .before .before .before .before .before .before .pre .1 .1 .0) (c .before .before .before .before .before .before .before .before .before .before .before .pre .1 .1 .1 .below) (c .before .before .before .before .before .if1 .taken ∙ c .before .before .before .before .before .before .before .before .before .before .before .pre .1 .0 .plan .pieces)))
+
+go-on-complete-requires : (t : ℕ) → go-on-lts.Need-complete-requires (record-layout-reads.Asked, record-layout-reads.Learnt, lower-reads.Asked, lower-reads.Learnt, complete-reads.Asked, complete-reads.Learnt, settle-reads.Asked, settle-reads.Learnt, try-piece-below t, try-piece.Post) (go-on-at t) go-on.Post
 go-on-complete-requires t c κs = search needs
 
-go-on-same-length : (t : ℕ) → go-on-lts.Need-same-length (record-layout-reads.Asked, record-layout-reads.Learnt, complete-reads.Asked, complete-reads.Learnt, settle-reads.Asked, settle-reads.Learnt, try-piece-below t, try-piece.Post) (go-on-at t) go-on.Post
-go-on-same-length t c = c .before .before .before .record-layout .kept .1 .1 .1 .0
+go-on-same-length : (t : ℕ) → go-on-lts.Need-same-length (record-layout-reads.Asked, record-layout-reads.Learnt, lower-reads.Asked, lower-reads.Learnt, complete-reads.Asked, complete-reads.Learnt, settle-reads.Asked, settle-reads.Learnt, try-piece-below t, try-piece.Post) (go-on-at t) go-on.Post
+go-on-same-length t c = c .before .before .before .lower .kept .1 .1 .1 .1 .0
 
-go-on-returns : (t : ℕ) → go-on-lts.Need-returns (record-layout-reads.Asked, record-layout-reads.Learnt, complete-reads.Asked, complete-reads.Learnt, settle-reads.Asked, settle-reads.Learnt, try-piece-below t, try-piece.Post) (go-on-at t) go-on.Post
-go-on-returns t c = go-last _ _ _ _ _ _ _ (c .before .before .before .before .before .before .before .before .before .before .before .pre .1 .1 .0) (c .before .before .before .before .before .before .before .before .before .before .before .pre .1 .1 .1 .below) _ (c .complete .result) (c .complete .ensures) (few-dots t (c .before .before .before .before .before .before .before .before .before .before .before)) (few-kinds t (c .before .before .before .before .before .before .before .before .before .before .before)) (c .before .before .before .before .before .if1 .taken ∙ c .before .before .before .before .before .before .before .before .before .before .before .pre .1 .0 .plan .pieces) (c .before .before .before .record-layout .ensures)
+go-on-same-length-2 : (t : ℕ) → go-on-lts.Need-same-length-2 (record-layout-reads.Asked, record-layout-reads.Learnt, lower-reads.Asked, lower-reads.Learnt, complete-reads.Asked, complete-reads.Learnt, settle-reads.Asked, settle-reads.Learnt, try-piece-below t, try-piece.Post) (go-on-at t) go-on.Post
+go-on-same-length-2 t c = c .before .before .before .before .before .before .before .record-layout .kept .1 .1 .1 .0
+
+go-on-returns : (t : ℕ) → go-on-lts.Need-returns (record-layout-reads.Asked, record-layout-reads.Learnt, lower-reads.Asked, lower-reads.Learnt, complete-reads.Asked, complete-reads.Learnt, settle-reads.Asked, settle-reads.Learnt, try-piece-below t, try-piece.Post) (go-on-at t) go-on.Post
+go-on-returns t c = go-last _ _ _ _ _ _ _ (c .before .before .before .before .before .before .before .before .before .before .before .before .before .before .before .pre .1 .1 .0) (c .before .before .before .before .before .before .before .before .before .before .before .before .before .before .before .pre .1 .1 .1 .below) _ _ (c .before .before .before .lower .result) (c .complete .result) (c .complete .ensures) (few-dots t (c .before .before .before .before .before .before .before .before .before .before .before .before .before .before .before)) (few-kinds t (c .before .before .before .before .before .before .before .before .before .before .before .before .before .before .before)) (demanded (c .before .before .before .before .before .before .before .before .before .before .before .before .before .before .before .args .job .now) (c .before .before .before .before .before .before .before .before .before .before .before .before .before .before .before .pre .1 .0 .plan .accepted)) (c .before .before .before .before .before .before .before .before .before .before .before .before .before .before .before .pre .1 .1 .1 .some) (c .before .before .before .before .before .before .before .before .before .if1 .taken ∙ c .before .before .before .before .before .before .before .before .before .before .before .before .before .before .before .pre .1 .0 .plan .pieces) (c .before .before .before .before .before .before .before .record-layout .ensures) (c .before .before .before .lower .ensures)
 
 -- A piece is left.
-unplaced : (t : ℕ) (c : go-on-lts.Else1 (record-layout-reads.Asked, record-layout-reads.Learnt, complete-reads.Asked, complete-reads.Learnt, settle-reads.Asked, settle-reads.Learnt, try-piece-below t, try-piece.Post) (go-on-at t) go-on.Post) → c .before .before .before .before .before .before .args .level < pieceCount (content (c .before .before .before .before .before .before .args .job .now))
+unplaced : (t : ℕ) (c : go-on-lts.Else1 (record-layout-reads.Asked, record-layout-reads.Learnt, lower-reads.Asked, lower-reads.Learnt, complete-reads.Asked, complete-reads.Learnt, settle-reads.Asked, settle-reads.Learnt, try-piece-below t, try-piece.Post) (go-on-at t) go-on.Post) → c .before .before .before .before .before .before .args .level < pieceCount (content (c .before .before .before .before .before .before .args .job .now))
 unplaced t c = unfinished (c .before .before .before .before .before .before .args .level) _ _ (c .before .before .before .before .before .before .pre .1 .1 .1 .within) (c .before .before .before .before .before .before .pre .1 .0 .plan .pieces) (c .if1 .left)
 
-go-on-settle-requires : (t : ℕ) → go-on-lts.Need-settle-requires (record-layout-reads.Asked, record-layout-reads.Learnt, complete-reads.Asked, complete-reads.Learnt, settle-reads.Asked, settle-reads.Learnt, try-piece-below t, try-piece.Post) (go-on-at t) go-on.Post
+go-on-settle-requires : (t : ℕ) → go-on-lts.Need-settle-requires (record-layout-reads.Asked, record-layout-reads.Learnt, lower-reads.Asked, lower-reads.Learnt, complete-reads.Asked, complete-reads.Learnt, settle-reads.Asked, settle-reads.Learnt, try-piece-below t, try-piece.Post) (go-on-at t) go-on.Post
 go-on-settle-requires t c κs = (c .before .before .before .before .before .before .before .pre .1 .0, settle-ready _ _ _ _ _ _ _ (c .before .before .before .before .before .before .before .pre .1 .1 .0) (c .before .before .before .before .before .before .before .pre .1 .1 .1 .below) (unplaced t (c .before)) (c .before .before .before .before .before .before .before .pre .1 .1 .1))
 
-go-on-try-piece-requires : (t : ℕ) → go-on-lts.Need-try-piece-requires (record-layout-reads.Asked, record-layout-reads.Learnt, complete-reads.Asked, complete-reads.Learnt, settle-reads.Asked, settle-reads.Learnt, try-piece-below t, try-piece.Post) (go-on-at t) go-on.Post
+go-on-try-piece-requires : (t : ℕ) → go-on-lts.Need-try-piece-requires (record-layout-reads.Asked, record-layout-reads.Learnt, lower-reads.Asked, lower-reads.Learnt, complete-reads.Asked, complete-reads.Learnt, settle-reads.Asked, settle-reads.Learnt, try-piece-below t, try-piece.Post) (go-on-at t) go-on.Post
 go-on-try-piece-requires t c κs = (omega (arith, c .before .before .before .before .before .before .before .before .before .before .before .before .before .pre .0), ((c .before .before .before .before .before .before .before .before .before .before .before .before .before .pre .1 .0, unplaced t (c .before .before .before .before .before .before .before)), deep-ready _ _ _ _ _ _ _ (c .before .before .before .before .before .before .before .before .before .before .before .before .before .pre .1 .1 .0) (c .before .before .before .before .before .before .before .before .before .before .before .before .before .pre .1 .1 .1 .below) _ (c .before .before .before .before .before .settle .result) (c .before .before .if2 .taken) (c .before .before .before .before .before .settle .ensures) (c .before .before .before .before .before .settle .kept .1 .1 .1 .1 .1 .1 .1 .1 .0)))
 
-go-on-same-length-2 : (t : ℕ) → go-on-lts.Need-same-length-2 (record-layout-reads.Asked, record-layout-reads.Learnt, complete-reads.Asked, complete-reads.Learnt, settle-reads.Asked, settle-reads.Learnt, try-piece-below t, try-piece.Post) (go-on-at t) go-on.Post
-go-on-same-length-2 t c = c .before .before .before .before .try-piece .kept .1 .1 .1 .1 .1 .0 ∙ c .before .before .before .before .before .before .before .before .before .before .settle .kept .1 .1 .1 .1 .1 .1 .1 .1 .0
+go-on-same-length-3 : (t : ℕ) → go-on-lts.Need-same-length-3 (record-layout-reads.Asked, record-layout-reads.Learnt, lower-reads.Asked, lower-reads.Learnt, complete-reads.Asked, complete-reads.Learnt, settle-reads.Asked, settle-reads.Learnt, try-piece-below t, try-piece.Post) (go-on-at t) go-on.Post
+go-on-same-length-3 t c = c .before .before .before .before .try-piece .kept .1 .1 .1 .1 .1 .0 ∙ c .before .before .before .before .before .before .before .before .before .before .settle .kept .1 .1 .1 .1 .1 .1 .1 .1 .0
 
-go-on-same-length-3 : (t : ℕ) → go-on-lts.Need-same-length-3 (record-layout-reads.Asked, record-layout-reads.Learnt, complete-reads.Asked, complete-reads.Learnt, settle-reads.Asked, settle-reads.Learnt, try-piece-below t, try-piece.Post) (go-on-at t) go-on.Post
-go-on-same-length-3 t c = c .before .before .before .before .try-piece .kept .1 .1 .1 .1 .1 .1 .0
+go-on-same-length-4 : (t : ℕ) → go-on-lts.Need-same-length-4 (record-layout-reads.Asked, record-layout-reads.Learnt, lower-reads.Asked, lower-reads.Learnt, complete-reads.Asked, complete-reads.Learnt, settle-reads.Asked, settle-reads.Learnt, try-piece-below t, try-piece.Post) (go-on-at t) go-on.Post
+go-on-same-length-4 t c = c .before .before .before .before .try-piece .kept .1 .1 .1 .1 .1 .1 .0
 
-go-on-returns-2 : (t : ℕ) → go-on-lts.Need-returns-2 (record-layout-reads.Asked, record-layout-reads.Learnt, complete-reads.Asked, complete-reads.Learnt, settle-reads.Asked, settle-reads.Learnt, try-piece-below t, try-piece.Post) (go-on-at t) go-on.Post
+go-on-returns-2 : (t : ℕ) → go-on-lts.Need-returns-2 (record-layout-reads.Asked, record-layout-reads.Learnt, lower-reads.Asked, lower-reads.Learnt, complete-reads.Asked, complete-reads.Learnt, settle-reads.Asked, settle-reads.Learnt, try-piece-below t, try-piece.Post) (go-on-at t) go-on.Post
 go-on-returns-2 t c = go-deep _ _ _ _ _ _ _ (c .before .before .before .before .before .before .before .before .before .before .before .before .before .before .before .before .before .before .pre .1 .1 .0) (c .before .before .before .before .before .before .before .before .before .before .before .before .before .before .before .before .before .before .pre .1 .1 .1 .below) _ _ _ (c .before .before .before .before .try-piece .result) (c .before .before .before .before .before .before .before .before .before .before .settle .result) (unplaced t (c .before .before .before .before .before .before .before .before .before .before .before .before)) (c .before .before .before .before .before .before .before .if2 .taken) (c .before .before .before .before .before .before .before .before .before .before .settle .ensures) (c .before .before .before .before .try-piece .ensures)
 
-go-on-same-length-4 : (t : ℕ) → go-on-lts.Need-same-length-4 (record-layout-reads.Asked, record-layout-reads.Learnt, complete-reads.Asked, complete-reads.Learnt, settle-reads.Asked, settle-reads.Learnt, try-piece-below t, try-piece.Post) (go-on-at t) go-on.Post
-go-on-same-length-4 t c = c .before .before .before .settle .kept .1 .1 .1 .1 .1 .1 .1 .1 .0
+go-on-same-length-5 : (t : ℕ) → go-on-lts.Need-same-length-5 (record-layout-reads.Asked, record-layout-reads.Learnt, lower-reads.Asked, lower-reads.Learnt, complete-reads.Asked, complete-reads.Learnt, settle-reads.Asked, settle-reads.Learnt, try-piece-below t, try-piece.Post) (go-on-at t) go-on.Post
+go-on-same-length-5 t c = c .before .before .before .settle .kept .1 .1 .1 .1 .1 .1 .1 .1 .0
 
-go-on-returns-3 : (t : ℕ) → go-on-lts.Need-returns-3 (record-layout-reads.Asked, record-layout-reads.Learnt, complete-reads.Asked, complete-reads.Learnt, settle-reads.Asked, settle-reads.Learnt, try-piece-below t, try-piece.Post) (go-on-at t) go-on.Post
+go-on-returns-3 : (t : ℕ) → go-on-lts.Need-returns-3 (record-layout-reads.Asked, record-layout-reads.Learnt, lower-reads.Asked, lower-reads.Learnt, complete-reads.Asked, complete-reads.Learnt, settle-reads.Asked, settle-reads.Learnt, try-piece-below t, try-piece.Post) (go-on-at t) go-on.Post
 go-on-returns-3 t c = go-back _ _ _ _ _ _ _ (c .before .before .before .before .before .before .before .before .before .before .before .pre .1 .1 .0) (c .before .before .before .before .before .before .before .before .before .before .before .pre .1 .1 .1 .below) _ (c .before .before .before .settle .result) (unplaced t (c .before .before .before .before .before)) (c .if2 .left) (c .before .before .before .settle .ensures)
 
 -- ---- The loop of a piece
 
 abbrev try-piece-Inv-loop : try-piece-lts.InvT-loop
-try-piece-Inv-loop job plan window turned conflicts work₀ out₀ numbers level extent st₀ from₀ work out st from =
+try-piece-Inv-loop job plan nofit turned strings work₀ out₀ numbers level extent st₀ from₀ work out st from =
     ((length work ≡ length work₀) × (length out ≡ length out₀)) × Trying (content job) numbers level extent work₀ out₀ work out st₀ st from
 
 abbrev try-piece-μ-loop : try-piece-lts.MeasureT-loop
-try-piece-μ-loop job plan window turned conflicts work₀ out₀ numbers level extent st₀ from₀ work out st from = setWords (content job .sheet) * 64 - from
+try-piece-μ-loop job plan nofit turned strings work₀ out₀ numbers level extent st₀ from₀ work out st from = setWords (content job .sheet) * 64 - from
 
 -- The level and the words of a set are few.
 level-few : (t : ℕ) (c : try-piece-lts.Start (next-live-reads.Asked, next-live-reads.Learnt, halt-reads.Asked, halt-reads.Learnt, step-reads.Asked, step-reads.Learnt, go-on-below t, go-on.Post) (try-piece-at t) try-piece.Post try-piece-Inv-loop try-piece-μ-loop) → c .args .level < 12
@@ -122,7 +129,7 @@ try-piece-loop-holds : (t : ℕ) → try-piece-lts.Need-loop-holds (next-live-re
 try-piece-loop-holds t c = ((refl, refl), trying-begin _ _ _ _ _ _ _ (c .before .before .before .before .pre .1 .1))
 
 try-piece-next-live-requires : (t : ℕ) → try-piece-lts.Need-next-live-requires (next-live-reads.Asked, next-live-reads.Learnt, halt-reads.Asked, halt-reads.Learnt, step-reads.Asked, step-reads.Learnt, go-on-below t, go-on.Post) (try-piece-at t) try-piece.Post try-piece-Inv-loop try-piece-μ-loop
-try-piece-next-live-requires t c κs = ((c .before .before .before .before .before .before .pre .1 .0 .0 .plan, c .before .before .before .before .before .before .pre .1 .0 .1, c .before .loop .inv .1 .ready .work-fits), trying-keeps _ _ _ _ _ _ _ _ _ _ _ (c .before .loop .inv .1) (c .before .before .before .before .before .before .pre .1 .0 .1))
+try-piece-next-live-requires t c κs = ((c .before .before .before .before .before .before .pre .1 .0 .0 .plan, c .before .before .before .before .before .before .pre .1 .0 .1, c .before .loop .inv .1 .ready .work-fits), (c .before .loop .inv .1 .ready .spans, trying-keeps _ _ _ _ _ _ _ _ _ _ _ (c .before .loop .inv .1) (c .before .before .before .before .before .before .pre .1 .0 .1)))
 
 try-piece-same-length : (t : ℕ) → try-piece-lts.Need-same-length (next-live-reads.Asked, next-live-reads.Learnt, halt-reads.Asked, halt-reads.Learnt, step-reads.Asked, step-reads.Learnt, go-on-below t, go-on.Post) (try-piece-at t) try-piece.Post try-piece-Inv-loop try-piece-μ-loop
 try-piece-same-length t c = c .before .before .before .before .loop .inv .0 .0
@@ -182,6 +189,8 @@ pub +go-on+try-piece-spec : {M : Type 1} → statement M
 +go-on+try-piece-spec = close μ-go-on μ-try-piece (λ t. go-on-lts.spec (
   record-layout-reads.Asked,
   record-layout-reads.Learnt,
+  lower-reads.Asked,
+  lower-reads.Learnt,
   complete-reads.Asked,
   complete-reads.Learnt,
   settle-reads.Asked,
@@ -192,15 +201,17 @@ pub +go-on+try-piece-spec : {M : Type 1} → statement M
     (go-on-at t)
     go-on.Post
     (go-on-record-layout-requires t)
+    (go-on-lower-requires t)
     (go-on-complete-requires t)
     (go-on-same-length t)
+    (go-on-same-length-2 t)
     (go-on-returns t)
     (go-on-settle-requires t)
     (go-on-try-piece-requires t)
-    (go-on-same-length-2 t)
     (go-on-same-length-3 t)
-    (go-on-returns-2 t)
     (go-on-same-length-4 t)
+    (go-on-returns-2 t)
+    (go-on-same-length-5 t)
     (go-on-returns-3 t))
     λ t. try-piece-lts.spec (
       next-live-reads.Asked,
