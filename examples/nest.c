@@ -1,10 +1,14 @@
 /*
  * Runs the job in the file given with a budget of 1,000,000 steps and prints, as the command program does:
  * `shortest`, length, steps; or `stopped`, length or `-`, steps; or `none`, steps; or `refused`, number. A
- * layout follows, an entry a line: type, column, row, turn.
+ * layout follows, an entry a line: type, column, row, turn. A second argument is the margin that the clamps
+ * need at each edge of the sheet; without it there are no clamps.
+ * usage: nest JOB [MARGIN]
  */
+#include <errno.h>
 #include <inttypes.h>
 #include <stdio.h>
+#include <string.h>
 
 #include "nest.h"
 
@@ -73,20 +77,34 @@ static int read_file(const char *path, size_t *length)
     return !failed;
 }
 
+/* Digits alone, of a number that 64 bits hold; whether it is a margin is for the engine to say. */
+static int read_margin(const char *text, uint64_t *margin)
+{
+    uintmax_t number;
+
+    if (text[0] == '\0' || text[strspn(text, "0123456789")] != '\0')
+        return 0;
+    errno = 0;
+    number = strtoumax(text, NULL, 10);
+    *margin = (uint64_t)number;
+    return errno == 0 && number <= UINT64_MAX;
+}
+
 int main(int argc, char **argv)
 {
     size_t job_len;
+    uint64_t margin = 0;
     uint64_t result;
 
-    if (argc != 2) {
-        fprintf(stderr, "usage: nest JOB\n");
+    if (argc < 2 || argc > 3 || (argc == 3 && !read_margin(argv[2], &margin))) {
+        fprintf(stderr, "usage: nest JOB [MARGIN]\n");
         return 2;
     }
     if (!read_file(argv[1], &job_len)) {
         perror(argv[1]);
         return 2;
     }
-    result = nest_run(job, job_len, BUDGET, work, sizeof work, answer, sizeof answer);
+    result = nest_run(job, job_len, margin, BUDGET, work, sizeof work, answer, sizeof answer);
     print_result(result, job_len);
     return 0;
 }

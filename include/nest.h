@@ -11,7 +11,9 @@
  *
  * Words of this header: a piece TYPE ("kind" in the parameters) is one record of the job's type list, counted
  * from 0. T is the number of types, N the number of pieces (the sum of the demands), W the board's width,
- * L its length, g its step. Columns stand at x = c * g up to L, rows at y = r * g up to W.
+ * L its length, g its step. Columns stand at x = c * g up to L, rows at y = r * g up to W. The MARGIN m,
+ * 0 to 63, is how far pieces keep from each edge of the sheet, where clamps hold it. It is no part of the job:
+ * the host passes it with row, check and run. With margin 0 there are no clamps and pieces may reach the edges.
  */
 #ifndef NEST_H
 #define NEST_H
@@ -79,10 +81,15 @@ extern "C" {
 /* ------------------------------------------------------------------------------------------------------
  * Candidates
  *
- * A candidate of a type is a column, a row and an allowed turn with the whole piece on the board, edges
- * included. One quarter turn takes (x, y) to (-y, x). Its number, with R rows on the board, is below 4096.
- * A set of candidates is NEST_SET_WORDS(dots) words of 64 bits: candidate n is bit n % 64 of word n / 64.
+ * A candidate of a type is a column, a row and an allowed turn with the whole piece in m to L - m by m to
+ * W - m, edges included; where 2 * m is above L or W there is none. One quarter turn takes (x, y) to (-y, x).
+ * Its number, with R rows on the board, is below 4096. A set of candidates is NEST_SET_WORDS(dots) words of 64
+ * bits: candidate n is bit n % 64 of word n / 64.
+ *
+ * Columns, rows, numbers and the sizes below are those of the whole board, whatever the margin.
  * ------------------------------------------------------------------------------------------------------ */
+
+#define NEST_MAX_MARGIN 63
 
 #define NEST_ROWS(width, step)      ((width) / (step) + 1)
 #define NEST_COLUMNS(length, step)  ((length) / (step) + 1)
@@ -97,7 +104,8 @@ extern "C" {
  * count and keeps its bytes. What lies beyond the needed words or numbers never changes.
  *
  * A layout lists N entries of four numbers each: type, column, row, turn. Entries are ordered by type and
- * within a type by strictly rising candidate number. Its length is the largest x that a piece reaches.
+ * within a type by strictly rising candidate number. Its length is the largest x that a piece reaches, plus the
+ * margin: the sheet that it takes, clamps included.
  * ------------------------------------------------------------------------------------------------------ */
 
 #define NEST_WORD_BYTES         8
@@ -136,7 +144,7 @@ extern "C" {
 #define NEST_LENGTH(result)  NEST_COUNT(result)                    /* of check and run */
 #define NEST_STEPS(result)   ((uint32_t)((result) >> 32))
 
-/* Causes are tested as 1 to 7, then 12, 11, 8, 9, then 10, each only after those before it. */
+/* Causes are tested as 1 to 7, then 13, 12, 11, 8, 9, then 10, each only after those before it. */
 enum nest_number {
     NEST_OK = 0,
 
@@ -155,6 +163,7 @@ enum nest_number {
     NEST_SHORT_ANSWER = 9,  /* read, run: answer numbers too few; row: row words too few */
     NEST_BAD_LAYOUT = 11,   /* check: another count of numbers, out of order, or does not pass */
     NEST_NO_CANDIDATE = 12, /* row: the candidate or one of the two types does not exist */
+    NEST_BAD_MARGIN = 13,   /* row, check, run: a margin above 63 */
 
     /* The job as a whole. */
     NEST_NONE = 10 /* run, not stopped: no layout passes */
@@ -188,27 +197,30 @@ uint64_t nest_read(const uint8_t *job, size_t job_len, uint8_t *answer, size_t a
 /*
  * Row of conflicts. For the candidate `number` of type `kind`, fills the NEST_SET_WORDS(dots) first row words: a
  * bit is set where type `other` has a candidate of that number and it is in conflict with the given one; all
- * other bits of these words are 0, whatever they were before.
+ * other bits of these words are 0, whatever they were before. The margin decides which candidates exist, not
+ * which of them are in conflict.
  *
  * Result: NEST_COUNT is how many words were written.
- * Refusals: 1 to 7; 12 if `kind` or `other` is not below the number of types or `number` is no candidate of
+ * Refusals: 1 to 7; 13; 12 if `kind` or `other` is not below the number of types or `number` is no candidate of
  * `kind`; 9 if the row buffer holds fewer words. NEST_MAX_ROW_BYTES are enough for every job.
  */
-uint64_t nest_row(const uint8_t *job, size_t job_len, uint64_t kind, uint64_t number, uint64_t other,
-                  uint8_t *row, size_t row_len);
+uint64_t nest_row(const uint8_t *job, size_t job_len, uint64_t margin, uint64_t kind, uint64_t number,
+                  uint64_t other, uint8_t *row, size_t row_len);
 
 /*
  * Check a layout. It passes if it holds exactly 4 * N numbers in the order above, has the demanded copies of
- * each type, each entry is a candidate, and no two are in conflict. No buffer is changed, so here the two
- * may share bytes.
+ * each type, each entry is a candidate under the margin, and no two are in conflict. No buffer is changed, so
+ * here the two may share bytes.
  *
- * Result: NEST_LENGTH is the layout's length.
- * Refusals: 1 to 7; 11.
+ * Result: NEST_LENGTH is the layout's length, margin included.
+ * Refusals: 1 to 7; 13; 11.
  */
-uint64_t nest_check(const uint8_t *job, size_t job_len, const uint8_t *layout, size_t layout_len);
+uint64_t nest_check(const uint8_t *job, size_t job_len, uint64_t margin, const uint8_t *layout,
+                    size_t layout_len);
 
 /*
- * Run the search, taking at most `budget` steps.
+ * Run the search among the layouts that respect the margin, taking at most `budget` steps. Lengths include the
+ * margin.
  *
  *   NEST_OK, NEST_ENDED                  shortest: the first 4 * N answer numbers hold the first of the
  *                                        shortest layouts, NEST_LENGTH is its length
@@ -224,11 +236,11 @@ uint64_t nest_check(const uint8_t *job, size_t job_len, const uint8_t *layout, s
  * The work words need no preparation. After every answer above, the needed T * N * NEST_SET_WORDS(dots) ones
  * are zero. Besides the buffers lent, nest_run takes up to 256 KiB of stack (measured, not proved).
  *
- * Refusals: 1 to 7; 8 if the work buffer holds fewer words than that; 9 if the answer buffer holds fewer than
+ * Refusals: 1 to 7; 13; 8 if the work buffer holds fewer words than that; 9 if the answer buffer holds fewer than
  * 4 * N numbers. NEST_MAX_WORK_BYTES and NEST_MAX_LAYOUT_BYTES are enough for every job.
  */
-uint64_t nest_run(const uint8_t *job, size_t job_len, uint32_t budget, uint8_t *work, size_t work_len,
-                  uint8_t *answer, size_t answer_len);
+uint64_t nest_run(const uint8_t *job, size_t job_len, uint64_t margin, uint32_t budget, uint8_t *work,
+                  size_t work_len, uint8_t *answer, size_t answer_len);
 
 #ifdef __cplusplus
 }

@@ -17,10 +17,12 @@ if ! NEST_MUTANT="" "$compare" "$count" >"$log"; then
 fi
 echo "no mistake: passed"
 
+all=0
 missed=0
 names=$(sed -n '/^pub const NAMES/,/^];/s/^ *"\(.*\)",/\1/p' "$here/opponent/src/mutant.rs")
 for name in $names; do
     code=0
+    all=$((all + 1))
     NEST_MUTANT="$name" "$compare" "$count" --first >"$log" 2>&1 || code=$?
     if [ "$code" -eq 1 ] && grep -q '^MISMATCH' "$log"; then
         origin=$(sed -n 's/^MISMATCH //p' "$log" | head -n 1)
@@ -31,5 +33,5 @@ for name in $names; do
         missed=$((missed + 1))
     fi
 done
-echo "$missed mistakes not caught"
+echo "$((all - missed)) of $all mistakes caught"
 [ "$missed" -eq 0 ]

@@ -1,6 +1,7 @@
 #!/bin/sh
 # Links everything on this side of the C interface with a libnest.a and runs it: the comparison tests, then the
-# C example on every job of jobs/, held to the expected outputs, and the stack that a run takes. Needs no network.
+# C example on every job of jobs/, held to the expected outputs, and with margins, and the stack that a run takes. Needs no
+# network.
 # usage: tests/run.sh FOLDER_OF_LIBNEST [COUNT]
 # CC, CFLAGS and NEST_LDLIBS (libraries that libnest.a itself needs) may be given. NEST_PROGRAM is the command
 # program, if it is to be run too: on every job of jobs/, and on inputs of several sizes.
@@ -56,7 +57,26 @@ sized() { # PROGRAM BYTES NUMBER
     fi
 }
 
+# The C example on the printed job with this margin. What is not the number of one gets the usage text and prints nothing.
+under_margin() { # MARGIN PRINTED
+    said=$("$build/nest" "$root/jobs/printed.job" "$1" 2>"$build/usage" || true)
+    if [ "$said" != "$2" ] || { [ -z "$2" ] && ! grep -q '^usage' "$build/usage"; }; then
+        echo "margin '$1': the C example printed '$said', expected '$2'"
+        return 1
+    fi
+}
+
 over_jobs "C example" "$build/nest"
+under_margin 0 "$(cat "$root/jobs/printed.out")"
+under_margin 1 "none 0"
+under_margin 63 "none 0"
+under_margin 64 "refused 13"
+# The largest number of 64 bits, and the next.
+under_margin 18446744073709551615 "refused 13"
+for bad in 18446744073709551616 -1 +1 1x ""; do
+    under_margin "$bad" ""
+done
+echo "C example: margins as expected"
 if [ -n "${NEST_PROGRAM:-}" ]; then
     over_jobs "command program" "$NEST_PROGRAM"
     # 1024 bytes are the most that a job may have; a file may be longer than what one read gives.

@@ -1,6 +1,7 @@
 /*
  * How much stack nest_run takes, besides the buffers that it is lent: each job runs on a stack of its own that was
- * filled with a pattern, and what is no longer the pattern was used. More than 256 KiB fails.
+ * filled with a pattern, and what is no longer the pattern was used. More than 256 KiB fails. Each job runs without a
+ * margin and with one.
  * usage: stack BUDGET JOB...
  */
 #define _GNU_SOURCE
@@ -18,11 +19,12 @@ enum { STACK = 1 << 20, LIMIT = 256 * 1024, PATTERN = 0xA5 };
 static unsigned char *stack;
 static uint8_t job[2048], work[49152], answer[96];
 static size_t job_len;
+static uint64_t margin;
 static uint32_t budget;
 
 static void *run(void *result)
 {
-    *(uint64_t *)result = nest_run(job, job_len, budget, work, sizeof work, answer, sizeof answer);
+    *(uint64_t *)result = nest_run(job, job_len, margin, budget, work, sizeof work, answer, sizeof answer);
     return NULL;
 }
 
@@ -59,14 +61,15 @@ int main(int argc, char **argv)
     of_a_thread = used_by(nothing);
     for (int i = 2; i < argc; i++) {
         FILE *file = fopen(argv[i], "rb");
-        size_t used;
         if (file == NULL)
             return 2;
         job_len = fread(job, 1, sizeof job, file);
         fclose(file);
-        used = used_by(run) - of_a_thread;
-        if (used > most)
-            most = used;
+        for (margin = 0; margin <= 1; margin++) {
+            size_t used = used_by(run) - of_a_thread;
+            if (used > most)
+                most = used;
+        }
     }
     printf("stack of nest_run: %zu bytes at most, %d allowed\n", most, LIMIT);
     return most <= LIMIT ? 0 : 1;

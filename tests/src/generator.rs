@@ -1,12 +1,14 @@
-//! Random jobs, sound ones and spoilt ones.
+//! Random jobs, sound ones and spoilt ones, each with a margin.
 
 use crate::draft::*;
+use crate::margins;
 use crate::noise::Noise;
 
-/// A job to try, and what it was made for.
+/// A job to try under a margin, and what it was made for.
 pub struct Made {
     pub bytes: Vec<u8>,
-    /// The refusal that it was made to cause, 0 for none; nothing where the bytes were hit at random.
+    pub margin: u64,
+    /// The refusal that its bytes were made to cause, 0 for none; nothing where they were hit at random.
     pub intended: Option<u8>,
     /// The same job with its classes in another order.
     pub reordered: Option<Vec<u8>>,
@@ -14,17 +16,20 @@ pub struct Made {
 
 pub fn make(noise: &mut Noise) -> Made {
     match noise.below(20) {
-        0..=7 => sound(noise, small_draft),
-        8..=9 => sound(noise, crowded_draft),
-        10 => sound(noise, large_draft),
+        0..=5 => sound(noise, small_draft, usual_margin),
+        6 => sound(noise, narrow_draft, margin_past_a_side),
+        7 => sound(noise, roomy_draft, usual_margin),
+        8..=9 => sound(noise, crowded_draft, usual_margin),
+        10 => sound(noise, large_draft, usual_margin),
         11..=15 => spoilt(noise),
         16..=18 => spoilt_twice(noise),
         _ => hit_at_random(noise),
     }
 }
 
-fn sound(noise: &mut Noise, draft: fn(&mut Noise) -> Draft) -> Made {
-    let (draft, arrangement) = fitting(noise, draft);
+fn sound(noise: &mut Noise, draft: fn(&mut Noise) -> Draft, margin: fn(&mut Noise, &mut Draft) -> u64) -> Made {
+    let (mut draft, arrangement) = fitting(noise, draft);
+    let margin = margin(noise, &mut draft);
     let bytes = encode(&draft, &arrangement).bytes;
     let reordered = (draft.classes.len() > 1).then(|| {
         let mut other = draft.clone();
@@ -34,7 +39,38 @@ fn sound(noise: &mut Noise, draft: fn(&mut Noise) -> Draft) -> Made {
         }
         encode(&other, &arrangement).bytes
     });
-    Made { bytes, intended: Some(0), reordered }
+    Made { bytes, margin, intended: Some(0), reordered }
+}
+
+/// A margin that may be passed, for the board as it is or for a larger one.
+fn usual_margin(noise: &mut Noise, draft: &mut Draft) -> u64 {
+    match noise.below(10) {
+        0..=3 => 0,
+        4..=5 => margins::for_sides(noise, draft.width, draft.length),
+        _ => frame(noise, draft),
+    }
+}
+
+/// A margin above the shorter side, so that the far clamp would be below 0.
+fn margin_past_a_side(noise: &mut Noise, draft: &mut Draft) -> u64 {
+    noise.between(i64::from(draft.width.min(draft.length)) + 1, 63) as u64
+}
+
+/// Makes the board larger by a margin on each side, so that as much is left between the clamps as there was. The
+/// margin is halved until a board of that size may be.
+fn frame(noise: &mut Noise, draft: &mut Draft) -> u64 {
+    let mut margin = noise.pick(&[1, 1, 1, 2, 2, 3, 4, 6, 10, 62, 63]);
+    let framed = |side: u16, margin: u16| side + 2 * margin;
+    let rows = |side: u16| usize::from(side / draft.step + 1);
+    let may_be = |margin: u16| {
+        let (width, length) = (framed(draft.width, margin), framed(draft.length, margin));
+        width.max(length) <= 1000 && rows(width) * rows(length) <= 1024
+    };
+    while !may_be(margin) {
+        margin /= 2;
+    }
+    (draft.width, draft.length) = (framed(draft.width, margin), framed(draft.length, margin));
+    margin.into()
 }
 
 /// A draft and an arrangement that fit into 1024 bytes; now and then they are filled up to exactly that.
@@ -75,6 +111,34 @@ pub fn small_draft(noise: &mut Noise) -> Draft {
         kind.class_mask = random_mask(noise, &draft.classes);
         draft.types.push(kind);
     }
+    draft
+}
+
+/// Few dots far apart and larger pieces: a board of which every margin leaves something.
+pub fn roomy_draft(noise: &mut Noise) -> Draft {
+    let step = noise.pick(&[20, 31, 32, 45, 50]);
+    let side = |noise: &mut Noise, steps: i64| noise.between(4, steps) * i64::from(step) + noise.between(50, 99);
+    let (width, length) = (side(noise, 7), side(noise, 9));
+    let mut draft = Draft::new(width as u16, length as u16, step);
+    draft.classes = random_classes(noise, 20);
+    for _ in 0..noise.between(1, 3) {
+        let size = noise.pick(&[10, 30, 60, 100]);
+        let mut kind = random_type(noise, size, several_parts);
+        kind.demand = noise.between(1, 3) as u8;
+        kind.class_mask = random_mask(noise, &draft.classes);
+        draft.types.push(kind);
+    }
+    draft
+}
+
+/// A short side or two, and pieces far off their dots: between a clamp and no end they would have candidates.
+pub fn narrow_draft(noise: &mut Noise) -> Draft {
+    let mut sides = [noise.between(1, 20) as u16, noise.pick(&[5, 150, 200])];
+    noise.shuffle(&mut sides);
+    let mut draft = Draft::new(sides[0], sides[1], 5);
+    let (left, down) = (noise.between(30, 60), noise.between(30, 60));
+    let parts = vec![random_part(noise, 3, left, down)];
+    draft.types.push(DraftType { demand: 1, turn_mask: 15, class_mask: 0, parts });
     draft
 }
 
@@ -243,7 +307,8 @@ fn spoilt_for(noise: &mut Noise, numbers: &[u8]) -> Made {
     for number in (1..=3).rev().filter(|n| numbers.contains(n)) {
         spoil_bytes(noise, &mut encoded, number);
     }
-    Made { bytes: encoded.bytes, intended: numbers.iter().copied().min(), reordered: None }
+    let margin = margins::any(noise);
+    Made { bytes: encoded.bytes, margin, intended: numbers.iter().copied().min(), reordered: None }
 }
 
 fn spoil_draft(noise: &mut Noise, draft: &mut Draft, number: u8) {
@@ -459,5 +524,5 @@ fn hit_at_random(noise: &mut Noise) -> Made {
         let count = noise.between(1, 30) as usize;
         bytes.extend(noise.bytes(count));
     }
-    Made { bytes, intended: None, reordered: None }
+    Made { bytes, margin: margins::any(noise), intended: None, reordered: None }
 }

@@ -1,9 +1,10 @@
-//! The other side of the comparison: a reference written from document 01 alone, jobs to try, and the
-//! answer's packing. Nothing here links the engine.
+//! The other side of the comparison: a reference written from documents 01 and 02 alone, jobs and margins to
+//! try, and the answer's packing. Nothing here links the engine.
 
 pub mod answer;
 pub mod draft;
 pub mod generator;
+pub mod margins;
 pub mod noise;
 pub mod reference;
 pub mod small_boards;

@@ -10,16 +10,18 @@ extern "C" {
     fn nest_row(
         job: *const u8,
         job_len: usize,
+        margin: u64,
         kind: u64,
         number: u64,
         other: u64,
         row: *mut u8,
         row_len: usize,
     ) -> u64;
-    fn nest_check(job: *const u8, job_len: usize, layout: *const u8, layout_len: usize) -> u64;
+    fn nest_check(job: *const u8, job_len: usize, margin: u64, layout: *const u8, layout_len: usize) -> u64;
     fn nest_run(
         job: *const u8,
         job_len: usize,
+        margin: u64,
         budget: u32,
         work: *mut u8,
         work_len: usize,
@@ -39,20 +41,20 @@ pub unsafe fn read_at(job: Given, answer: Given) -> Answer {
 
 /// # Safety
 /// As above.
-pub unsafe fn row_at(job: Given, kind: u64, number: u64, other: u64, row: Given) -> Answer {
-    Answer::unpack(nest_row(job.0, job.1, kind, number, other, row.0, row.1))
+pub unsafe fn row_at(job: Given, margin: u64, kind: u64, number: u64, other: u64, row: Given) -> Answer {
+    Answer::unpack(nest_row(job.0, job.1, margin, kind, number, other, row.0, row.1))
 }
 
 /// # Safety
 /// As above; nothing is changed, so the two may share bytes.
-pub unsafe fn check_at(job: Given, layout: Given) -> Answer {
-    Answer::unpack(nest_check(job.0, job.1, layout.0, layout.1))
+pub unsafe fn check_at(job: Given, margin: u64, layout: Given) -> Answer {
+    Answer::unpack(nest_check(job.0, job.1, margin, layout.0, layout.1))
 }
 
 /// # Safety
 /// As above.
-pub unsafe fn run_at(job: Given, budget: u32, work: Given, answer: Given) -> Answer {
-    Answer::unpack(nest_run(job.0, job.1, budget, work.0, work.1, answer.0, answer.1))
+pub unsafe fn run_at(job: Given, margin: u64, budget: u32, work: Given, answer: Given) -> Answer {
+    Answer::unpack(nest_run(job.0, job.1, margin, budget, work.0, work.1, answer.0, answer.1))
 }
 
 fn kept(bytes: &[u8]) -> Given {
@@ -68,17 +70,17 @@ pub fn read(job: &[u8], answer: &mut [u8]) -> Answer {
     unsafe { read_at(kept(job), changed(answer)) }
 }
 
-pub fn row(job: &[u8], kind: u64, number: u64, other: u64, row: &mut [u8]) -> Answer {
+pub fn row(job: &[u8], margin: u64, kind: u64, number: u64, other: u64, row: &mut [u8]) -> Answer {
     // SAFETY: as above.
-    unsafe { row_at(kept(job), kind, number, other, changed(row)) }
+    unsafe { row_at(kept(job), margin, kind, number, other, changed(row)) }
 }
 
-pub fn check(job: &[u8], layout: &[u8]) -> Answer {
+pub fn check(job: &[u8], margin: u64, layout: &[u8]) -> Answer {
     // SAFETY: as above; nothing is changed, so the two may share bytes.
-    unsafe { check_at(kept(job), kept(layout)) }
+    unsafe { check_at(kept(job), margin, kept(layout)) }
 }
 
-pub fn run(job: &[u8], budget: u32, work: &mut [u8], answer: &mut [u8]) -> Answer {
+pub fn run(job: &[u8], margin: u64, budget: u32, work: &mut [u8], answer: &mut [u8]) -> Answer {
     // SAFETY: as above; the two changed ones are borrowed apart.
-    unsafe { run_at(kept(job), budget, changed(work), changed(answer)) }
+    unsafe { run_at(kept(job), margin, budget, changed(work), changed(answer)) }
 }

@@ -1,12 +1,15 @@
-//! The section "Small boards" of document 01, marked and unmarked, with what it says of each.
+//! The section "Small boards" of document 01, marked and unmarked, with what it says of each; and small boards under
+//! a margin, with what document 02 makes of them, worked out by hand.
 
 use crate::draft::{encode, Arrangement, Draft};
 
 pub enum Claim {
-    /// What the command program would print at this budget.
-    Run { budget: u32, printed: &'static str },
-    /// Conflict of the piece of type 0 on one dot with type 0 on another, unturned.
-    Conflict { one: (usize, usize), other: (usize, usize), holds: bool },
+    /// What a program that passes this margin and budget would print.
+    Run { margin: u64, budget: u32, printed: &'static str },
+    /// Conflict of the piece of type 0 on one dot with type 0 on another, unturned; or what refuses the row.
+    Conflict { margin: u64, one: (usize, usize), other: (usize, usize), holds: Result<bool, u8> },
+    /// The length of a layout; or what refuses it.
+    Check { margin: u64, layout: &'static [u16], length: Result<u16, u8> },
     /// The refusal number that read gives, 0 if it accepts the job.
     Reads(u8),
 }
@@ -22,6 +25,8 @@ const LOWER: &[(i8, i8)] = &[(0, 0), (2, 0), (2, 2)];
 const UPPER: &[(i8, i8)] = &[(0, 0), (2, 2), (0, 2)];
 const STRIP: &[(i8, i8)] = &[(0, 0), (10, 10), (10, 11), (0, 1)];
 const BAR: &[(i8, i8)] = &[(0, 0), (3, 0), (3, 1), (0, 1)];
+/// Off its dot by more than a small board is long.
+const FAR: &[(i8, i8)] = &[(4, 4), (5, 4), (5, 5), (4, 5)];
 
 /// The job as the document prints it.
 pub const PRINTED: [u8; 33] = [
@@ -42,14 +47,33 @@ fn squares_with_gap(width: u16, length: u16, gap: u8) -> Draft {
 }
 
 fn run(budget: u32, printed: &'static str) -> Claim {
-    Claim::Run { budget, printed }
+    Claim::Run { margin: 0, budget, printed }
+}
+
+fn run_under(margin: u64, printed: &'static str) -> Claim {
+    Claim::Run { margin, budget: u32::MAX, printed }
 }
 
 fn conflict(one: (usize, usize), other: (usize, usize), holds: bool) -> Claim {
-    Claim::Conflict { one, other, holds }
+    Claim::Conflict { margin: 0, one, other, holds: Ok(holds) }
+}
+
+impl Claim {
+    pub fn margin(&self) -> u64 {
+        match self {
+            Claim::Run { margin, .. } | Claim::Conflict { margin, .. } | Claim::Check { margin, .. } => *margin,
+            Claim::Reads(_) => 0,
+        }
+    }
 }
 
 pub fn small_boards() -> Vec<SmallBoard> {
+    let mut boards = boards_of_the_paper();
+    boards.extend(boards_under_a_margin());
+    boards
+}
+
+fn boards_of_the_paper() -> Vec<SmallBoard> {
     let most = u32::MAX;
     let nested = "shortest 4 3\n0 0 0 0\n0 2 0 0\n";
     let held = "stopped 4 2\n0 0 0 0\n0 2 0 0\n";
@@ -92,6 +116,56 @@ pub fn small_boards() -> Vec<SmallBoard> {
         board("1026 dots", squares(1, 512), vec![Claim::Reads(4)]),
         board("a corner at -127", cornered(-127), vec![Claim::Reads(0)]),
         board("a corner at -128", cornered(-128), vec![Claim::Reads(7)]),
+    ]
+}
+
+fn boards_under_a_margin() -> Vec<SmallBoard> {
+    let row = |margin, one, other, holds| Claim::Conflict { margin, one, other, holds };
+    let check = |margin, length| Claim::Check { margin, layout: &[0, 1, 1, 0, 0, 3, 1, 0], length };
+    vec![
+        // Corners in 1 to 5 by 1 to 3: three columns and one row are left, as on W 2, L 4.
+        board(
+            "margin 1, L 6",
+            squares(4, 6),
+            vec![
+                run_under(1, "shortest 6 3\n0 1 1 0\n0 3 1 0\n"),
+                Claim::Run { margin: 1, budget: 2, printed: "stopped 6 2\n0 1 1 0\n0 3 1 0\n" },
+                Claim::Run { margin: 1, budget: 1, printed: "stopped - 1\n" },
+                run_under(2, "none 0\n"),
+                run_under(63, "none 0\n"),
+                run_under(64, "refused 13\n"),
+                run_under(u64::MAX, "refused 13\n"),
+                check(0, Ok(5)),
+                check(1, Ok(6)),
+                check(2, Err(11)),
+                check(64, Err(13)),
+                row(1, (0, 0), (1, 1), Err(12)),
+                row(64, (0, 0), (1, 1), Err(13)),
+                row(1, (1, 1), (2, 1), Ok(true)),
+                row(1, (1, 1), (3, 1), Ok(false)),
+                // The two overlap, but the second is in the clamps.
+                row(0, (1, 1), (1, 0), Ok(true)),
+                row(1, (1, 1), (1, 0), Ok(false)),
+            ],
+        ),
+        board("margin 1, L 5", squares(4, 5), vec![run_under(1, "none 2\n")]),
+        // Corners in 1 to 7 by 1 to 5, dots at even numbers: two columns and one row are left.
+        board(
+            "margin 1, step 2",
+            Draft::new(6, 8, 2).with(2, 1, 0, &[SQUARE]),
+            vec![run_under(1, "shortest 7 2\n0 1 1 0\n0 2 1 0\n")],
+        ),
+        // The first dots past the clamps are at 100, and the shortest layout reaches 102.
+        board(
+            "the largest margin",
+            Draft::new(1000, 1000, 100).with(2, 1, 0, &[SQUARE]),
+            vec![run_under(63, "shortest 165 2\n0 1 1 0\n0 1 2 0\n"), run_under(64, "refused 13\n")],
+        ),
+        // On the first dot the piece is past the margin, but past the board too.
+        board("a margin above the sides", Draft::new(2, 2, 1).with(1, 1, 0, &[FAR]), vec![run_under(3, "none 0\n")]),
+        board("a margin above the length", Draft::new(20, 2, 1).with(1, 1, 0, &[FAR]), vec![run_under(3, "none 0\n")]),
+        board("a margin above the width", Draft::new(2, 20, 1).with(1, 1, 0, &[FAR]), vec![run_under(3, "none 0\n")]),
+        board("a margin and a job, both refused", cornered(-128), vec![run_under(64, "refused 7\n")]),
     ]
 }
 

@@ -34,3 +34,12 @@ pub fn numbers_at(text: &[u8], from: usize) -> Numbers
     }
     Numbers { bytes, count }
 }
+
+// The margin that stands at this column.
+pub fn margin_at(text: &[u8], from: usize) -> usize
+    requires { ⌜ from ≤ length (now text) + 6 ⌝ }
+{
+    let given = numbers_at(text, from);
+    let bytes = given.bytes;
+    bytes[0] as usize
+}

@@ -1,5 +1,5 @@
-// Every small board of document 01, marked and unmarked, put through the compiled services. The boards, and what is asked of each, are
-// this program's input, `stdin`; a line or more for each answer is held to `stdout`.
+// Every small board of document 01, marked and unmarked, and those of document 02's requests, put through the compiled services. The boards, and what is
+// asked of each, are this program's input, `stdin`; a line or more for each answer is held to `stdout`.
 ghost use Prim.Native.Nat.{_≤_};
 ghost use lib.ListN.{length};
 use input::Numbers;
@@ -14,8 +14,8 @@ fn budget_of(given: usize, number: u8) -> u32 {
     if given == 0 { 1000000 } else { number as u32 }
 }
 
-// The question of this word about a job: read, row, check or run, told by its second letter.
-fn ask(word: u8, job: Numbers, asked: Numbers)
+// The question of this word about a job under a margin: read, row, check or run, told by its second letter.
+fn ask(word: u8, margin: usize, job: Numbers, asked: Numbers)
     requires { ⌜ (job .count ≤ length (job .bytes)) × (asked .count ≤ length (asked .bytes)) ⌝ }
 {
     let bytes = job.bytes;
@@ -25,14 +25,14 @@ fn ask(word: u8, job: Numbers, asked: Numbers)
     let job = &bytes[0..size];
     match word {
         b'e' => show::read(job),
-        b'o' => show::row(job, given[0]),
-        b'h' => show::check(job, &given[0..count]),
-        _ => show::run(job, budget_of(count, given[0])),
+        b'o' => show::row(job, margin, given[0]),
+        b'h' => show::check(job, margin, &given[0..count]),
+        _ => show::run(job, margin, budget_of(count, given[0])),
     }
 }
 
 // The answer to the question at `at`, behind the name of its board. The bytes of the job are in the line below the name.
-fn answer(text: &[u8], name: usize, at: usize, word: u8)
+fn answer(text: &[u8], name: usize, margin: usize, at: usize, word: u8)
     requires { ⌜ (name ≤ length (now text)) × (at ≤ length (now text)) ⌝ }
 {
     let end = bytes::scan::find(text, name, text.len(), b'\n');
@@ -40,21 +40,27 @@ fn answer(text: &[u8], name: usize, at: usize, word: u8)
         io::write_all(STDOUT_FILENO, &text[name + 5..end]);
         ask(
             word,
+            margin,
             input::numbers_at(text, end + 6),
             input::numbers_at(text, at + 5),
         );
     }
 }
 
-// Each line is the name of a board, the bytes of its job, a question, or a remark.
+// Each line is the name of a board, the bytes of its job, the margin by which it is clamped from here on, a question, or a remark. A new board is not clamped.
 fn answer_all(text: &[u8]) {
     let mut name = 0;
+    let mut margin = 0;
     let mut at = 0;
     while at + 1 < text.len() {
         let word = text[at + 1];
         match word {
-            b'a' => name = at,
-            b'e' | b'o' | b'h' | b'u' => answer(text, name, at, word),
+            b'a' => {
+                name = at;
+                margin = 0;
+            }
+            b'l' => margin = input::margin_at(text, at + 5),
+            b'e' | b'o' | b'h' | b'u' => answer(text, name, margin, at, word),
             _ => (),
         }
         at = bytes::scan::find(text, at, text.len(), b'\n') + 1;

@@ -16,20 +16,20 @@ fn say_last(words: &[u8], n: u64) {
     io::write_all(STDOUT_FILENO, b"\n");
 }
 
-// What the command program would print of a run of the job.
-pub fn run(job: &[u8], budget: u32) {
+// What the command program would print of a run of the job, under a margin.
+pub fn run(job: &[u8], margin: usize, budget: u32) {
     say(b", budget ", budget as u64);
     io::write_all(STDOUT_FILENO, b": ");
     let mut work = [0u8; 49152];
     let mut answer = [0u8; 96];
     let mut text = [0u8; 512];
-    let len = command::respond(job, budget, &mut work, &mut answer, &mut text);
+    let len = command::respond(job, margin, budget, &mut work, &mut answer, &mut text);
     io::write_all(STDOUT_FILENO, &text[0..len]);
 }
 
-// The length of the layout, or the refusal.
-pub fn check(job: &[u8], layout: &[u8]) {
-    match checking::check(job, layout) {
+// The length of the layout under a margin, or the refusal.
+pub fn check(job: &[u8], margin: usize, layout: &[u8]) {
+    match checking::check(job, margin, layout) {
         Checked::Refused(n) => say_last(b": check refused ", n as u64),
         Checked::Passes(len) => say_last(b": check passes ", len as u64),
     }
@@ -69,9 +69,9 @@ fn say_conflict(number: u8, byte: u8) {
 }
 
 // Whether type 0's candidate 0 is in conflict with type 0's candidate of this number, or the refusal.
-pub fn row(job: &[u8], number: u8) {
+pub fn row(job: &[u8], margin: usize, number: u8) {
     let mut row = [0u8; 512];
-    match rows::row(job, 0, 0, 0, &mut row) {
+    match rows::row(job, margin, 0, 0, 0, &mut row) {
         Written::Refused(n) => say_last(b": row refused ", n as u64),
         Written::Count(_) => say_conflict(number, row[number as usize / 8]),
     }

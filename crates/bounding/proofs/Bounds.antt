@@ -13,9 +13,10 @@ use Rattle.words.specs.Number.{numberAt, withNumber}
 use Rattle.words.specs.Sets.{member}
 use Rattle.words.proofs.Cases.{eq-or-ne, le-or-lt}
 use Rattle.words.proofs.Member.{member-word}
-use Rattle.model.specs.Content.{Job, kindCount, pieceCount}
+use Rattle.model.specs.Content.{kindCount, pieceCount}
 use Rattle.model.specs.Format.{content}
 use Rattle.model.specs.Grid.{setWords}
+use Rattle.model.specs.Problem.{Problem}
 use Rattle.model.specs.Search.{copiesLeft}
 use Rattle.model.specs.Services.{workWords}
 use Rattle.model.proofs.Accepted.{accepted-sensible}
@@ -23,7 +24,7 @@ use Rattle.stepping.specs.Levels.{piecesFrom}
 use Rattle.stepping.specs.Slots.{setStart}
 use Rattle.stepping.proofs.Limits.{few-words, few-work}
 use Rattle.stepping.proofs.Slots.{start-fits}
-use Rattle.plans.specs.Planned.{PlanOf}
+use Rattle.plans.specs.Planned.{PlanOf, planned}
 use Rattle.plans.specs.declared.plan.Plan.{Plan}
 use Rattle.live_sets.specs.Narrowing.{BitsAdmitted, Filled}
 use Rattle.live_sets.proofs.Filling.{filled-next, bit-member, drop-later}
@@ -31,21 +32,21 @@ use Rattle.bounding.specs.Trimmed.{endsBelow, Trimmable, SetTrimmed, Adm
 
 -- ---- Places
 
-module _ (s : List ℕ) (p : Plan) (o : PlanOf s p) (work : List ℕ) (fits : workWords (content s) * 8 ≤ length work) where
+module _ (s : List ℕ) (p : Plan) (o : PlanOf s p) (work : List ℕ) (fits : workWords (planned s p) * 8 ≤ length work) where
   -- A word of a set of the first level.
   pub word-fits : (u k : ℕ) → u < p .types → k < setWords (content s .sheet) → ((u * p .words + k) * 8 + 8 ≤ length work) × (u * p .words + k ≤ 6144)
   unfolding setStart
-  word-fits u k h l = (omega (arith, within), omega (arith, within, few-work s (o .accepted)))
+  word-fits u k h l = (omega (arith, within), omega (arith, within, few-work s (o .accepted) (p .margin)))
     where
-      within : u * p .words + k < workWords (content s)
+      within : u * p .words + k < workWords (planned s p)
       within =
-          let pieced = accepted-sensible s (o .accepted) .pieced in
+          let pieced = accepted-sensible s (p .margin) (o .accepted) .pieced in
           let e : u * p .words ≡ u * setWords (content s .sheet) = ap (λ (w : ℕ). u * w) (o .words) in
-          omega (arith, e, start-fits (content s) 0 u pieced (rw (← (o .types)) h))
+          omega (arith, e, start-fits (planned s p) 0 u pieced (rw (← (o .types)) h))
 
 -- ---- One set, word by word
 
-module _ (j : Job) (bound u at words : ℕ) (work₀ work : List ℕ) (r : Trimmable j u at words work₀) (k : ℕ) (h : k < words)
+module _ (j : Problem) (bound u at words : ℕ) (work₀ work : List ℕ) (r : Trimmable j u at words work₀) (k : ℕ) (h : k < words)
     (f : Filled at k (λ m. member work₀ (at * 64 + m) && endsBelow j bound u m) work₀ work) where
   -- A word that is still to be trimmed has the members that it had at the beginning.
   word-same : (i : ℕ) → i < 64 → member work ((at + k) * 64 + i) ≡ member work₀ (at * 64 + (k * 64 + i))
@@ -93,35 +94,35 @@ digits l u n i h e = (
   ap (λ (x : ℕ). x % n) (sym e) ∙ mul-add-mod-self-right l n u ∙ mod-eq-of-lt h,
 )
 
-module _ (j : Job) (i : ℕ) (h : i < pieceCount j * kindCount j) where
+module _ (j : Problem) (i : ℕ) (h : i < pieceCount (j .kinds) * kindCount (j .kinds)) where
   -- There is a kind, as there is a set.
-  pub some-kind : 0 < kindCount j
-  some-kind = go (le-or-lt (kindCount j) 0)
+  pub some-kind : 0 < kindCount (j .kinds)
+  some-kind = go (le-or-lt (kindCount (j .kinds)) 0)
     where
-      go : (kindCount j ≤ 0) ⊎ (0 < kindCount j) → 0 < kindCount j
-      go (inl z) = let e : pieceCount j * kindCount j ≤ pieceCount j * 0 = mul-le-mul {n₁ = pieceCount j} {m₁ = kindCount j} {n₂ = pieceCount j} {m₂ = 0} (omega arith) z in absurd (omega arith)
+      go : (kindCount (j .kinds) ≤ 0) ⊎ (0 < kindCount (j .kinds)) → 0 < kindCount (j .kinds)
+      go (inl z) = let e : pieceCount (j .kinds) * kindCount (j .kinds) ≤ pieceCount (j .kinds) * 0 = mul-le-mul {n₁ = pieceCount (j .kinds)} {m₁ = kindCount (j .kinds)} {n₂ = pieceCount (j .kinds)} {m₂ = 0} (omega arith) z in absurd (omega arith)
       go (inr z) = z
 
   -- Set i is that of a level and a kind.
-  pub set-level : i / kindCount j < pieceCount j
+  pub set-level : i / kindCount (j .kinds) < pieceCount (j .kinds)
   set-level = div-lt-iff-lt-mul some-kind .1 h
 
-  pub set-kind : i % kindCount j < kindCount j
+  pub set-kind : i % kindCount (j .kinds) < kindCount (j .kinds)
   set-kind = mod-lt i some-kind
 
-  pub set-place : i * setWords (j .sheet) ≡ setStart j (i / kindCount j) (i % kindCount j)
+  pub set-place : i * setWords (j .sheet) ≡ setStart j (i / kindCount (j .kinds)) (i % kindCount (j .kinds))
   unfolding setStart
-  set-place = ap (λ (x : ℕ). x * setWords (j .sheet)) (sym (div-add-mod' i (kindCount j)))
+  set-place = ap (λ (x : ℕ). x * setWords (j .sheet)) (sym (div-add-mod' i (kindCount (j .kinds))))
 
   pub set-fits : i * setWords (j .sheet) + setWords (j .sheet) ≤ workWords j
-  set-fits = rw set-place (start-fits j (i / kindCount j) (i % kindCount j) set-level set-kind)
+  set-fits = rw set-place (start-fits j (i / kindCount (j .kinds)) (i % kindCount (j .kinds)) set-level set-kind)
 
   module _ (bound span : ℕ) (few : span ≤ setWords (j .sheet)) (work work′ : List ℕ) where
     -- It is trimmed.
-    pub set-trimmed : (kinds words : ℕ) → kinds ≡ kindCount j → words ≡ setWords (j .sheet)
+    pub set-trimmed : (kinds words : ℕ) → kinds ≡ kindCount (j .kinds) → words ≡ setWords (j .sheet)
         → Filled (i * words) span (λ m. member work (i * words * 64 + m) && endsBelow j bound (i % kinds) m) work work′ → SetTrimmed j bound span i work work′
     set-trimmed kinds words k w f =
-        let g : Filled (i * setWords (j .sheet)) span (λ m. member work (i * setWords (j .sheet) * 64 + m) && endsBelow j bound (i % kindCount j) m) work work′ = rw (k, w) at f in
+        let g : Filled (i * setWords (j .sheet)) span (λ m. member work (i * setWords (j .sheet) * 64 + m) && endsBelow j bound (i % kindCount (j .kinds)) m) work work′ = rw (k, w) at f in
         record {
           inside = λ p m l. g .inside m l;
           outside = λ m o. g .outside m (turn m o);
@@ -134,18 +135,18 @@ module _ (j : Job) (i : ℕ) (h : i < pieceCount j * kindCount j) where
         turn m (inr o) = inr (omega (arith, suc-mul i (setWords (j .sheet))))
 
   -- No copies of its kind are left: nothing is to be done.
-  pub set-skipped : (bound span : ℕ) (work : List ℕ) → copiesLeft (i % kindCount j) (piecesFrom j (i / kindCount j)) ≤ 0 → SetTrimmed j bound span i work work
+  pub set-skipped : (bound span : ℕ) (work : List ℕ) → copiesLeft (i % kindCount (j .kinds)) (piecesFrom (j .kinds) (i / kindCount (j .kinds))) ≤ 0 → SetTrimmed j bound span i work work
   set-skipped bound span work z = record { inside = λ p. absurd (omega arith); outside = λ m o. refl; behind = refl }
 
   module _ (bound span : ℕ) (few : span ≤ setWords (j .sheet)) (work₀ work : List ℕ) (t : Trimmed j bound span i work₀ work) where
     -- The next set can be trimmed.
     pub next-trimmable : setWords (j .sheet) ≤ 64 → workWords j * 8 ≤ length work → Admitted j span work₀
-        → 0 < copiesLeft (i % kindCount j) (piecesFrom j (i / kindCount j)) → Trimmable j (i % kindCount j) (i * setWords (j .sheet)) span work
+        → 0 < copiesLeft (i % kindCount (j .kinds)) (piecesFrom (j .kinds) (i / kindCount (j .kinds))) → Trimmable j (i % kindCount (j .kinds)) (i * setWords (j .sheet)) span work
     next-trimmable w fits a p =
         record {
           few = omega arith;
           fits = omega (arith, set-fits);
-          admitted = λ m l e. a (i / kindCount j) (i % kindCount j) m set-level set-kind p l
+          admitted = λ m l e. a (i / kindCount (j .kinds)) (i % kindCount (j .kinds)) m set-level set-kind p l
               (ap (λ (x : ℕ). member work₀ (x * 64 + m)) (sym set-place) ∙ sym (t .later (i * setWords (j .sheet) * 64 + m) (omega arith)) ∙ e);
         }
 
@@ -154,27 +155,27 @@ module _ (j : Job) (i : ℕ) (h : i < pieceCount j * kindCount j) where
     unfolding setStart
     trimmed-more work′ s =
         record {
-          inside = λ l u m hl hu c hm b. inside l u m hl hu c hm (eq-or-ne (l * kindCount j + u) i) b;
+          inside = λ l u m hl hu c hm b. inside l u m hl hu c hm (eq-or-ne (l * kindCount (j .kinds) + u) i) b;
           later = λ m b. s .outside m (inr b) ∙ t .later m (omega (arith, suc-mul i (setWords (j .sheet))));
           behind = s .behind ∙ t .behind;
         }
       where
-        inside : (l u m : ℕ) → l < pieceCount j → u < kindCount j → 0 < copiesLeft u (piecesFrom j l) → m < span * 64
-            → (l * kindCount j + u ≡ i) ⊎ (l * kindCount j + u ≡ i → ⊥) → l * kindCount j + u < i + 1
+        inside : (l u m : ℕ) → l < pieceCount (j .kinds) → u < kindCount (j .kinds) → 0 < copiesLeft u (piecesFrom (j .kinds) l) → m < span * 64
+            → (l * kindCount (j .kinds) + u ≡ i) ⊎ (l * kindCount (j .kinds) + u ≡ i → ⊥) → l * kindCount (j .kinds) + u < i + 1
             → member work′ (setStart j l u * 64 + m) ≡ (member work₀ (setStart j l u * 64 + m) && endsBelow j bound u m)
         inside l u m hl hu c hm (inl e) b =
-            let d = digits l u (kindCount j) i hu e in
-            let p : 0 < copiesLeft (i % kindCount j) (piecesFrom j (i / kindCount j)) = rw (d .0, d .1) c in
+            let d = digits l u (kindCount (j .kinds)) i hu e in
+            let p : 0 < copiesLeft (i % kindCount (j .kinds)) (piecesFrom (j .kinds) (i / kindCount (j .kinds))) = rw (d .0, d .1) c in
             let at : setStart j l u ≡ i * setWords (j .sheet) = ap (λ (x : ℕ). x * setWords (j .sheet)) e in
             ap (λ (a : ℕ). member work′ (a * 64 + m)) at
             ∙ s .inside p m hm
             ∙ ap₂ (λ (x : Bool) (v : ℕ). x && endsBelow j bound v m) (t .later (i * setWords (j .sheet) * 64 + m) (omega arith)) (d .1)
             ∙ ap (λ (a : ℕ). member work₀ (a * 64 + m) && endsBelow j bound u m) (sym at)
         inside l u m hl hu c hm (inr e) b =
-            let before : suc (l * kindCount j + u) * setWords (j .sheet) ≤ i * setWords (j .sheet) = mul-le-mul-right (setWords (j .sheet)) (omega arith) in
-            s .outside (setStart j l u * 64 + m) (inl (omega (arith, before, suc-mul (l * kindCount j + u) (setWords (j .sheet)))))
+            let before : suc (l * kindCount (j .kinds) + u) * setWords (j .sheet) ≤ i * setWords (j .sheet) = mul-le-mul-right (setWords (j .sheet)) (omega arith) in
+            s .outside (setStart j l u * 64 + m) (inl (omega (arith, before, suc-mul (l * kindCount (j .kinds) + u) (setWords (j .sheet)))))
             ∙ t .inside l u m hl hu c hm (omega arith)
 
 -- At the beginning no set is trimmed.
-pub trimmed-none : (j : Job) (bound span : ℕ) (work : List ℕ) → Trimmed j bound span 0 work work
+pub trimmed-none : (j : Problem) (bound span : ℕ) (work : List ℕ) → Trimmed j bound span 0 work work
 trimmed-none j bound span work = record { inside = λ l u m hl hu c hm b. absurd (omega arith); later = λ m b. refl; behind = refl }

@@ -4,7 +4,7 @@ ghost use lib.ListN.{length};
 ghost use Rattle.model.specs.Format.{content};
 ghost use Rattle.model.specs.Grid.{setWords};
 ghost use Rattle.model.specs.Services.{workWords};
-ghost use Rattle.plans.specs.Planned.{PlanOf};
+ghost use Rattle.plans.specs.Planned.{PlanOf, planned};
 ghost use Rattle.bounding.specs.Trimmed.{Admitted, Lowered};
 use crate::shrinking::shrink;
 use crate::trimming::trim;
@@ -13,8 +13,8 @@ use plans::plan::Plan;
 // The sets at a lower bound, and how many of their words still have members of the first level.
 pub fn lower(job: &[u8], plan: Plan, bound: usize, span: usize, work: &mut [u8]) -> usize
     requires { ⌜ PlanOf (now job) plan × (span ≤ setWords (content (now job) .sheet)) ⌝ }
-    requires { ⌜ (workWords (content (now job)) * 8 ≤ length (now work)) × Admitted (content (now job)) span (now work) ⌝ }
-    ensures { λ r. ⌜ Lowered (content (now (job .entry))) bound span (now (work .entry)) (now (work .exit)) r ⌝ }
+    requires { ⌜ (workWords (planned (now job) plan) * 8 ≤ length (now work)) × Admitted (planned (now job) plan) span (now work) ⌝ }
+    ensures { λ r. ⌜ Lowered (planned (now (job .entry)) plan) bound span (now (work .entry)) (now (work .exit)) r ⌝ }
 {
     trim(job, plan, bound, span, work);
     shrink(job, plan, work, span)

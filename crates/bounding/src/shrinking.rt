@@ -7,14 +7,14 @@ ghost use Rattle.words.specs.Number.{numberAt};
 ghost use Rattle.model.specs.Format.{content};
 ghost use Rattle.model.specs.Grid.{setWords};
 ghost use Rattle.model.specs.Services.{workWords};
-ghost use Rattle.plans.specs.Planned.{PlanOf};
+ghost use Rattle.plans.specs.Planned.{PlanOf, planned};
 ghost use Rattle.bounding.specs.Trimmed.{Shrunk};
 use plans::plan::Plan;
 use words::numbers;
 
 // Whether word k of the first level's set is zero for every kind.
 fn is_clear(job: &[u8], plan: Plan, work: &[u8], k: usize) -> bool
-    requires { ⌜ PlanOf (now job) plan × (k < setWords (content (now job) .sheet)) × (workWords (content (now job)) * 8 ≤ length (now work)) ⌝ }
+    requires { ⌜ PlanOf (now job) plan × (k < setWords (content (now job) .sheet)) × (workWords (planned (now job) plan) * 8 ≤ length (now work)) ⌝ }
     ensures { λ r. ⌜ (r ≡ true → (u : ℕ) → u < plan .types → numberAt 8 (now (work .entry)) ((u * plan .words + k) * 8) ≡ 0) ⌝ }
 {
     let kinds = plan.types;
@@ -31,7 +31,7 @@ fn is_clear(job: &[u8], plan: Plan, work: &[u8], k: usize) -> bool
 
 // The number of words up to the last one that is not zero for some kind.
 pub fn shrink(job: &[u8], plan: Plan, work: &[u8], span: usize) -> usize
-    requires { ⌜ PlanOf (now job) plan × (span ≤ setWords (content (now job) .sheet)) × (workWords (content (now job)) * 8 ≤ length (now work)) ⌝ }
+    requires { ⌜ PlanOf (now job) plan × (span ≤ setWords (content (now job) .sheet)) × (workWords (planned (now job) plan) * 8 ≤ length (now work)) ⌝ }
     ensures { λ r. ⌜ Shrunk (plan .types) (plan .words) span (now (work .entry)) r ⌝ }
 {
     let mut left = span;

@@ -11,7 +11,7 @@ ghost use Rattle.model.specs.Grid.{setWords};
 ghost use Rattle.model.specs.Search.{copiesLeft};
 ghost use Rattle.model.specs.Services.{workWords};
 ghost use Rattle.live_sets.specs.Narrowing.{BitsAdmitted, Filled};
-ghost use Rattle.plans.specs.Planned.{PlanOf};
+ghost use Rattle.plans.specs.Planned.{PlanOf, planned};
 ghost use Rattle.stepping.specs.Levels.{piecesFrom};
 ghost use Rattle.bounding.specs.Trimmed.{endsBelow, Trimmable, SetTrimmed, Admitted, Trimmed};
 use plans::lookup;
@@ -21,8 +21,8 @@ use words::numbers;
 
 // The bits of a word whose candidates end below the bound. Only the bits that are set are looked at.
 fn trim_word(job: &[u8], plan: Plan, u: usize, first: usize, w: u64, bound: usize) -> u64
-    requires { ⌜ PlanOf (now job) plan × (first < 65536) × BitsAdmitted (content (now job)) u first w ⌝ }
-    ensures { λ r. ⌜ ((i : ℕ) → testBit r i ≡ (testBit w i && endsBelow (content (now (job .entry))) bound u (first + i))) ⌝ }
+    requires { ⌜ PlanOf (now job) plan × (first < 65536) × BitsAdmitted (planned (now job) plan) u first w ⌝ }
+    ensures { λ r. ⌜ ((i : ℕ) → testBit r i ≡ (testBit w i && endsBelow (planned (now (job .entry)) plan) bound u (first + i))) ⌝ }
 {
     let mut left = w;
     let mut kept = w;
@@ -45,8 +45,8 @@ fn trim_set(
     at: usize,
     words: usize,
 )
-    requires { ⌜ PlanOf (now job) plan × Trimmable (content (now job)) u at words (now work) ⌝ }
-    ensures { λ _. ⌜ Filled at words (λ m. member (now (work .entry)) (at * 64 + m) && endsBelow (content (now (job .entry))) bound u m) (now (work .entry)) (now (work .exit)) ⌝ }
+    requires { ⌜ PlanOf (now job) plan × Trimmable (planned (now job) plan) u at words (now work) ⌝ }
+    ensures { λ _. ⌜ Filled at words (λ m. member (now (work .entry)) (at * 64 + m) && endsBelow (planned (now (job .entry)) plan) bound u m) (now (work .entry)) (now (work .exit)) ⌝ }
 {
     let mut k: usize = 0;
     while k < words {
@@ -62,10 +62,10 @@ fn trim_set(
 
 // Set i of all levels and kinds, if copies of its kind are left at its level.
 fn trim_next(job: &[u8], plan: Plan, bound: usize, span: usize, i: usize, work: &mut [u8])
-    requires { ⌜ PlanOf (now job) plan × (span ≤ setWords (content (now job) .sheet)) × (i < pieceCount (content (now job)) * kindCount (content (now job))) ⌝ }
-    requires { ⌜ workWords (content (now job)) * 8 ≤ length (now work) ⌝ }
-    requires { ⌜ (0 < copiesLeft (i % kindCount (content (now job))) (piecesFrom (content (now job)) (i / kindCount (content (now job)))) → Trimmable (content (now job)) (i % kindCount (content (now job))) (i * setWords (content (now job) .sheet)) span (now work)) ⌝ }
-    ensures { λ _. ⌜ SetTrimmed (content (now (job .entry))) bound span i (now (work .entry)) (now (work .exit)) ⌝ }
+    requires { ⌜ PlanOf (now job) plan × (span ≤ setWords (content (now job) .sheet)) × (i < pieceCount (content (now job) .kinds) * kindCount (content (now job) .kinds)) ⌝ }
+    requires { ⌜ workWords (planned (now job) plan) * 8 ≤ length (now work) ⌝ }
+    requires { ⌜ (0 < copiesLeft (i % kindCount (content (now job) .kinds)) (piecesFrom (content (now job) .kinds) (i / kindCount (content (now job) .kinds))) → Trimmable (planned (now job) plan) (i % kindCount (content (now job) .kinds)) (i * setWords (content (now job) .sheet)) span (now work)) ⌝ }
+    ensures { λ _. ⌜ SetTrimmed (planned (now (job .entry)) plan) bound span i (now (work .entry)) (now (work .exit)) ⌝ }
 {
     let copies = plan.copies;
     let kinds = plan.types;
@@ -77,8 +77,8 @@ fn trim_next(job: &[u8], plan: Plan, bound: usize, span: usize, i: usize, work: 
 // All sets, the first words of each.
 pub fn trim(job: &[u8], plan: Plan, bound: usize, span: usize, work: &mut [u8])
     requires { ⌜ PlanOf (now job) plan × (span ≤ setWords (content (now job) .sheet)) ⌝ }
-    requires { ⌜ (workWords (content (now job)) * 8 ≤ length (now work)) × Admitted (content (now job)) span (now work) ⌝ }
-    ensures { λ _. ⌜ Trimmed (content (now (job .entry))) bound span (pieceCount (content (now (job .entry))) * kindCount (content (now (job .entry)))) (now (work .entry)) (now (work .exit)) ⌝ }
+    requires { ⌜ (workWords (planned (now job) plan) * 8 ≤ length (now work)) × Admitted (planned (now job) plan) span (now work) ⌝ }
+    ensures { λ _. ⌜ Trimmed (planned (now (job .entry)) plan) bound span (pieceCount (content (now (job .entry)) .kinds) * kindCount (content (now (job .entry)) .kinds)) (now (work .entry)) (now (work .exit)) ⌝ }
 {
     let sets = plan.pieces * plan.types;
     let mut i: usize = 0;

@@ -8,8 +8,8 @@ use native.Mathlib.Omega.{arith}
 use Rattle.words.specs.Sets.{member, nextMember}
 use Rattle.words.proofs.Cases.{le-or-lt}
 use Rattle.words.proofs.First.{Found, found}
-use Rattle.model.specs.Content.{Job}
 use Rattle.model.specs.Layout.{Layout, entryOf, entryExtent}
+use Rattle.model.specs.Problem.{Problem}
 use Rattle.model.proofs.Lists.{not-both}
 use Rattle.stepping.specs.LiveSets.{setOf, Spans, Keeps}
 use Rattle.stepping.proofs.Kept.{past-span}
@@ -46,7 +46,7 @@ next-found s limit from =
 pub next-is-member : (s : List ℕ) (limit from n : ℕ) → n ≡ nextMember limit s from → n < limit → member s n ≡ true
 next-is-member s limit from n e l = rw e (next-found s limit from .2 (rw (← e) l))
 
-module _ (j : Job) (u len : ℕ) (s : List ℕ) (limit from n : ℕ) (e : n ≡ nextMember limit s from) where
+module _ (j : Problem) (u len : ℕ) (s : List ℕ) (limit from n : ℕ) (e : n ≡ nextMember limit s from) where
   passed-over : (i : ℕ) → from ≤ i → i < n → (i < limit) × (member s i ≡ false)
   passed-over i p q = next-found s limit from .1 i p (rw (← e) q)
 
@@ -67,7 +67,7 @@ module _ (j : Job) (u len : ℕ) (s : List ℕ) (limit from n : ℕ) (e : n ≡ 
 
 -- ---- What it says of the candidates
 
-module _ (j : Job) (placed : Layout) (bound u len from : ℕ) where
+module _ (j : Problem) (placed : Layout) (bound u len from : ℕ) where
   -- What is placed does not end below the bound: nothing is live.
   pub live-none : bound ≤ len → NextLive j placed bound u len from (nothing from len)
   live-none o = record { above = omega arith; passed = λ i p q. absurd (omega arith); found = λ f. absurd (not-both f refl); none = λ f. inl o }

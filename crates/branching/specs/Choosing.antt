@@ -5,14 +5,14 @@ use mathlib.Core.Logic.{_⊎_}
 use mathlib.Core.Path.{_≡_}
 use Prim.Native.Nat.{ℕ, _*_, max, _≤_, _<_}
 use Rattle.words.specs.Sets.{member}
-use Rattle.model.specs.Content.{Job}
 use Rattle.model.specs.Grid.{setWords}
 use Rattle.model.specs.Layout.{Layout, entryOf, entryExtent}
+use Rattle.model.specs.Problem.{Problem}
 use Rattle.stepping.specs.LiveSets.{setOf}
 use Rattle.branching.specs.declared.choosing.Next.{Next}
 
 -- The first member of a set of kind u, from a number on, and how far a layout of this length reaches with it; or there is none below the limit.
-pub record NextMember (j : Job) (u len : ℕ) (s : List ℕ) (limit from : ℕ) (r : Next) : Type 0 where
+pub record NextMember (j : Problem) (u len : ℕ) (s : List ℕ) (limit from : ℕ) (r : Next) : Type 0 where
   pub above : from ≤ r .number
   pub passed : (i : ℕ) → from ≤ i → i < r .number → (i < limit) × (member s i ≡ false)
   pub found : r .found ≡ true
@@ -20,14 +20,14 @@ pub record NextMember (j : Job) (u len : ℕ) (s : List ℕ) (limit from : ℕ) 
   pub none : r .found ≡ false → limit ≤ r .number
 
 -- A candidate of kind u that is live.
-pub record Live (j : Job) (placed : Layout) (bound u len n len′ : ℕ) : Type 0 where
+pub record Live (j : Problem) (placed : Layout) (bound u len n len′ : ℕ) : Type 0 where
   pub small : n < setWords (j .sheet) * 64
   pub below : len < bound
   pub member : setOf j placed bound u n ≡ true
   pub reaches : len′ ≡ max (entryExtent j (entryOf j u n)) len
 
 -- The first live candidate of kind u from a number on, where so much is placed; or there is none.
-pub record NextLive (j : Job) (placed : Layout) (bound u len from : ℕ) (r : Next) : Type 0 where
+pub record NextLive (j : Problem) (placed : Layout) (bound u len from : ℕ) (r : Next) : Type 0 where
   pub above : from ≤ r .number
   pub passed : (i : ℕ) → from ≤ i → i < r .number → setOf j placed bound u i ≡ false
   pub found : r .found ≡ true → Live j placed bound u len (r .number) (r .extent)

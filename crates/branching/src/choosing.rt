@@ -8,7 +8,7 @@ ghost use Rattle.model.specs.Candidate.{isCandidate};
 ghost use Rattle.model.specs.Content.{pieceCount};
 ghost use Rattle.model.specs.Format.{content};
 ghost use Rattle.model.specs.Services.{workWords};
-ghost use Rattle.plans.specs.Planned.{PlanOf};
+ghost use Rattle.plans.specs.Planned.{PlanOf, planned};
 ghost use Rattle.stepping.specs.Levels.{pieceKind, placedOf};
 ghost use Rattle.stepping.specs.LiveSets.{Spans, Keeps};
 ghost use Rattle.stepping.specs.Slots.{slotOf};
@@ -36,8 +36,8 @@ fn next_in(
     span: usize,
 ) -> Next
     requires { ⌜ PlanOf (now job) plan × (span ≤ 64) × (span * 8 ≤ length (now set)) ⌝ }
-    requires { ⌜ ((m : ℕ) → m < span * 64 → member (now set) m ≡ true → isCandidate (content (now job)) u m ≡ true) ⌝ }
-    ensures { λ r. ⌜ NextMember (content (now (job .entry))) u extent (now (set .entry)) (span * 64) from r ⌝ }
+    requires { ⌜ ((m : ℕ) → m < span * 64 → member (now set) m ≡ true → isCandidate (planned (now job) plan) u m ≡ true) ⌝ }
+    ensures { λ r. ⌜ NextMember (planned (now (job .entry)) plan) u extent (now (set .entry)) (span * 64) from r ⌝ }
 {
     let n = sets::next_member(set, span as u32, from);
     if n < span * 64 {
@@ -66,9 +66,9 @@ pub fn next_live(
     work: &[u8],
     from: usize,
 ) -> Next
-    requires { ⌜ PlanOf (now job) plan × (level < pieceCount (content (now job))) × (workWords (content (now job)) * 8 ≤ length (now work)) ⌝ }
-    requires { ⌜ Spans (content (now job)) (state .bound) (state .span) × Keeps (content (now job)) (placedOf (content (now job)) numbers level) (state .bound) (state .span) (pieceKind (content (now job)) level) (slotOf (content (now job)) (now work) level (pieceKind (content (now job)) level)) ⌝ }
-    ensures { λ r. ⌜ NextLive (content (now (job .entry))) (placedOf (content (now (job .entry))) numbers level) (state .bound) (pieceKind (content (now (job .entry))) level) extent from r ⌝ }
+    requires { ⌜ PlanOf (now job) plan × (level < pieceCount (content (now job) .kinds)) × (workWords (planned (now job) plan) * 8 ≤ length (now work)) ⌝ }
+    requires { ⌜ Spans (planned (now job) plan) (state .bound) (state .span) × Keeps (planned (now job) plan) (placedOf (planned (now job) plan) numbers level) (state .bound) (state .span) (pieceKind (content (now job) .kinds) level) (slotOf (planned (now job) plan) (now work) level (pieceKind (content (now job) .kinds) level)) ⌝ }
+    ensures { λ r. ⌜ NextLive (planned (now (job .entry)) plan) (placedOf (planned (now (job .entry)) plan) numbers level) (state .bound) (pieceKind (content (now (job .entry)) .kinds) level) extent from r ⌝ }
 {
     if state.bound <= extent {
         return Next {

@@ -8,7 +8,7 @@ use native.Mathlib.Nat.{le-trans, lt-of-le-of-lt}
 use native.Mathlib.Omega.{arith}
 use borrow.Author.Tests.{lt-ltb, le-ltb, le-leb, lt-leb, leb-false, not-true, not-false}
 use lib.Dec.{T, leb, ltb, lit≤, lit<}
-use lib.IntN.{ℤ, pos, negsuc, natAbs, _+ℤ_}
+use lib.IntN.{ℤ, pos, negsuc, natAbs, _+ℤ_, _-ℤ_}
 use lib.Signed.{ltZ, nonNeg, _<ℤ_}
 use mir.Syntax.{w16, w64}
 use mir.Val.{Fits, SFits, toZ, ofZ}
@@ -16,7 +16,7 @@ use mir.ValLaws.{toZ-ofZ, toZ-pos}
 use Rattle.integers.proofs.Order.{ltZ-true, ltZ-false, <ℤ-pos}
 use Rattle.integers.proofs.Products.{widened}
 use Rattle.integers.proofs.Sizes.{bounded}
-use Rattle.integers.proofs.Solver.{_⊞_}
+use Rattle.integers.proofs.Solver.{_⊞_, _⊟_}
 use Rattle.words.specs.Bits.{testBit}
 use Rattle.words.proofs.Bit.{testBit-above}
 use Rattle.words.proofs.Cases.{le-or-lt}
@@ -47,6 +47,17 @@ module _ (z : ℤ) (n : ℕ) (f : SFits w16 z) (h : n ≤ 1000) where
 
 pub limit-value : (n : ℕ) → n ≤ 1000 → toZ w64 n ≡ pos n
 limit-value n h = toZ-pos w64 n (lt-of-le-of-lt h (lit< tt))
+
+-- a limit less a margin, of either sign
+module _ (l m : ℕ) (hl : l ≤ 1000) (hm : m ≤ 1000) where
+  room-read : toZ w64 l -ℤ toZ w64 m ≡ pos l -ℤ pos m
+  room-read = ap₂ _-ℤ_ (limit-value l hl) (limit-value m hm)
+
+  pub room-fits : SFits w64 (toZ w64 l -ℤ toZ w64 m)
+  room-fits = subst (SFits w64) (sym room-read) (fits-64 (pos l -ℤ pos m) (le-trans (bounded (1000 ∷ 1000 ∷ []) 2 (λ l m. l ⊟ m) (pos l) (pos m) hl hm) (lit≤ tt)))
+
+  pub room-value : toZ w64 (ofZ w64 (toZ w64 l -ℤ toZ w64 m)) ≡ pos l -ℤ pos m
+  room-value = toZ-ofZ w64 (toZ w64 l -ℤ toZ w64 m) room-fits ∙ room-read
 
 -- ---- an end
 

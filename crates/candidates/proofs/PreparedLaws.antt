@@ -16,13 +16,14 @@ use Rattle.words.specs.Bits.{testBit}
 use Rattle.words.proofs.Bit.{testBit-above}
 use Rattle.words.proofs.Cases.{le-or-lt}
 use Rattle.model.specs.Candidate.{placedPart, placedParts, placedVertices, onBoard, admitted, isCandidate, natural, extent}
-use Rattle.model.specs.Content.{Vertex, Part, Board, Job, kindAt, kindCount}
+use Rattle.model.specs.Content.{Vertex, Part, Board, kindAt, kindCount}
 use Rattle.model.specs.Format.{content, refusal}
 use Rattle.model.specs.Gap.{pairGap}
 use Rattle.model.specs.Geometry.{rotated, moved, separated, piecesConflict}
 use Rattle.model.specs.Grid.{Placement, placement, rows, columns, dots, numberLimit, placementOf}
 use Rattle.model.specs.Layout.{entry, entryOf, entryKind, conflict}
 use Rattle.model.specs.Lists.{all, any, concat}
+use Rattle.model.specs.Problem.{Problem, under}
 use Rattle.model.proofs.Accepted.{accepted-sensible}
 use Rattle.model.proofs.Box.{all-onBoard, placed-vertices, extent-placed, largest-x-moved, largest-y-moved, smallest-x-moved, smallest-y-moved}
 use Rattle.model.proofs.Lists.{and-left, and-right, not-both}
@@ -32,6 +33,7 @@ use Rattle.model.proofs.AcceptedKinds.{gap-most}
 use Rattle.model.proofs.Causes.{no-cause, board-fits}
 use Rattle.polygons.specs.Boxes.{extentsOf}
 use Rattle.polygons.specs.Flat.{shifted}
+use Rattle.job.specs.View.{problemOf}
 use Rattle.job.specs.declared.View.{View}
 use Rattle.shapes.specs.Boxes.{boxAt, turnedVertices, BoxesOf}
 use Rattle.shapes.specs.Pieces.{PieceOf}
@@ -77,25 +79,26 @@ module _ (s : List ℕ) (v : View) (x : Viewed s v) where
         columns = rw (x .view .columns) (omega (arith, div-le-self (sheet .L) (sheet .g), r .1));
         size = (rw (x .view .len) (r .1), rw (x .view .width) (r .0));
         step = rw (x .view .step) (r .2);
+        margin = x .view .margin;
         across = λ c h. rw (x .view .step, x .view .len) (reached (sheet .L) (sheet .g) c (rw (x .view .columns) at h));
         up = λ c h. rw (x .view .step, x .view .width) (reached (sheet .W) (sheet .g) c (rw (x .view .rows) at h));
-        rotations = λ t h. rw (kind-in s v x t (rw (x .view .kinds) at h) .rotations) (accepted-sensible s (x .accepted) .turned t);
-        gaps = λ t h. rw (kind-in s v x t (rw (x .view .kinds) at h) .gap) (gap-most s (x .accepted) (kindAt (content s) t));
+        rotations = λ t h. rw (kind-in s v x t (rw (x .view .kinds) at h) .rotations) (accepted-sensible s (v .margin) (x .accepted) .turned t);
+        gaps = λ t h. rw (kind-in s v x t (rw (x .view .kinds) at h) .gap) (gap-most s (x .accepted) (kindAt (content s .kinds) t));
       }
 
   -- The larger of the two gaps in the view is the pair's.
-  pub gap-is : (t u : ℕ) → t < kindCount (content s) → u < kindCount (content s)
-      → max (getD (v .gaps) t 0) (getD (v .gaps) u 0) ≡ pairGap (content s) (kindAt (content s) t) (kindAt (content s) u)
+  pub gap-is : (t u : ℕ) → t < kindCount (content s .kinds) → u < kindCount (content s .kinds)
+      → max (getD (v .gaps) t 0) (getD (v .gaps) u 0) ≡ pairGap (content s .classes) (kindAt (content s .kinds) t) (kindAt (content s .kinds) u)
   unfolding pairGap
   gap-is t u ht hu = ap₂ max (kind-in s v x t ht .gap) (kind-in s v x u hu .gap)
 
   -- the vertices of a kind
-  module _ (t : ℕ) (h : t < kindCount (content s)) where
+  module _ (t : ℕ) (h : t < kindCount (content s .kinds)) where
     pub some-vertex : (k : ℕ) → 0 < length (turnedVertices s t k)
-    some-vertex k = first-vertex (map (rotated k)) (λ P. length-map P (rotated k)) (kindAt (content s) t .parts) (some-part s v x t h) (λ i l. part-in s v x t h i l .least)
+    some-vertex k = first-vertex (map (rotated k)) (λ P. length-map P (rotated k)) (kindAt (content s .kinds) t .parts) (some-part s v x t h) (λ i l. part-in s v x t h i l .least)
 
-    pub vertexed : Vertexed (kindAt (content s) t .parts)
-    vertexed = go (kindAt (content s) t .parts) (λ i l. part-in s v x t h i l .least)
+    pub vertexed : Vertexed (kindAt (content s .kinds) t .parts)
+    vertexed = go (kindAt (content s .kinds) t .parts) (λ i l. part-in s v x t h i l .least)
       where
         go : (Ps : List Part) → ((i : ℕ) → i < length Ps → 3 ≤ length (getD Ps i [])) → Vertexed Ps
         go [] k = tt
@@ -103,9 +106,9 @@ module _ (s : List ℕ) (v : View) (x : Viewed s v) where
 
 -- ---- placements
 
-module _ (s : List ℕ) (v : View) (b : Boxes) (x : Viewed s v) (y : BoxesOf s b) (t : ℕ) (h : t < kindCount (content s)) where
+module _ (s : List ℕ) (v : View) (b : Boxes) (x : Viewed s v) (y : BoxesOf s b) (t : ℕ) (h : t < kindCount (content s .kinds)) where
   -- the box decides whether all vertices lie on the board
-  on-board : (c r k : ℕ) → k < 4 → fitsAt v (boxAt b t k) c r ≡ all (onBoard (content s .sheet)) (placedVertices (content s .sheet) (kindAt (content s) t) (placement c r k))
+  on-board : (c r k : ℕ) → k < 4 → fitsAt v (boxAt b t k) c r ≡ all (onBoard (v .margin) (content s .sheet)) (placedVertices (content s .sheet) (kindAt (content s .kinds) t) (placement c r k))
   unfolding fitsAt within extentsOf
   on-board c r k l =
       let sheet : Board = content s .sheet in
@@ -114,45 +117,45 @@ module _ (s : List ℕ) (v : View) (b : Boxes) (x : Viewed s v) (y : BoxesOf s b
       let ms : List Vertex = map (moved (c * sheet .g) (r * sheet .g)) vs in
       rw (y .exact t k h l, x .view .step, x .view .len, x .view .width)
       (sym
-      (ap (all (onBoard sheet)) (placed-vertices sheet (kindAt (content s) t) (placement c r k))
-      ∙ all-onBoard sheet ms (rw (length-map vs (moved (c * sheet .g) (r * sheet .g))) some)
+      (ap (all (onBoard (v .margin) sheet)) (placed-vertices sheet (kindAt (content s .kinds) t) (placement c r k))
+      ∙ all-onBoard (v .margin) sheet ms (rw (length-map vs (moved (c * sheet .g) (r * sheet .g))) some)
       ∙ rw (smallest-x-moved (c * sheet .g) (r * sheet .g) vs some, largest-x-moved (c * sheet .g) (r * sheet .g) vs some, smallest-y-moved (c * sheet .g) (r * sheet .g) vs some, largest-y-moved (c * sheet .g) (r * sheet .g) vs some)
       (search and-assoc)))
 
   -- Whether a kind may stand on a dot at a rotation is what the model says.
-  pub placeable-is : (c r k : ℕ) → placeable v b t c r k ≡ admitted (content s) (kindAt (content s) t) (placement c r k)
+  pub placeable-is : (c r k : ℕ) → placeable v b t c r k ≡ admitted (problemOf s v) (kindAt (content s .kinds) t) (placement c r k)
   unfolding placeable admitted
   placeable-is c r k =
       ap (λ n. ltb c n && ltb r (v .rows) && testBit (getD (v .rotations) t 0) k && fitsAt v (boxAt b t k) c r) (x .view .columns)
       ∙ ap (λ n. ltb c (columns (content s .sheet)) && ltb r n && testBit (getD (v .rotations) t 0) k && fitsAt v (boxAt b t k) c r) (x .view .rows)
       ∙ ap (λ n. ltb c (columns (content s .sheet)) && ltb r (rows (content s .sheet)) && testBit n k && fitsAt v (boxAt b t k) c r) (kind-in s v x t h .rotations)
-      ∙ ⊎-elim (λ g. far g) (λ g. ap (λ w. ltb c (columns (content s .sheet)) && ltb r (rows (content s .sheet)) && testBit (kindAt (content s) t .rotations) k && w) (on-board c r k g)) (le-or-lt 4 k)
+      ∙ ⊎-elim (λ g. far g) (λ g. ap (λ w. ltb c (columns (content s .sheet)) && ltb r (rows (content s .sheet)) && testBit (kindAt (content s .kinds) t .rotations) k && w) (on-board c r k g)) (le-or-lt 4 k)
     where
       rest : Bool
       rest = ltb c (columns (content s .sheet)) && ltb r (rows (content s .sheet))
 
       board : Bool
-      board = all (onBoard (content s .sheet)) (placedVertices (content s .sheet) (kindAt (content s) t) (placement c r k))
+      board = all (onBoard (v .margin) (content s .sheet)) (placedVertices (content s .sheet) (kindAt (content s .kinds) t) (placement c r k))
 
-      far : 4 ≤ k → (rest && testBit (kindAt (content s) t .rotations) k && fitsAt v (boxAt b t k) c r) ≡ (rest && testBit (kindAt (content s) t .rotations) k && board)
-      far g = rw (testBit-above (kindAt (content s) t .rotations) 4 k (accepted-sensible s (x .accepted) .turned t) g) (none rest (fitsAt v (boxAt b t k) c r) board)
+      far : 4 ≤ k → (rest && testBit (kindAt (content s .kinds) t .rotations) k && fitsAt v (boxAt b t k) c r) ≡ (rest && testBit (kindAt (content s .kinds) t .rotations) k && board)
+      far g = rw (testBit-above (kindAt (content s .kinds) t .rotations) 4 k (accepted-sensible s (v .margin) (x .accepted) .turned t) g) (none rest (fitsAt v (boxAt b t k) c r) board)
         where
           none : (a u w : Bool) → (a && false && u) ≡ (a && false && w)
           none true u w = refl
           none false u w = refl
 
   -- The same of a candidate number.
-  pub offered-is : (n : ℕ) → offered v b t n ≡ isCandidate (content s) t n
+  pub offered-is : (n : ℕ) → offered v b t n ≡ isCandidate (problemOf s v) t n
   unfolding offered isCandidate placementOf
   offered-is n =
       ap (λ m. placeable v b t (n / 4 / m) (n / 4 % m) (n % 4)) (x .view .rows)
       ∙ placeable-is (n / 4 / rows (content s .sheet)) (n / 4 % rows (content s .sheet)) (n % 4)
 
   -- The end of a placement at a rotation is what the model says, whatever its row.
-  pub extent-is : (c r k : ℕ) → k < 4 → extentAt v b t c k ≡ extent (content s .sheet) (kindAt (content s) t) (placement c r k)
+  pub extent-is : (c r k : ℕ) → k < 4 → extentAt v b t c k ≡ extent (content s .sheet) (kindAt (content s .kinds) t) (placement c r k)
   unfolding extentAt extentsOf
   extent-is c r k l =
-      rw (y .exact t k h l, x .view .step) (sym (extent-placed (content s .sheet) (kindAt (content s) t) (placement c r k) (some-vertex s v x t h k)))
+      rw (y .exact t k h l, x .view .step) (sym (extent-placed (content s .sheet) (kindAt (content s .kinds) t) (placement c r k) (some-vertex s v x t h k)))
 
 -- ---- conflicts
 
@@ -183,33 +186,34 @@ module _ (gap : ℕ) (b : Board) (p q : Placement) where
 abbrev pub placementAt : Placed → Placement
 placementAt a = placement (a .column) (a .row) (a .rotation)
 
-module _ (s : List ℕ) (v : View) (table : List ℤ) (x : Viewed s v) (z : TurnedOf s table) (t u : ℕ) (ht : t < kindCount (content s)) (hu : u < kindCount (content s))
+module _ (s : List ℕ) (v : View) (table : List ℤ) (x : Viewed s v) (z : TurnedOf s table) (t u : ℕ) (ht : t < kindCount (content s .kinds)) (hu : u < kindCount (content s .kinds))
     (p q : Piece) (ep : PieceOf s t p) (eq : PieceOf s u q) where
-  -- Conflict of two placed pieces at the pair's gap is what the model says.
-  pub conflict-is : (a c : Placed) → a .rotation < 4 → c .rotation < 4
-      → conflictBetween table (v .step) p a q c (pairGap (content s) (kindAt (content s) t) (kindAt (content s) u))
-      ≡ conflict (content s) (entry t (placementAt a)) (entry u (placementAt c))
+  -- Conflict of two placed pieces at the pair's gap is what the model says, under any margin.
+  pub conflict-is : (m : ℕ) (a c : Placed) → a .rotation < 4 → c .rotation < 4
+      → conflictBetween table (v .step) p a q c (pairGap (content s .classes) (kindAt (content s .kinds) t) (kindAt (content s .kinds) u))
+      ≡ conflict (under m (content s)) (entry t (placementAt a)) (entry u (placementAt c))
   unfolding conflictBetween conflict entryKind placedParts
-  conflict-is a c ha hc =
+  conflict-is m a c ha hc =
       rw (parts-turned s table t p (a .rotation) z ep ht ha, parts-turned s table u q (c .rotation) z eq hu hc, x .view .step)
-      (conflict-placed (pairGap (content s) (kindAt (content s) t) (kindAt (content s) u)) (content s .sheet) (placementAt a) (placementAt c) (kindAt (content s) t .parts) (kindAt (content s) u .parts)
+      (conflict-placed (pairGap (content s .classes) (kindAt (content s .kinds) t) (kindAt (content s .kinds) u)) (content s .sheet) (placementAt a) (placementAt c) (kindAt (content s .kinds) t .parts) (kindAt (content s .kinds) u .parts)
       (vertexed s v x t ht) (vertexed s v x u hu))
 
   -- the place of a number is the model's placement of it
-  place-is : (n : ℕ) → entry t (placementAt (placedOf (v .rows) n)) ≡ entryOf (content s) t n
+  place-is : (m n : ℕ) → entry t (placementAt (placedOf (v .rows) n)) ≡ entryOf (under m (content s)) t n
   unfolding entryOf placementOf
-  place-is n = ap (λ m. entry t (placement (n / 4 / m) (n / 4 % m) (n % 4))) (x .view .rows)
+  place-is m n = ap (λ r. entry t (placement (n / 4 / r) (n / 4 % r) (n % 4))) (x .view .rows)
 
-  place-is-2 : (n : ℕ) → entry u (placementAt (placedOf (v .rows) n)) ≡ entryOf (content s) u n
+  place-is-2 : (m n : ℕ) → entry u (placementAt (placedOf (v .rows) n)) ≡ entryOf (under m (content s)) u n
   unfolding entryOf placementOf
-  place-is-2 n = ap (λ m. entry u (placement (n / 4 / m) (n / 4 % m) (n % 4))) (x .view .rows)
+  place-is-2 m n = ap (λ r. entry u (placement (n / 4 / r) (n / 4 % r) (n % 4))) (x .view .rows)
 
   -- The same of two numbers.
-  pub numbers-conflict : (n m : ℕ)
-      → conflictBetween table (v .step) p (placedOf (v .rows) n) q (placedOf (v .rows) m) (pairGap (content s) (kindAt (content s) t) (kindAt (content s) u))
-      ≡ conflict (content s) (entryOf (content s) t n) (entryOf (content s) u m)
-  numbers-conflict n m =
-      conflict-is (placedOf (v .rows) n) (placedOf (v .rows) m) (omega arith) (omega arith) ∙ ap₂ (conflict (content s)) (place-is n) (place-is-2 m)
+  pub numbers-conflict : (m n k : ℕ)
+      → conflictBetween table (v .step) p (placedOf (v .rows) n) q (placedOf (v .rows) k) (pairGap (content s .classes) (kindAt (content s .kinds) t) (kindAt (content s .kinds) u))
+      ≡ conflict (under m (content s)) (entryOf (under m (content s)) t n) (entryOf (under m (content s)) u k)
+  numbers-conflict m n k =
+      conflict-is m (placedOf (v .rows) n) (placedOf (v .rows) k) (omega arith) (omega arith)
+      ∙ ap₂ (conflict (under m (content s))) (place-is m n) (place-is-2 m k)
 
 -- ---- what every candidate keeps
 
@@ -228,30 +232,9 @@ number-near s v x n h =
     }
 
 -- A candidate's number is one of the board's.
-pub candidate-number : (j : Job) (t n : ℕ) → isCandidate j t n ≡ true → n < numberLimit (j .sheet)
+pub candidate-number : (j : Problem) (t n : ℕ) → isCandidate j t n ≡ true → n < numberLimit (j .sheet)
 unfolding isCandidate admitted placementOf numberLimit dots
 candidate-number j t n e =
     let c : n / 4 / rows (j .sheet) < columns (j .sheet) = ltb-true _ _ (and-left _ _ (and-left _ _ (and-left _ _ e))) in
     let d : n / 4 < columns (j .sheet) * rows (j .sheet) = div-lt-iff-lt-mul (rows-positive (j .sheet)) .0 c in
     omega arith
-
-natural-most : (z : ℤ) (n : ℕ) → z ≤ℤ pos n → natural z ≤ n
-unfolding natural
-natural-most (pos m) n h = ≤ℤ-pos h
-natural-most (negsuc m) n h = omega arith
-
--- A candidate ends on the board: at most at L, which is at most 1000.
-pub candidate-extent : (s : List ℕ) (v : View) (b : Boxes) → Viewed s v → BoxesOf s b → (t : ℕ) → t < kindCount (content s) → (c r k : ℕ)
-    → admitted (content s) (kindAt (content s) t) (placement c r k) ≡ true → extent (content s .sheet) (kindAt (content s) t) (placement c r k) ≤ content s .sheet .L
-unfolding placeable fitsAt within extentAt
-candidate-extent s v b x y t h c r k e =
-    let p : placeable v b t c r k ≡ true = placeable-is s v b x y t h c r k ∙ e in
-    let fits = and-right (ltb c (v .columns) && ltb r (v .rows) && testBit (getD (v .rotations) t 0) k) _ p in
-    let across = and-left _ _ fits in
-    let high = leZ-true _ _ (and-right (leZ (pos 0) (boxAt b t k .«min_x» +ℤ pos (c * v .step))) _ across) in
-    let turn : k < 4 = turn-small (and-right (ltb c (v .columns) && ltb r (v .rows)) _ (and-left _ _ p)) in
-    rw (← (extent-is s v b x y t h c r k turn), ← (x .view .len)) (natural-most _ (v .length) high)
-  where
-    turn-small : testBit (getD (v .rotations) t 0) k ≡ true → k < 4
-    turn-small g =
-        ⊎-elim (λ l. absurd (not-both g (testBit-above (getD (v .rotations) t 0) 4 k (rw (kind-in s v x t h .rotations) (accepted-sensible s (x .accepted) .turned t)) l))) (λ l. l) (le-or-lt 4 k)

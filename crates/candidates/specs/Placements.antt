@@ -3,7 +3,7 @@
 use mathlib.Core.Bool.{Bool, _&&_}
 use Prim.Native.Nat.{ℕ, _+_, _*_, _/_, _%_, _≤_, _<_}
 use lib.Dec.{ltb}
-use lib.IntN.{ℤ, pos, _+ℤ_}
+use lib.IntN.{ℤ, pos, _+ℤ_, _-ℤ_}
 use lib.ListN.{getD}
 use lib.Signed.{leZ}
 use Rattle.words.specs.Bits.{testBit}
@@ -20,20 +20,23 @@ pub record Bounded (v : View) : Type 0 where
   pub columns : v .columns ≤ 1001
   pub size : (v .length ≤ 1000) × (v .width ≤ 1000)
   pub step : v .step ≤ 1000
+  pub margin : v .margin ≤ 63
   pub across : (c : ℕ) → c < v .columns → c * v .step ≤ v .length
   pub up : (r : ℕ) → r < v .rows → r * v .step ≤ v .width
   pub rotations : (t : ℕ) → t < v .kinds → getD (v .rotations) t 0 < 16
   pub gaps : (t : ℕ) → t < v .kinds → getD (v .gaps) t 0 ≤ 63
 
--- What lies from low to high stays, moved by this much, within 0 and the limit.
-unfoldable pub within : ℤ → ℤ → ℕ → ℕ → Bool
-within low high by limit = leZ (pos 0) (low +ℤ pos by) && leZ (high +ℤ pos by) (pos limit)
+-- What lies from low to high stays, moved by this much, within the margin and the limit less the margin.
+unfoldable pub within : ℤ → ℤ → ℕ → ℕ → ℕ → Bool
+within low high by margin limit = leZ (pos margin) (low +ℤ pos by) && leZ (high +ℤ pos by) (pos limit -ℤ pos margin)
 
--- The box stays on the board if it is moved to a column and a row.
+-- The box stays on the board, within the margin, if it is moved to a column and a row.
 unfoldable pub fitsAt : View → Extents → ℕ → ℕ → Bool
-fitsAt v e c r = within (e .«min_x») (e .«max_x») (c * v .step) (v .length) && within (e .«min_y») (e .«max_y») (r * v .step) (v .width)
+fitsAt v e c r =
+    within (e .«min_x») (e .«max_x») (c * v .step) (v .margin) (v .length)
+    && within (e .«min_y») (e .«max_y») (r * v .step) (v .margin) (v .width)
 
--- "A candidate of a type is a column, a row and an allowed turn with every turned, moved corner in 0 to L by 0 to W."
+-- "A candidate of a type is a column, a row and an allowed turn with every turned, moved corner" on the board, within the margin.
 unfoldable pub placeable : View → Boxes → ℕ → ℕ → ℕ → ℕ → Bool
 placeable v b t c r k = ltb c (v .columns) && ltb r (v .rows) && testBit (getD (v .rotations) t 0) k && fitsAt v (boxAt b t k) c r
 

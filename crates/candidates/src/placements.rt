@@ -8,21 +8,28 @@ use job::View;
 use polygons::extents::Extents;
 use shapes::boxes::Boxes;
 
-// Whether what lies from low to high stays, moved by this much, within 0 and the limit.
-fn stays_within(low: i16, high: i16, by: usize, limit: usize) -> bool
-    requires { ⌜ (by ≤ 1000) × (limit ≤ 1000) ⌝ }
-    ensures { λ r. ⌜ r ≡ within low high by limit ⌝ }
+// Whether what lies from low to high stays, moved by this much, within the margin and the limit less the margin.
+fn stays_within(low: i16, high: i16, by: usize, margin: usize, limit: usize) -> bool
+    requires { ⌜ (by ≤ 1000) × ((margin ≤ 63) × (limit ≤ 1000)) ⌝ }
+    ensures { λ r. ⌜ r ≡ within low high by margin limit ⌝ }
 {
-    (0 <= (low as i64) + (by as i64)) & ((high as i64) + (by as i64) <= (limit as i64))
+    ((margin as i64) <= (low as i64) + (by as i64))
+        & ((high as i64) + (by as i64) <= (limit as i64) - (margin as i64))
 }
 
-// Whether a box stays on the board if it is moved to a column and a row.
+// Whether a box stays on the board, within the margin, if it is moved to a column and a row.
 fn stays_on_board(view: View, e: Extents, column: usize, row: usize) -> bool
     requires { ⌜ Bounded view × ((column < view .columns) × (row < view .rows)) ⌝ }
     ensures { λ r. ⌜ r ≡ fitsAt view e column row ⌝ }
 {
-    stays_within(e.min_x, e.max_x, column * view.step, view.length)
-        & stays_within(e.min_y, e.max_y, row * view.step, view.width)
+    stays_within(
+        e.min_x,
+        e.max_x,
+        column * view.step,
+        view.margin,
+        view.length,
+    )
+        & stays_within(e.min_y, e.max_y, row * view.step, view.margin, view.width)
 }
 
 // Whether a kind may stand on this dot at this rotation.

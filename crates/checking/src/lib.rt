@@ -5,11 +5,11 @@ use model::Checked;
 use shapes::boxes::boxes_of;
 use shapes::turned::turn_all;
 
-// Whether a layout passes, and its length: refusals 1 to 7 of the job, then 11.
-pub fn check(job: &[u8], layout: &[u8]) -> Checked
-    ensures { λ r. ⌜ r ≡ Services.check (now (job .entry)) (now (layout .entry)) ⌝ }
+// Whether a layout passes under a margin, and its length: refusals 1 to 7 of the job, 13, then 11.
+pub fn check(job: &[u8], margin: usize, layout: &[u8]) -> Checked
+    ensures { λ r. ⌜ r ≡ Services.check (now (job .entry)) margin (now (layout .entry)) ⌝ }
 {
-    let opened = job::open(job);
+    let opened = job::open_under(job, margin);
     let refusal = opened.refusal;
     if refusal != 0 {
         return Checked::Refused(refusal);

@@ -6,6 +6,7 @@ ghost use lib.ListN.{length, drop};
 ghost use Rattle.model.specs.Format.{content};
 ghost use Rattle.model.specs.Output;
 ghost use Rattle.model.specs.Output.{printed};
+ghost use Rattle.model.specs.Problem.{under};
 ghost use Rattle.model.specs.Services;
 ghost use Rattle.command.specs.Shown.{Shown};
 
@@ -19,29 +20,30 @@ fn pieces_shown(bytes: &[u8]) -> usize
     if refusal == 0 { view.pieces } else { 0 }
 }
 
-// Runs a job under a budget and puts the text of its answer at the front of `text`; says how long the text is.
-// Work words and answer numbers are enough for every job, so at the program's budget it is the program's text, whatever they hold.
+// Runs a job under a margin and a budget and puts the text of its answer at the front of `text`; says how long the text is.
+// Work words and answer numbers are enough for every job, so at the program's margin and budget it is the program's text, whatever they hold.
 pub fn respond(
     bytes: &[u8],
+    margin: usize,
     budget: u32,
     work: &mut [u8],
     answer: &mut [u8],
     text: &mut [u8],
 ) -> usize
     requires { ⌜ (49152 ≤ length (now work)) × (96 ≤ length (now answer)) × (512 ≤ length (now text)) ⌝ }
-    ensures { λ r. ⌜ r ≡ length (printed (content (now (bytes .entry))) (Services.run (now (bytes .entry)) budget (now (work .entry)) (now (answer .entry)))) ⌝ }
-    ensures { λ r. ⌜ now (text .exit) ≡ printed (content (now (bytes .entry))) (Services.run (now (bytes .entry)) budget (now (work .entry)) (now (answer .entry))) ++ drop r (now (text .entry)) ⌝ }
+    ensures { λ r. ⌜ r ≡ length (printed (under margin (content (now (bytes .entry)))) (Services.run (now (bytes .entry)) margin budget (now (work .entry)) (now (answer .entry)))) ⌝ }
+    ensures { λ r. ⌜ now (text .exit) ≡ printed (under margin (content (now (bytes .entry)))) (Services.run (now (bytes .entry)) margin budget (now (work .entry)) (now (answer .entry))) ++ drop r (now (text .entry)) ⌝ }
     ensures { λ r. ⌜ r ≤ 512 ⌝ }
-    ensures { λ _. ⌜ (budget ≡ 1000000 → printed (content (now (bytes .entry))) (Services.run (now (bytes .entry)) budget (now (work .entry)) (now (answer .entry))) ≡ Output.program (now (bytes .entry))) ⌝ }
-    ensures { λ _. ⌜ now (work .exit) ≡ Services.run (now (bytes .entry)) budget (now (work .entry)) (now (answer .entry)) .work ⌝ }
-    ensures { λ _. ⌜ now (answer .exit) ≡ Services.run (now (bytes .entry)) budget (now (work .entry)) (now (answer .entry)) .out ⌝ }
+    ensures { λ _. ⌜ (margin ≡ 0 → budget ≡ 1000000 → printed (under margin (content (now (bytes .entry)))) (Services.run (now (bytes .entry)) margin budget (now (work .entry)) (now (answer .entry))) ≡ Output.program (now (bytes .entry))) ⌝ }
+    ensures { λ _. ⌜ now (work .exit) ≡ Services.run (now (bytes .entry)) margin budget (now (work .entry)) (now (answer .entry)) .work ⌝ }
+    ensures { λ _. ⌜ now (answer .exit) ≡ Services.run (now (bytes .entry)) margin budget (now (work .entry)) (now (answer .entry)) .out ⌝ }
 {
     let pieces = pieces_shown(bytes);
-    let a = search::run::run(bytes, budget, work, answer);
+    let a = search::run::run(bytes, margin, budget, work, answer);
     report::render(a, answer, pieces, text)
 }
 
-// What the command program makes of the bytes that it read: "gives run a budget of 1,000,000 and prints".
+// What the command program makes of the bytes that it read: "gives run a budget of 1,000,000 and prints", "m = 0".
 pub fn program(bytes: &[u8], text: &mut [u8]) -> usize
     requires { ⌜ 512 ≤ length (now text) ⌝ }
     ensures { λ r. ⌜ r ≡ length (Output.program (now (bytes .entry))) ⌝ }
@@ -50,5 +52,5 @@ pub fn program(bytes: &[u8], text: &mut [u8]) -> usize
 {
     let mut work = [0u8; 49152];
     let mut answer = [0u8; 96];
-    respond(bytes, 1000000, &mut work, &mut answer, text)
+    respond(bytes, 0, 1000000, &mut work, &mut answer, text)
 }

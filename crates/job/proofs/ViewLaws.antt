@@ -100,12 +100,12 @@ pub parts-all : (k : Kind) (i : ℕ) → length (k .parts) ≤ i → any badPart
 unfolding badKind
 parts-all k i h = ap (any badPart) (take-all i (k .parts) h)
 
-pub kinds-more : (s : List ℕ) (t : ℕ) → t < kindCount (content s)
-    → any badKind (take (t + 1) (content s .kinds)) ≡ (any badKind (take t (content s .kinds)) || badKind (kindAt (content s) t))
+pub kinds-more : (s : List ℕ) (t : ℕ) → t < kindCount (content s .kinds)
+    → any badKind (take (t + 1) (content s .kinds)) ≡ (any badKind (take t (content s .kinds)) || badKind (kindAt (content s .kinds) t))
 unfolding kindAt kindCount
 kinds-more s t h = any-take-more badKind (content s .kinds) noKind t h
 
-pub kinds-all : (s : List ℕ) (t : ℕ) → kindCount (content s) ≤ t → any badKind (take t (content s .kinds)) ≡ cause7 s
+pub kinds-all : (s : List ℕ) (t : ℕ) → kindCount (content s .kinds) ≤ t → any badKind (take t (content s .kinds)) ≡ cause7 s
 unfolding kindCount
 kinds-all s t h = ap (any badKind) (take-all t (content s .kinds) h) ∙ sym (cause7-is s)
 
@@ -144,11 +144,11 @@ module _ (s : List ℕ) (e : refusalTo6 s ≡ 0) where
     pub list-reads : Reads (many readKind n (take (base + size - base) (drop base s))) (length (take (base + size - base) (drop base s)))
     list-reads = subst (Reads (many readKind n (take (base + size - base) (drop base s)))) (sym length-list) (reads-from _ _ _ got-list)
 
-    pub kind-count : kindCount (content s) ≡ n
+    pub kind-count : kindCount (content s .kinds) ≡ n
     unfolding kindCount
     kind-count = many-length readKind n _ _ _ got-list
 
-    gap-in : (o m : ℕ) (k : Kind) → o ≡ classesAt s → m ≡ classesStated s → gapIn (classesFrom s o m) k ≡ kindGap (content s) k
+    gap-in : (o m : ℕ) (k : Kind) → o ≡ classesAt s → m ≡ classesStated s → gapIn (classesFrom s o m) k ≡ kindGap (content s .classes) k
     unfolding gapIn kindGap content
     gap-in o m k eo em = rw (eo, em, ← (classes-are s))
 
@@ -156,9 +156,9 @@ module _ (s : List ℕ) (e : refusalTo6 s ≡ 0) where
     pub view-is : (o m : ℕ) (v : View) → o ≡ classesAt s → m ≡ classesStated s
         → Built (classesFrom s o m) (take (base + size - base) (drop base s)) base n (length (take (base + size - base) (drop base s))) (tableIn v)
         → v .width ≡ boardOf s .W → v .length ≡ boardOf s .L → v .step ≡ boardOf s .g
-        → v .rows ≡ v .width / v .step + 1 → v .columns ≡ v .length / v .step + 1 → v .kinds ≡ n → ViewOf s v
+        → v .rows ≡ v .width / v .step + 1 → v .columns ≡ v .length / v .step + 1 → v .margin ≤ 63 → v .kinds ≡ n → ViewOf s v
     unfolding content rows columns pieceCount kindAt
-    view-is o m v eo em b ew el eg er ec ek =
+    view-is o m v eo em b ew el eg er ec em′ ek =
         let vs : valuesOf (many readKind n (take (base + size - base) (drop base s))) ≡ content s .kinds = values-from _ _ _ got-list in
         record {
           width = ew;
@@ -166,6 +166,7 @@ module _ (s : List ℕ) (e : refusalTo6 s ≡ 0) where
           step = eg;
           rows = er ∙ ap₂ (λ a c. a / c + 1) ew eg;
           columns = ec ∙ ap₂ (λ a c. a / c + 1) el eg;
+          margin = em′;
           kinds = ek ∙ sym kind-count;
           pieces = b .demanded ∙ ap (λ l. sum (map (λ k. k .demand) l)) vs;
           kind = λ t h.
@@ -176,9 +177,43 @@ module _ (s : List ℕ) (e : refusalTo6 s ≡ 0) where
                 gap = st .gap ∙ gap-in o m _ eo em;
                 parts = st .parts;
                 fewParts = st .fewParts;
-                part = λ i q. part-at s _ _ (subst₂ (λ l c. FoundAt l c (getD (v .«part_at») (t * 6 + i) 0) (getD (kindAt (content s) t .parts) i [])) (list-is s base size eb es) eb (st .part i q));
+                part = λ i q. part-at s _ _ (subst₂ (λ l c. FoundAt l c (getD (v .«part_at») (t * 6 + i) 0) (getD (kindAt (content s .kinds) t .parts) i [])) (list-is s base size eb es) eb (st .part i q));
               };
         }
+
+-- The view with another margin.
+abbrev pub clamped : View → ℕ → View
+clamped v m =
+    record {
+      width = v .width;
+      length = v .length;
+      step = v .step;
+      rows = v .rows;
+      columns = v .columns;
+      margin = m;
+      kinds = v .kinds;
+      pieces = v .pieces;
+      demands = v .demands;
+      rotations = v .rotations;
+      gaps = v .gaps;
+      parts = v .parts;
+      «part_at» = v .«part_at»;
+    }
+
+-- It is a view of the same job, if the margin is allowed.
+pub with-margin : (s : List ℕ) (v : View) (m : ℕ) → m ≤ 63 → ViewOf s v → ViewOf s (clamped v m)
+with-margin s v m h x =
+    record {
+      width = x .width;
+      len = x .len;
+      step = x .step;
+      rows = x .rows;
+      columns = x .columns;
+      margin = h;
+      kinds = x .kinds;
+      pieces = x .pieces;
+      kind = λ t l. let k = x .kind t l in record { demand = k .demand; rotations = k .rotations; gap = k .gap; parts = k .parts; fewParts = k .fewParts; part = k .part };
+    }
 
 -- The board that was read is that of the job.
 pub board-read : (s : List ℕ) (o : ℕ) (b : Board) → o ≡ boardAt s → BoardIn s o b
@@ -217,7 +252,7 @@ refusal-seven s t e q =
     let n = no-six s e in
     refusal-is s ∙ rw (n .no1, n .no2, n .no3, n .no4, n .no5, n .no6, q)
 
-pub few-kinds : (s : List ℕ) → refusalTo6 s ≡ 0 → kindCount (content s) ≤ 8
+pub few-kinds : (s : List ℕ) → refusalTo6 s ≡ 0 → kindCount (content s .kinds) ≤ 8
 unfolding kindCount kindsGot
 few-kinds s e =
     let k = kinds-in s e in

@@ -7,6 +7,7 @@ use Rattle.model.specs.Content.{Part, Kind, kindAt, kindCount, pieceCount}
 use Rattle.model.specs.Format.{byteAt, vertices, content}
 use Rattle.model.specs.Gap.{kindGap}
 use Rattle.model.specs.Grid.{rows, columns}
+use Rattle.model.specs.Problem.{Problem, under}
 use Rattle.job.specs.declared.View.{View}
 
 -- The part P stands in the bytes s from byte o on: the number of its corners, then their coordinates.
@@ -21,18 +22,23 @@ pub record PartAt (s : List ℕ) (o : ℕ) (P : Part) : Type 0 where
 pub record KindIn (s : List ℕ) (v : View) (t : ℕ) (k : Kind) : Type 0 where
   pub demand : getD (v .demands) t 0 ≡ k .demand
   pub rotations : getD (v .rotations) t 0 ≡ k .rotations
-  pub gap : getD (v .gaps) t 0 ≡ kindGap (content s) k
+  pub gap : getD (v .gaps) t 0 ≡ kindGap (content s .classes) k
   pub parts : getD (v .parts) t 0 ≡ length (k .parts)
   pub fewParts : length (k .parts) ≤ 6
   pub part : (i : ℕ) → i < length (k .parts) → PartAt s (getD (v .«part_at») (t * 6 + i) 0) (getD (k .parts) i [])
 
--- The view is that of the job's bytes.
+-- The view is that of the job's bytes, under a margin that is allowed.
 pub record ViewOf (s : List ℕ) (v : View) : Type 0 where
   pub width : v .width ≡ content s .sheet .W
   pub len : v .length ≡ content s .sheet .L
   pub step : v .step ≡ content s .sheet .g
   pub rows : v .rows ≡ rows (content s .sheet)
   pub columns : v .columns ≡ columns (content s .sheet)
-  pub kinds : v .kinds ≡ kindCount (content s)
-  pub pieces : v .pieces ≡ pieceCount (content s)
-  pub kind : (t : ℕ) → t < kindCount (content s) → KindIn s v t (kindAt (content s) t)
+  pub margin : v .margin ≤ 63
+  pub kinds : v .kinds ≡ kindCount (content s .kinds)
+  pub pieces : v .pieces ≡ pieceCount (content s .kinds)
+  pub kind : (t : ℕ) → t < kindCount (content s .kinds) → KindIn s v t (kindAt (content s .kinds) t)
+
+-- The problem that a view shows: the job's content under the view's margin.
+abbrev pub problemOf : List ℕ → View → Problem
+problemOf s v = under (v .margin) (content s)

@@ -14,6 +14,7 @@ ghost use Rattle.job.specs.Refusal.{refusalTo6};
 ghost use Rattle.job.specs.Soundness.{badAt, badKind};
 ghost use Rattle.job.specs.View.{ViewOf};
 
+// The view without a margin.
 pub fn view_of(job: &[u8]) -> View
     requires { ⌜ refusalTo6 (now job) ≡ 0 ⌝ }
     ensures { λ r. ⌜ ViewOf (now (job .entry)) r ⌝ }
@@ -41,6 +42,7 @@ pub fn view_of(job: &[u8]) -> View
         step: b.step,
         rows: board::multiples(b.width, b.step),
         columns: board::multiples(b.length, b.step),
+        margin: 0,
         kinds: t.kind_count,
         pieces: table.pieces,
         demands,
@@ -62,8 +64,8 @@ fn part_refused(job: &[u8], o: usize) -> bool
 
 // Some part of kind t is refused.
 fn kind_refused(job: &[u8], view: View, t: usize) -> bool
-    requires { ⌜ (ViewOf (now job) view × (kindCount (content (now job)) ≤ 8)) × (t < kindCount (content (now job))) ⌝ }
-    ensures { λ r. ⌜ r ≡ badKind (kindAt (content (now (job .entry))) t) ⌝ }
+    requires { ⌜ (ViewOf (now job) view × (kindCount (content (now job) .kinds) ≤ 8)) × (t < kindCount (content (now job) .kinds)) ⌝ }
+    ensures { λ r. ⌜ r ≡ badKind (kindAt (content (now (job .entry)) .kinds) t) ⌝ }
 {
     let n = view.parts[t];
     let mut refused = false;
@@ -77,7 +79,7 @@ fn kind_refused(job: &[u8], view: View, t: usize) -> bool
 
 // Cause 7: some part of some kind is refused.
 pub fn unsound(job: &[u8], view: View) -> bool
-    requires { ⌜ ViewOf (now job) view × (kindCount (content (now job)) ≤ 8) ⌝ }
+    requires { ⌜ ViewOf (now job) view × (kindCount (content (now job) .kinds) ≤ 8) ⌝ }
     ensures { λ r. ⌜ r ≡ cause7 (now (job .entry)) ⌝ }
 {
     let n = view.kinds;

@@ -1,7 +1,8 @@
-// An accepted job: the first of the sender's causes of refusal, 1 to 7, and the view that the layers above use.
+// An accepted job: the first of the sender's causes of refusal, 1 to 7, and 13 for a margin; and the view that the layers above use.
 
 ghost use mathlib.Core.Path.{_≡_};
 ghost use Rattle.model.specs.Format.{refusal};
+ghost use Rattle.model.specs.Services.{refusalUnder};
 ghost use Rattle.job.specs.View.{ViewOf};
 
 mod accepted;
@@ -10,7 +11,7 @@ mod gaps;
 mod places;
 mod table;
 
-// What the layers above use of an accepted job: numbers, and where each part's bytes begin. Of each array the first
+// What the layers above use of an accepted job under a margin: numbers, and where each part's bytes begin. Of each array the first
 // `kinds` entries count; of `part_at` the entries t * 6 + i for part i of kind t.
 pub struct View {
     pub width: usize,
@@ -18,6 +19,7 @@ pub struct View {
     pub step: usize,
     pub rows: usize,
     pub columns: usize,
+    pub margin: usize,
     pub kinds: usize,
     pub pieces: usize,
     pub demands: [usize; 8],
@@ -41,6 +43,7 @@ fn no_view() -> View {
         step: 0,
         rows: 0,
         columns: 0,
+        margin: 0,
         kinds: 0,
         pieces: 0,
         demands: [0usize; 8],
@@ -51,7 +54,7 @@ fn no_view() -> View {
     }
 }
 
-// Reads a job. Type records are judged whole, cause 6, before any part's soundness, cause 7.
+// Reads a job, without a margin. Type records are judged whole, cause 6, before any part's soundness, cause 7.
 pub fn open(job: &[u8]) -> Opened
     ensures { λ r. ⌜ r .refusal ≡ refusal (now (job .entry)) ⌝ }
     ensures { λ r. ⌜ (r .refusal ≡ 0 → ViewOf (now (job .entry)) (r .view)) ⌝ }
@@ -68,5 +71,23 @@ pub fn open(job: &[u8]) -> Opened
     if accepted::unsound(job, view) {
         return Opened { refusal: 7, view };
     }
+    Opened { refusal: 0, view }
+}
+
+// Reads a job under a margin. The margin is judged after the job.
+pub fn open_under(job: &[u8], margin: usize) -> Opened
+    ensures { λ r. ⌜ r .refusal ≡ refusalUnder margin (now (job .entry)) ⌝ }
+    ensures { λ r. ⌜ (r .refusal ≡ 0 → ViewOf (now (job .entry)) (r .view) × (r .view .margin ≡ margin)) ⌝ }
+{
+    let opened = open(job);
+    let refusal = opened.refusal;
+    let mut view = opened.view;
+    if refusal != 0 {
+        return Opened { refusal, view };
+    }
+    if margin > 63 {
+        return Opened { refusal: 13, view };
+    }
+    view.margin = margin;
     Opened { refusal: 0, view }
 }

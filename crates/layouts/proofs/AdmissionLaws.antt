@@ -8,10 +8,12 @@ use native.Mathlib.Nat.{max-comm}
 use native.Mathlib.Omega.{arith}
 use borrow.Author.Tests.{ltb-true, lt-ltb, le-ltb}
 use lib.Dec.{ltb}
-use lib.IntN.{ℤ, pos, negsuc, _+ℤ_}
+use lib.IntN.{ℤ, pos, negsuc, _+ℤ_, _-ℤ_}
 use lib.ListN.{length, getD, length-map}
 use lib.Signed.{leZ}
-use Rattle.integers.proofs.Order.{leZ-true, ≤ℤ-pos}
+use Rattle.integers.proofs.Linear.{linear, _⊩_}
+use Rattle.integers.proofs.Order.{leZ-true, ≤ℤ-pos, pos-≤ℤ}
+use Rattle.integers.proofs.Solver.{#, _⊟_, _≲_}
 use Rattle.words.specs.Bits.{testBit}
 use Rattle.words.proofs.Bit.{testBit-above}
 use Rattle.words.proofs.Cases.{le-or-lt}
@@ -51,10 +53,11 @@ pub record Standing (v : View) (b : Boxes) (e : Entry) : Type 0 where
 few-turns : (w k : ℕ) → w < 16 → testBit w k ≡ true → k < 4
 few-turns w k h e = ⊎-elim (λ l. absurd (not-both e (testBit-above w 4 k h l))) (λ l. l) (le-or-lt 4 k)
 
-natural-bound : (z : ℤ) (n : ℕ) → leZ z (pos n) ≡ true → natural z ≤ n
+natural-bound : (z : ℤ) (n m : ℕ) → leZ z (pos n -ℤ pos m) ≡ true → natural z ≤ n
 unfolding natural
-natural-bound (pos m) n e = ≤ℤ-pos (leZ-true (pos m) (pos n) e)
-natural-bound (negsuc m) n e = omega arith
+natural-bound (pos k) n m e =
+    ≤ℤ-pos (linear 3 (λ z n m. (z ≲ n ⊟ m) ∷ (# (pos 0) ≲ m) ∷ [] ⊩ z ≲ n) (pos k) (pos n) (pos m) (omega arith) (leZ-true (pos k) (pos n -ℤ pos m) e) (pos-≤ℤ (omega arith)))
+natural-bound (negsuc k) n m e = omega arith
 
 pub standing : (v : View) (b : Boxes) (e : Entry) → Bounded v → admittedBy v b e ≡ true → Standing v b e
 unfolding admittedBy placeable fitsAt within extentAt
@@ -73,7 +76,7 @@ standing v b e h a =
       column = ltb-true _ _ (and-left _ _ dots);
       row = ltb-true _ _ (and-right (ltb c (v .columns)) _ dots);
       rotation = few-turns (getD (v .rotations) t 0) k (h .rotations t kind) turn;
-      ends = natural-bound (boxAt b t k .«max_x» +ℤ pos (c * v .step)) (v .length) (and-right (leZ (pos 0) (boxAt b t k .«min_x» +ℤ pos (c * v .step))) _ (and-left _ _ box));
+      ends = natural-bound (boxAt b t k .«max_x» +ℤ pos (c * v .step)) (v .length) (v .margin) (and-right (leZ (pos (v .margin)) (boxAt b t k .«min_x» +ℤ pos (c * v .step))) _ (and-left _ _ box));
     }
 
 -- ---- all entries

@@ -11,16 +11,18 @@ use lib.Dec.{ltb, eqb}
 use lib.ListN.{length}
 use Rattle.words.specs.Number.{count}
 use Rattle.words.proofs.Cases.{le-or-lt}
-use Rattle.model.specs.Content.{Kind, Job, kindCount, pieceCount}
+use Rattle.model.specs.Content.{Kind, kindCount, pieceCount}
 use Rattle.model.specs.Format.{Got, bad, got, refusal, content, cause6, kindsUnfit, classesOf, kindsLength, kindsGot, kindsIn, kindsStated}
 use Rattle.model.specs.Grid.{numberOf, rows}
-use Rattle.model.specs.Layout.{Entry, Layout, entryNumber, entryKind, isEntry, entryExtent, inOrder, ordered, copies, demandMet, apart, passes, layoutLength}
+use Rattle.model.specs.Layout.{Entry, Layout, entryNumber, entryKind, isEntry, entryExtent, inOrder, ordered, copies, demandMet, apart, passes, largestEnd, layoutLength}
 use Rattle.model.specs.Lists.{all, sum, largest, rising, below, between}
-use Rattle.model.specs.Services.{entryIn, layoutIn, numbersIn, cause11, check}
+use Rattle.model.specs.Problem.{Problem, under}
+use Rattle.model.specs.Services.{entryIn, layoutIn, numbersIn, refusalUnder, cause11, checkContent, check}
 use Rattle.model.specs.declared.Checked.the-variants as C
 use Rattle.model.proofs.Causes.{no-cause}
 use Rattle.model.proofs.Lists.{and-left, and-right, or-left, or-right, not-both, below-all, all-below}
 use Rattle.model.proofs.Search.Pieces.{entry-kind}
+use Rattle.job.specs.View.{problemOf}
 use Rattle.job.specs.declared.View.{View}
 use Rattle.shapes.specs.Boxes.{BoxesOf}
 use Rattle.candidates.specs.Placements.{placeable}
@@ -29,7 +31,7 @@ use Rattle.shapes.specs.declared.boxes.Boxes.{Boxes}
 use Rattle.candidates.proofs.PreparedLaws.{placeable-is, extent-is}
 use Rattle.shapes.proofs.ViewLaws.{kind-in}
 use Rattle.layouts.specs.Entries.{entriesIn}
-use Rattle.layouts.specs.Passing.{inOrderBy, orderedBy, demandedBy, demandMetBy, admittedBy, extentBy, checkedAs}
+use Rattle.layouts.specs.Passing.{inOrderBy, orderedBy, demandedBy, demandMetBy, admittedBy, extentBy}
 use Rattle.layouts.proofs.ClearanceLaws.{of-kind, turned-once}
 
 -- ---- tests that agree
@@ -51,7 +53,7 @@ all-below-same p q n h = go (all p (below n)) (all q (below n)) refl refl
 
 -- ---- order
 
-module _ (j : Job) where
+module _ (j : Problem) where
   -- each entry before the next, entry by entry
   ordered-rising : (f : ℕ → Entry) (i k : ℕ) → ordered j (map f (rising i (suc k))) ≡ all (λ m. inOrder j (f m) (f (m + 1))) (rising i k)
   unfolding ordered all rising
@@ -73,7 +75,7 @@ module _ (j : Job) where
 -- ---- the pieces
 
 -- "the demands sum to N, at most 12"
-pub few-pieces : (s : List ℕ) → refusal s ≡ 0 → pieceCount (content s) ≤ 12
+pub few-pieces : (s : List ℕ) → refusal s ≡ 0 → pieceCount (content s .kinds) ≤ 12
 unfolding pieceCount content cause6 kindsUnfit kindsIn
 few-pieces s e = go (kindsGot s) (or-right (not (between 1 8 (kindsStated s))) _ (no-cause s e .no6))
   where
@@ -82,52 +84,56 @@ few-pieces s e = go (kindsGot s) (or-right (not (between 1 8 (kindsStated s))) _
     go (got ks m) u = ltb-false _ _ (or-right (not (eqb m (kindsLength s))) _ (or-left _ _ u))
 
 module _ (s : List ℕ) (v : View) (x : Viewed s v) where
-  pub demand-is : (layout : List ℕ) (n : ℕ) → demandMetBy v layout n ≡ demandMet (content s) (entriesIn layout n)
+  pub demand-is : (layout : List ℕ) (n : ℕ) → demandMetBy v layout n ≡ demandMet (problemOf s v) (entriesIn layout n)
   unfolding demandMetBy demandMet
   demand-is layout n =
       ap (λ m. all (demandedBy (v .demands) layout n) (below m)) (x .view .kinds)
-      ∙ all-below-same _ _ (kindCount (content s)) (λ t l. ap (eqb (copies t (entriesIn layout n))) (kind-in s v x t l .demand))
+      ∙ all-below-same _ _ (kindCount (content s .kinds)) (λ t l. ap (eqb (copies t (entriesIn layout n))) (kind-in s v x t l .demand))
 
   module _ (b : Boxes) (y : BoxesOf s b) where
     -- ---- candidates
     -- of a kind past the last one there is none
-    beyond : (e : Entry) → kindCount (content s) ≤ e .kind → admittedBy v b e ≡ isEntry (content s) e
+    beyond : (e : Entry) → kindCount (content s .kinds) ≤ e .kind → admittedBy v b e ≡ isEntry (problemOf s v) e
     unfolding admittedBy
-    beyond e h = rw (x .view .kinds, le-ltb (e .kind) (kindCount (content s)) h) (none (isEntry (content s) e) refl)
+    beyond e h = rw (x .view .kinds, le-ltb (e .kind) (kindCount (content s .kinds)) h) (none (isEntry (problemOf s v) e) refl)
       where
-        none : (c : Bool) → isEntry (content s) e ≡ c → false ≡ c
+        none : (c : Bool) → isEntry (problemOf s v) e ≡ c → false ≡ c
         none false d = refl
-        none true d = let l : e .kind < kindCount (content s) = entry-kind (content s) e d in absurd (omega arith)
+        none true d = let l : e .kind < kindCount (content s .kinds) = entry-kind (problemOf s v) e d in absurd (omega arith)
 
-    known : (e : Entry) → e .kind < kindCount (content s) → admittedBy v b e ≡ isEntry (content s) e
+    known : (e : Entry) → e .kind < kindCount (content s .kinds) → admittedBy v b e ≡ isEntry (problemOf s v) e
     unfolding admittedBy isEntry entryKind
     known e h =
-        ap (λ w. w && placeable v b (e .kind) (e .place .column) (e .place .row) (e .place .rotation)) (ap (ltb (e .kind)) (x .view .kinds) ∙ lt-ltb (e .kind) (kindCount (content s)) h)
+        ap (λ w. w && placeable v b (e .kind) (e .place .column) (e .place .row) (e .place .rotation)) (ap (ltb (e .kind)) (x .view .kinds) ∙ lt-ltb (e .kind) (kindCount (content s .kinds)) h)
         ∙ placeable-is s v b x y (e .kind) h (e .place .column) (e .place .row) (e .place .rotation)
 
-    pub admitted-is : (e : Entry) → admittedBy v b e ≡ isEntry (content s) e
-    admitted-is e = ⊎-elim (beyond e) (known e) (le-or-lt (kindCount (content s)) (e .kind))
+    pub admitted-is : (e : Entry) → admittedBy v b e ≡ isEntry (problemOf s v) e
+    admitted-is e = ⊎-elim (beyond e) (known e) (le-or-lt (kindCount (content s .kinds)) (e .kind))
 
-    pub all-admitted-is : (es : Layout) → all (admittedBy v b) es ≡ all (isEntry (content s)) es
+    pub all-admitted-is : (es : Layout) → all (admittedBy v b) es ≡ all (isEntry (problemOf s v)) es
     all-admitted-is es = all-same _ _ es admitted-is
 
     -- ---- the length
-    end-is : (e : Entry) → isEntry (content s) e ≡ true → extentBy v b e ≡ entryExtent (content s) e
+    end-is : (e : Entry) → isEntry (problemOf s v) e ≡ true → extentBy v b e ≡ entryExtent (problemOf s v) e
     unfolding entryExtent entryKind
     end-is e h = extent-is s v b x y (e .kind) (of-kind s v x e h) (e .place .column) (e .place .row) (e .place .rotation) (turned-once s v x e h)
 
-    pub length-is : (es : Layout) → all (isEntry (content s)) es ≡ true → largest (map (extentBy v b) es) ≡ layoutLength (content s) es
-    unfolding layoutLength largest all
-    length-is [] h = refl
-    length-is (e ∷ es) h = ap₂ max (end-is e (and-left _ _ h)) (length-is es (and-right (isEntry (content s) e) _ h))
+    ends-are : (es : Layout) → all (isEntry (problemOf s v)) es ≡ true → largest (map (extentBy v b) es) ≡ largestEnd (problemOf s v) es
+    unfolding largestEnd largest all
+    ends-are [] h = refl
+    ends-are (e ∷ es) h = ap₂ max (end-is e (and-left _ _ h)) (ends-are es (and-right (isEntry (problemOf s v) e) _ h))
+
+    pub length-is : (es : Layout) → all (isEntry (problemOf s v)) es ≡ true → largest (map (extentBy v b) es) + v .margin ≡ layoutLength (problemOf s v) es
+    unfolding layoutLength
+    length-is es h = ap (λ n. n + v .margin) (ends-are es h)
 
 -- ---- passing
 
-pub layout-is : (j : Job) (s : List ℕ) (n : ℕ) → n ≡ pieceCount j → entriesIn s n ≡ layoutIn j s
+pub layout-is : (j : Problem) (s : List ℕ) (n : ℕ) → n ≡ pieceCount (j .kinds) → entriesIn s n ≡ layoutIn j s
 unfolding entriesIn layoutIn
 layout-is j s n e = ap (λ (m : ℕ). map (entryIn s) (below m)) e
 
-module _ (j : Job) (es : Layout) where
+module _ (j : Problem) (es : Layout) where
   -- what is tested before conflicts are
   abbrev pub stated : Bool
   stated = ordered j es && demandMet j es && all (isEntry j) es
@@ -149,31 +155,31 @@ module _ (j : Job) (es : Layout) where
 
 -- ---- the answers on an accepted job
 
-module _ (j : Job) (s : List ℕ) where
-  pub wrong-count : (n : ℕ) → n ≡ pieceCount j → (length s / 2 ≡ 4 * n → ⊥) → C.Refused 11 ≡ checkedAs j s
-  unfolding checkedAs cause11 numbersIn count
-  wrong-count n e h = rw (ne-eqb (length s / 2) (4 * pieceCount j) (λ q. h (q ∙ ap (λ m. 4 * m) (sym e))))
+module _ (j : Problem) (s : List ℕ) where
+  pub wrong-count : (n : ℕ) → n ≡ pieceCount (j .kinds) → (length s / 2 ≡ 4 * n → ⊥) → C.Refused 11 ≡ checkContent j s
+  unfolding checkContent cause11 numbersIn count
+  wrong-count n e h = rw (ne-eqb (length s / 2) (4 * pieceCount (j .kinds)) (λ q. h (q ∙ ap (λ m. 4 * m) (sym e))))
 
-  module _ (n : ℕ) (e : n ≡ pieceCount j) (h : length s / 2 ≡ 4 * n) where
-    right-count : eqb (numbersIn s) (4 * pieceCount j) ≡ true
+  module _ (n : ℕ) (e : n ≡ pieceCount (j .kinds)) (h : length s / 2 ≡ 4 * n) where
+    right-count : eqb (numbersIn s) (4 * pieceCount (j .kinds)) ≡ true
     unfolding numbersIn count
-    right-count = eq-eqb (length s / 2) (4 * pieceCount j) (h ∙ ap (λ m. 4 * m) e)
+    right-count = eq-eqb (length s / 2) (4 * pieceCount (j .kinds)) (h ∙ ap (λ m. 4 * m) e)
 
-    pub not-passed : passes j (layoutIn j s) ≡ false → C.Refused 11 ≡ checkedAs j s
-    unfolding checkedAs cause11
+    pub not-passed : passes j (layoutIn j s) ≡ false → C.Refused 11 ≡ checkContent j s
+    unfolding checkContent cause11
     not-passed p = rw (right-count, p)
 
-    pub passed : (r : ℕ) → passes j (layoutIn j s) ≡ true → r ≡ layoutLength j (layoutIn j s) → C.Passes r ≡ checkedAs j s
-    unfolding checkedAs cause11
+    pub passed : (r : ℕ) → passes j (layoutIn j s) ≡ true → r ≡ layoutLength j (layoutIn j s) → C.Passes r ≡ checkContent j s
+    unfolding checkContent cause11
     passed r p q = rw (right-count, p) (ap C.Passes q)
 
--- ---- the job's own refusals
+-- ---- the refusals of the job and of the margin
 
-module _ (s layout : List ℕ) where
-  pub check-refused : (refusal s ≡ 0 → ⊥) → check s layout ≡ C.Refused (refusal s)
+module _ (s : List ℕ) (m : ℕ) (layout : List ℕ) where
+  pub check-refused : (refusalUnder m s ≡ 0 → ⊥) → check s m layout ≡ C.Refused (refusalUnder m s)
   unfolding check
-  check-refused h = rw (ne-eqb (refusal s) 0 h, check)
+  check-refused h = rw (ne-eqb (refusalUnder m s) 0 h, check)
 
-  pub check-accepted : refusal s ≡ 0 → check s layout ≡ checkedAs (content s) layout
-  unfolding check checkedAs
-  check-accepted h = rw (eq-eqb (refusal s) 0 h, check)
+  pub check-accepted : refusalUnder m s ≡ 0 → check s m layout ≡ checkContent (under m (content s)) layout
+  unfolding check
+  check-accepted h = rw (eq-eqb (refusalUnder m s) 0 h, check)

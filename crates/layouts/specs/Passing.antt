@@ -6,13 +6,12 @@ use mathlib.Core.Path.{_≡_}
 use Prim.Native.Nat.{ℕ, _+_, _*_, _-_, _≤_, _<_}
 use lib.Dec.{ltb, eqb}
 use lib.ListN.{length, getD}
-use Rattle.model.specs.Content.{Job, pieceCount}
+use Rattle.model.specs.Content.{pieceCount}
 use Rattle.model.specs.Format.{content}
-use Rattle.model.specs.Layout.{Entry, copies, isEntry, layoutLength}
+use Rattle.model.specs.Layout.{Entry, copies, isEntry}
 use Rattle.model.specs.Lists.{all, below}
-use Rattle.model.specs.Services.{entryIn, layoutIn, cause11}
-use Rattle.model.specs.declared.Checked.{Checked}
-use Rattle.model.specs.declared.Checked.the-variants as C
+use Rattle.model.specs.Problem.{Problem}
+use Rattle.model.specs.Services.{entryIn}
 use Rattle.job.specs.declared.View.{View}
 use Rattle.candidates.specs.Placements.{placeable, extentAt}
 use Rattle.shapes.specs.declared.boxes.Boxes.{Boxes}
@@ -50,17 +49,13 @@ admittedBy v b e = ltb (e .kind) (v .kinds) && placeable v b (e .kind) (e .place
 abbrev pub extentBy : View → Boxes → Entry → ℕ
 extentBy v b e = extentAt v b (e .kind) (e .place .column) (e .place .rotation)
 
--- The first n entries of the layout stand in its bytes, and each is a candidate of the job.
-pub record Offered (job layout : List ℕ) (n : ℕ) : Type 0 where
+-- The first n entries of the layout stand in its bytes, and each is a candidate.
+pub record Offered (j : Problem) (layout : List ℕ) (n : ℕ) : Type 0 where
   pub few : n ≤ 12
   pub whole : n * 8 ≤ length layout
-  pub each : (i : ℕ) → i < n → isEntry (content job) (entryIn layout i) ≡ true
+  pub each : (i : ℕ) → i < n → isEntry j (entryIn layout i) ≡ true
 
 -- The layout's bytes hold the first n entries, and n is the number of the job's pieces.
 pub record Handed (job layout : List ℕ) (n : ℕ) : Type 0 where
-  pub count : n ≡ pieceCount (content job)
+  pub count : n ≡ pieceCount (content job .kinds)
   pub whole : n * 8 ≤ length layout
-
--- What the check service answers for an accepted job.
-unfoldable pub checkedAs : Job → List ℕ → Checked
-checkedAs j layout = cond (cause11 j layout) (C.Refused 11) (C.Passes (layoutLength j (layoutIn j layout)))

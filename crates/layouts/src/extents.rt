@@ -2,7 +2,7 @@
 ghost use mathlib.Core.Bool.{true};
 ghost use mathlib.Core.List.{map};
 ghost use mathlib.Core.Path.{_≡_};
-ghost use Prim.Native.Nat.{_*_, _≤_, _<_, max};
+ghost use Prim.Native.Nat.{_+_, _*_, _≤_, _<_, max};
 ghost use lib.ListN.{length};
 ghost use Rattle.model.specs.Lists.{all, largest};
 ghost use Rattle.candidates.specs.Placements.{Bounded};
@@ -28,10 +28,10 @@ fn extent_of(view: View, boxes: Boxes, e: Entry) -> usize
     extent(view, boxes, e.kind, e.column, e.rotation)
 }
 
-// The largest of the n entries' ends.
+// The length of the n entries: the largest of their ends, plus the margin.
 pub fn length_of(view: View, boxes: Boxes, layout: &[u8], n: usize) -> usize
     requires { ⌜ ((Bounded view × (n ≤ 12)) × (n * 8 ≤ length (now layout))) × (all (admittedBy view boxes) (entriesIn (now layout) n) ≡ true) ⌝ }
-    ensures { λ r. ⌜ (r ≡ largest (map (extentBy view boxes) (entriesIn (now (layout .entry)) n))) × (r ≤ 1000) ⌝ }
+    ensures { λ r. ⌜ (r ≡ largest (map (extentBy view boxes) (entriesIn (now (layout .entry)) n)) + view .margin) × (r ≤ 1063) ⌝ }
 {
     let mut longest: usize = 0;
     let mut i: usize = 0;
@@ -39,5 +39,5 @@ pub fn length_of(view: View, boxes: Boxes, layout: &[u8], n: usize) -> usize
         longest = larger(longest, extent_of(view, boxes, entry_at(layout, i)));
         i += 1;
     }
-    longest
+    longest + view.margin
 }

@@ -17,12 +17,14 @@ use Rattle.words.proofs.Bit.{bitsWhere-lt, testBit-and, testBit-bitsWhere, test
 use Rattle.words.proofs.Cases.{le-or-lt}
 use Rattle.words.proofs.First.{lowest}
 use Rattle.model.specs.Candidate.{isCandidate}
-use Rattle.model.specs.Content.{Board, Job, kindCount}
+use Rattle.model.specs.Content.{Board, kindCount}
 use Rattle.model.specs.Format.{content, refusal}
 use Rattle.model.specs.Grid.{numberLimit, setWords}
 use Rattle.model.specs.Layout.{entryOf, conflict}
+use Rattle.model.specs.Problem.{Problem, under}
 use Rattle.model.proofs.Accepted.{accepted-kinds}
 use Rattle.model.proofs.Lists.{and-left, and-right}
+use Rattle.model.proofs.Margin.{candidate-less}
 use Rattle.model.proofs.Numbers.{rows-positive}
 use Rattle.stepping.proofs.Limits.{few-words}
 use Rattle.candidates.specs.Conflicts.{placedOf}
@@ -33,6 +35,7 @@ use Rattle.nofit.specs.declared.places.Nofit.{Nofit}
 use Rattle.candidates.proofs.PreparedLaws.{candidate-number}
 use Rattle.nofit.proofs.PatternLaws.{number-parts, parities, needed, far, blocked-number, z-rotation}
 use Rattle.plans.proofs.PlanLaws.{candidate-kind, plan-rows}
+use Rattle.plans.specs.Planned.{planned}
 use Rattle.plans.specs.declared.plan.Plan.{Plan}
 use Rattle.live_sets.specs.Known.{Known}
 use Rattle.live_sets.specs.Narrowing.{stays, BitsAdmitted}
@@ -91,14 +94,14 @@ unfolding numberLimit setWords
 limit-words b = omega arith
 
 -- The number of a candidate is small.
-pub number-small : (s : List ℕ) → refusal s ≡ 0 → (t n : ℕ) → isCandidate (content s) t n ≡ true → n < 4096
-number-small s e t n k = go (few-words s e) (candidate-number (content s) t n k)
+pub number-small : (s : List ℕ) → refusal s ≡ 0 → (t n : ℕ) → isCandidate (under 0 (content s)) t n ≡ true → n < 4096
+number-small s e t n k = go (few-words s e) (candidate-number (under 0 (content s)) t n k)
   where
     go : setWords (content s .sheet) ≤ 64 → n < numberLimit (content s .sheet) → n < 4096
     go h l = omega (arith, limit-words (content s .sheet))
 
 -- Kinds of the job and a rotation are those of the table.
-pub sought : (s : List ℕ) (w : Nofit) → MeasuresOf s w → (t q u : ℕ) → t < kindCount (content s) → q < 4 → u < kindCount (content s) → Sought w t q u
+pub sought : (s : List ℕ) (w : Nofit) → MeasuresOf s w → (t q u : ℕ) → t < kindCount (content s .kinds) → q < 4 → u < kindCount (content s .kinds) → Sought w t q u
 sought s w o t q u ht hq hu =
     record {
       few = omega (arith, o .kinds, accepted-kinds s (o .accepted) .few-kinds);
@@ -175,24 +178,24 @@ module _ (s : List ℕ) (w : Nofit) (bits : List ℕ) (t n : ℕ) (place : Place
   -- ---- out of reach
 
   -- Behind the reach all stay.
-  pub stays-behind : place .column * w .rows * 4 + w .reach * w .rows * 4 ≤ first → (m : ℕ) → first ≤ m → isCandidate (content s) u m ≡ true → stays (content s) t n u m ≡ true
+  pub stays-behind : place .column * w .rows * 4 + w .reach * w .rows * 4 ≤ first → (m : ℕ) → first ≤ m → isCandidate (under 0 (content s)) u m ≡ true → stays (under 0 (content s)) t n u m ≡ true
   stays-behind h m b l =
       let f = far-behind (w .rows) (w .reach) n m (some-rows s w (d .table .measures)) (d .table .measures .some) (omega (arith, column-rows)) in
-      stays-free (content s) t n u m (ap (λ (x : Bool). eqb t u && x) (lt-leb m n (f .0)) ∙ and-false (eqb t u))
-      (far s w (d .table .measures) t n u m (d .ordered) (d .exists) (d .candidate) l (inl (f .1)))
+      stays-free (under 0 (content s)) t n u m (ap (λ (x : Bool). eqb t u && x) (lt-leb m n (f .0)) ∙ and-false (eqb t u))
+      (far s w (d .table .measures) 0 t n u m (d .ordered) (d .exists) (d .candidate) l (inl (f .1)))
 
   -- Before it all stay that are of another kind, and none that is of the same.
   module _ (h : first + 64 + w .reach * w .rows * 4 ≤ place .column * w .rows * 4 + w .rows * 4) (m : ℕ) (b : m < first + 64) where
     before : (m < n) × (m / 4 / w .rows + w .reach ≤ n / 4 / w .rows)
     before = far-before (w .rows) (w .reach) n m (some-rows s w (d .table .measures)) (d .table .measures .some) (omega (arith, column-rows))
 
-    pub stays-before : (t ≡ u → ⊥) → isCandidate (content s) u m ≡ true → stays (content s) t n u m ≡ true
+    pub stays-before : (t ≡ u → ⊥) → isCandidate (under 0 (content s)) u m ≡ true → stays (under 0 (content s)) t n u m ≡ true
     stays-before q l =
-        stays-free (content s) t n u m (ap (λ (x : Bool). x && leb m n) (ne-eqb t u q))
-        (far s w (d .table .measures) t n u m (d .ordered) (d .exists) (d .candidate) l (inr (before .1)))
+        stays-free (under 0 (content s)) t n u m (ap (λ (x : Bool). x && leb m n) (ne-eqb t u q))
+        (far s w (d .table .measures) 0 t n u m (d .ordered) (d .exists) (d .candidate) l (inr (before .1)))
 
-    pub goes-before : t ≡ u → stays (content s) t n u m ≡ false
-    goes-before q = sym (stays-not-above (content s) t n u m (ap₂ _&&_ (eq-eqb t u q) (le-leb m n (omega (arith, before .0)))))
+    pub goes-before : t ≡ u → stays (under 0 (content s)) t n u m ≡ false
+    goes-before q = sym (stays-not-above (under 0 (content s)) t n u m (ap₂ _&&_ (eq-eqb t u q) (le-leb m n (omega (arith, before .0)))))
 
   -- ---- within reach
 
@@ -206,12 +209,12 @@ module _ (s : List ℕ) (w : Nofit) (bits : List ℕ) (t n : ℕ) (place : Place
     pub at-room : at + w .rows * 4 + 64 ≤ w .size * 64
     at-room = omega (arith, near .to, at-is, string-size s w (d .table .measures))
 
-    module _ (i : ℕ) (l : i < 64) (k : isCandidate (content s) u (first + i) ≡ true) where
+    module _ (i : ℕ) (l : i < 64) (k : isCandidate (under 0 (content s)) u (first + i) ≡ true) where
       abbrev lost : Bool
-      lost = (eqb t u && leb (first + i) n) || conflict (content s) (entryOf (content s) t n) (entryOf (content s) u (first + i))
+      lost = (eqb t u && leb (first + i) n) || conflict (under 0 (content s)) (entryOf (under 0 (content s)) t n) (entryOf (under 0 (content s)) u (first + i))
 
       asked : Needed (content s) t (n % 4) u ((first + i) % 4)
-      asked = needed s w (d .table .measures) t n u (first + i) (d .ordered) (d .exists) (d .candidate) k
+      asked = needed s w (d .table .measures) 0 t n u (first + i) (d .ordered) (d .exists) (d .candidate) k
 
       -- Where the row is not below the placed one's, the string for those rows has it.
       above-bit : place .row ≤ (first + i) / 4 % w .rows → member bits (stringStart w (aboveString w t (n % 4) u) + (at + i)) ≡ lost
@@ -223,9 +226,9 @@ module _ (s : List ℕ) (w : Nofit) (bits : List ℕ) (t n : ℕ) (place : Place
           let row : y + n / 4 % w .rows ≡ (first + i) / 4 % w .rows + 0 * w .rows = omega (arith, row-is) in
           let below : y < w .rows = omega (arith, mod-lt ((first + i) / 4) (some-rows s w (d .table .measures))) in
           let turn : z % 4 ≡ (first + i) % 4 =
-          z-rotation s w (d .table .measures) t n u (first + i) (d .ordered) (d .exists) (d .candidate) k 0 y z e row below in
+          z-rotation s w (d .table .measures) 0 t n u (first + i) (d .ordered) (d .exists) (d .candidate) k 0 y z e row below in
           d .table .strings .above t (n % 4) u z (subst (Needed (content s) t (n % 4) u) (sym turn) asked) (omega arith) (omega (arith, at-room)) (d .above)
-          ∙ blocked-number s w (d .table .measures) t n u (first + i) (d .ordered) (d .exists) (d .candidate) k 0 y z e row below
+          ∙ blocked-number s w (d .table .measures) 0 t n u (first + i) (d .ordered) (d .exists) (d .candidate) k 0 y z e row below
 
       -- Where it is below, the other has it.
       below-bit : (first + i) / 4 % w .rows < place .row → member bits (stringStart w (belowString w t (n % 4) u) + (at + w .rows * 4 + i)) ≡ lost
@@ -237,19 +240,19 @@ module _ (s : List ℕ) (w : Nofit) (bits : List ℕ) (t n : ℕ) (place : Place
           let row : y + n / 4 % w .rows ≡ (first + i) / 4 % w .rows + 1 * w .rows = omega (arith, row-is, row-below) in
           let below : y < w .rows = omega (arith, row-is, row-below) in
           let turn : z % 4 ≡ (first + i) % 4 =
-          z-rotation s w (d .table .measures) t n u (first + i) (d .ordered) (d .exists) (d .candidate) k 1 y z e row below in
+          z-rotation s w (d .table .measures) 0 t n u (first + i) (d .ordered) (d .exists) (d .candidate) k 1 y z e row below in
           d .table .strings .below t (n % 4) u z (subst (Needed (content s) t (n % 4) u) (sym turn) asked) (omega arith) (omega (arith, at-room)) (d .below)
-          ∙ blocked-number s w (d .table .measures) t n u (first + i) (d .ordered) (d .exists) (d .candidate) k 1 y z e row below
+          ∙ blocked-number s w (d .table .measures) 0 t n u (first + i) (d .ordered) (d .exists) (d .candidate) k 1 y z e row below
 
       -- Both, each in its rows.
       pub both-bits : (a b h : ℕ) → testBit a i ≡ member bits (stringStart w (aboveString w t (n % 4) u) + (at + i))
           → testBit b i ≡ member bits (stringStart w (belowString w t (n % 4) u) + (at + w .rows * 4 + i))
           → h < 2 ^ 64 → testBit h i ≡ leb (place .row) ((first + i) / 4 % w .rows)
-          → testBit (bitOr (bitAnd a h) (bitAnd b (2 ^ 64 - 1 - h))) i ≡ not (stays (content s) t n u (first + i))
+          → testBit (bitOr (bitAnd a h) (bitAnd b (2 ^ 64 - 1 - h))) i ≡ not (stays (under 0 (content s)) t n u (first + i))
       both-bits a b h ea eb small eh =
           testBit-or (bitAnd a h) (bitAnd b (2 ^ 64 - 1 - h)) i
           ∙ ap₂ _||_ (testBit-and a h i) (testBit-and b (2 ^ 64 - 1 - h) i ∙ ap (λ (x : Bool). testBit b i && x) (testBit-not 64 h i small l))
-          ∙ go (le-or-lt (place .row) ((first + i) / 4 % w .rows)) ∙ goes (content s) t n u (first + i)
+          ∙ go (le-or-lt (place .row) ((first + i) / 4 % w .rows)) ∙ goes (under 0 (content s)) t n u (first + i)
         where
           chosen : (x y : Bool) → ((x && true) || (y && not true)) ≡ x
           chosen true true = refl
@@ -303,23 +306,23 @@ module _ (s : List ℕ) (w : Nofit) (bits : List ℕ) (t n : ℕ) (place : Place
     pub blocked-bits : (up down a b h : ℕ) → up ≡ stringStart w (aboveString w t (place .rotation) u) → down ≡ stringStart w (belowString w t (place .rotation) u)
         → a ≡ bitsWhere 64 (λ i. member bits (up + at + i)) → b ≡ bitsWhere 64 (λ i. member bits (down + at + w .rows * 4 + i))
         → h < 2 ^ 64 → ((i : ℕ) → i < 64 → testBit h i ≡ leb (place .row) ((first + i) / 4 % w .rows))
-        → (i : ℕ) → i < 64 → isCandidate (content s) u (first + i) ≡ true
-        → testBit (bitOr (bitAnd a h) (bitAnd b (2 ^ 64 - 1 - h))) i ≡ not (stays (content s) t n u (first + i))
+        → (i : ℕ) → i < 64 → isCandidate (under 0 (content s)) u (first + i) ≡ true
+        → testBit (bitOr (bitAnd a h) (bitAnd b (2 ^ 64 - 1 - h))) i ≡ not (stays (under 0 (content s)) t n u (first + i))
     blocked-bits up down a b h eu ed ea eb small eh i l k = both-bits i l k a b h (above-read up eu a i ea l) (below-read down ed b i eb l) small (eh i l)
 
 -- ---- in a run
 
 -- A word with a bit is one of a kind that exists.
-pub word-kind : (j : Job) (u first x : ℕ) → x < 2 ^ 64 → (x ≡ 0 → ⊥) → BitsAdmitted j u first x → u < kindCount j
+pub word-kind : (j : Problem) (u first x : ℕ) → x < 2 ^ 64 → (x ≡ 0 → ⊥) → BitsAdmitted j u first x → u < kindCount (j .kinds)
 word-kind j u first x h q a =
     let f = lowest 64 x h q in
     candidate-kind j u (first + f .0) (a (f .0) (f .4))
 
 module _ (s : List ℕ) (p : Plan) (w : Nofit) (turned : List ℤ) (bits : List ℕ) (k : Known s p w turned bits) (t n : ℕ) (place : Placed)
-    (e : place ≡ placedOf (p .rows) n) (c : isCandidate (content s) t n ≡ true) (u first : ℕ) (exists : u < kindCount (content s)) where
+    (e : place ≡ placedOf (p .rows) n) (c : isCandidate (planned s p) t n ≡ true) (u first : ℕ) (exists : u < kindCount (content s .kinds)) where
   pub known-sought : Sought w t (place .rotation) u
   known-sought =
-      sought s w (k .nofit .measures) t (place .rotation) u (candidate-kind (content s) t n c) (omega (arith, ap (λ (p : Placed). p .rotation) e)) exists
+      sought s w (k .nofit .measures) t (place .rotation) u (candidate-kind (planned s p) t n c) (omega (arith, ap (λ (p : Placed). p .rotation) e)) exists
 
   -- Where the strings are held they are laid over the word.
   pub known-laid : first + 64 ≤ setWords (content s .sheet) * 64
@@ -330,7 +333,7 @@ module _ (s : List ℕ) (p : Plan) (w : Nofit) (turned : List ℤ) (bits : List 
       let both = and-right (leb t u) _ h in
       record {
         table = k .nofit;
-        candidate = c;
+        candidate = candidate-less 0 (p .margin) (omega arith) (content s) t n c;
         stands = e ∙ ap (λ (r : ℕ). placedOf r n) (plan-rows s p (k .plan) ∙ sym (k .nofit .measures .rows));
         ordered = leb-true t u (and-left (leb t u) _ h);
         exists = exists;

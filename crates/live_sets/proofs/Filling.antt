@@ -17,8 +17,8 @@ use Rattle.words.proofs.Member.{member-word, word-lt}
 use Rattle.words.proofs.Place.{numberAt-written, numberAt-other}
 use Rattle.words.proofs.Value.{length-bytes}
 use Rattle.model.proofs.Lists.{not-both}
-use Rattle.model.specs.Content.{Job}
 use Rattle.live_sets.specs.Narrowing.{stays, BitsAdmitted, Filled, Narrowable}
+use Rattle.model.specs.Problem.{Problem}
 
 module _ (s : List ℕ) (k v : ℕ) (fits : k * 8 + 8 ≤ length s) (small : v < 2 ^ 64) where
   -- The members of a word written, and of every other.
@@ -86,7 +86,7 @@ bits-where p first v e i l = ap (λ (w : ℕ). testBit w i) e ∙ testBit-bitsWh
 
 -- ---- A set made from the one of the level before
 
-module _ (j : Job) (t n u from to words : ℕ) (work₀ work : List ℕ) (r : Narrowable j t n u from to words work₀) (k : ℕ) (h : k < words)
+module _ (j : Problem) (t n u from to words : ℕ) (work₀ work : List ℕ) (r : Narrowable j t n u from to words work₀) (k : ℕ) (h : k < words)
     (f : Filled to k (λ m. member work₀ (from * 64 + m) && stays j t n u m) work₀ work) where
   -- A word of the first set has the members that it had at the beginning.
   word-same : (i : ℕ) → i < 64 → member work ((from + k) * 64 + i) ≡ member work₀ (from * 64 + (k * 64 + i))

@@ -6,31 +6,37 @@ use Prim.Native.Nat.{ℕ, _<_}
 use borrow.Author.Tests.{le-ltb, lt-ltb, leb-true, leb-false}
 use lib.Dec.{leb, ltb, eqb}
 use lib.IntN.{ℤ}
-use Rattle.model.specs.Content.{Job, kindAt, kindCount}
+use Rattle.model.specs.Content.{kindAt, kindCount, Job}
 use Rattle.model.specs.Format.{content}
 use Rattle.model.specs.Gap.{pairGap}
-use Rattle.model.specs.Layout.{entryOf, conflict}
+use Rattle.model.specs.Layout.{entryOf, conflict, entryKind}
+use Rattle.model.specs.Problem.{Problem, under}
 use Rattle.shapes.specs.Pieces.{PieceOf}
 use Rattle.shapes.specs.Turned.{TurnedOf}
 use Rattle.candidates.specs.Conflicts.{placedOf, conflictBetween}
 use Rattle.shapes.specs.declared.pieces.Piece.{Piece}
 use Rattle.candidates.proofs.PreparedLaws.{numbers-conflict}
-use Rattle.plans.specs.Planned.{PlanOf}
+use Rattle.plans.specs.Planned.{PlanOf, planned}
 use Rattle.plans.proofs.PlanLaws.{plan-viewed}
 use Rattle.live_sets.specs.Narrowing.{stays}
 use Rattle.plans.specs.declared.plan.Plan.{Plan}
 
 -- The conflict of two candidates, by the corners of their kinds.
 pub corners-conflict : (s : List ℕ) (p : Plan) (table : List ℤ) → PlanOf s p → TurnedOf s table
-    → (t n u m : ℕ) (first second : Piece) (gap : ℕ) → t < kindCount (content s) → u < kindCount (content s)
-    → PieceOf s t first → PieceOf s u second → gap ≡ pairGap (content s) (kindAt (content s) t) (kindAt (content s) u)
-    → conflictBetween table (p .step) first (placedOf (p .rows) n) second (placedOf (p .rows) m) gap ≡ conflict (content s) (entryOf (content s) t n) (entryOf (content s) u m)
+    → (t n u m : ℕ) (first second : Piece) (gap : ℕ) → t < kindCount (content s .kinds) → u < kindCount (content s .kinds)
+    → PieceOf s t first → PieceOf s u second → gap ≡ pairGap (content s .classes) (kindAt (content s .kinds) t) (kindAt (content s .kinds) u)
+    → conflictBetween table (p .step) first (placedOf (p .rows) n) second (placedOf (p .rows) m) gap ≡ conflict (planned s p) (entryOf (planned s p) t n) (entryOf (planned s p) u m)
 corners-conflict s p table o z t n u m first second gap ht hu f g e =
-    rw (o .step, o .rows, e) (numbers-conflict s (o .view) table (plan-viewed s p o) z t u ht hu first second f g n m)
+    rw (o .step, o .rows, e) (numbers-conflict s (o .view) table (plan-viewed s p o) z t u ht hu first second f g (p .margin) n m)
+
+-- Which candidates stay does not turn on the margin.
+pub stays-any-margin : (m k : ℕ) (j : Job) (t n u i : ℕ) → stays (under m j) t n u i ≡ stays (under k j) t n u i
+unfolding stays conflict entryKind entryOf
+stays-any-margin m k j t n u i = refl
 
 -- ---- The two tests
 
-module _ (j : Job) (t n u m : ℕ) where
+module _ (j : Problem) (t n u m : ℕ) where
   -- A candidate goes if it is of the same kind and its number is not above that of the placed one, or if they are in conflict.
   pub goes : ((eqb t u && leb m n) || conflict j (entryOf j t n) (entryOf j u m)) ≡ not (stays j t n u m)
   unfolding stays

@@ -8,6 +8,7 @@ use Rattle.model.specs.Candidate.{isCandidate}
 use Rattle.model.specs.Content.{kindCount}
 use Rattle.model.specs.Format.{content}
 use Rattle.model.specs.Grid.{setWords}
+use Rattle.model.specs.Problem.{under}
 use Rattle.candidates.specs.Conflicts.{placedOf}
 use Rattle.candidates.specs.declared.conflicts.Placed.{Placed}
 use Rattle.nofit.specs.Patterns.{aboveString, belowString, ParitiesOf, NofitOf}
@@ -21,13 +22,14 @@ pub record Rowed (w : Nofit) (bits : List ℕ) (row first : ℕ) : Type 0 where
   pub within : first + 64 + w .rows * 4 ≤ w .first * 64
   pub inside : row < w .rows
 
--- The strings of kinds t and u are held; candidate n of kind t stands at the place; and the word is one of a set.
+-- The strings of kinds t and u are held; candidate n of kind t stands at the place; and the word is one of a set. (Strings do not know the margin, and every
+-- candidate is one at margin 0: so they speak of those.)
 pub record Laid (s : List ℕ) (w : Nofit) (bits : List ℕ) (t n : ℕ) (place : Placed) (u first : ℕ) : Type 0 where
   pub table : NofitOf s w bits
-  pub candidate : isCandidate (content s) t n ≡ true
+  pub candidate : isCandidate (under 0 (content s)) t n ≡ true
   pub stands : place ≡ placedOf (w .rows) n
   pub ordered : t ≤ u
-  pub exists : u < kindCount (content s)
+  pub exists : u < kindCount (content s .kinds)
   pub above : aboveString w t (n % 4) u < w .held
   pub below : belowString w t (n % 4) u < w .held
   pub within : first + 64 ≤ setWords (content s .sheet) * 64

@@ -2,11 +2,10 @@
 ghost use mathlib.Core.Bool.{true};
 ghost use mathlib.Core.Path.{_≡_};
 ghost use Rattle.model.specs.Candidate.{isCandidate};
-ghost use Rattle.model.specs.Format.{content};
 ghost use Rattle.model.specs.Layout.{entryOf, conflict};
 ghost use Rattle.shapes.specs.Turned.{TurnedOf};
 ghost use Rattle.candidates.specs.Conflicts.{placedOf};
-ghost use Rattle.plans.specs.Planned.{PlanOf};
+ghost use Rattle.plans.specs.Planned.{PlanOf, planned};
 ghost use Rattle.live_sets.specs.Narrowing.{stays};
 use candidates::conflicts::Placed;
 use candidates::conflicts::conflict_between;
@@ -27,9 +26,9 @@ fn in_conflict(
     place: Placed,
 ) -> bool
     requires { ⌜ PlanOf (now job) plan × TurnedOf (now job) (now turned) ⌝ }
-    requires { ⌜ (isCandidate (content (now job)) t n ≡ true) × (isCandidate (content (now job)) u m ≡ true) ⌝ }
+    requires { ⌜ (isCandidate (planned (now job) plan) t n ≡ true) × (isCandidate (planned (now job) plan) u m ≡ true) ⌝ }
     requires { ⌜ (from ≡ placedOf (plan .rows) n) × (place ≡ placedOf (plan .rows) m) ⌝ }
-    ensures { λ r. ⌜ r ≡ conflict (content (now (job .entry))) (entryOf (content (now (job .entry))) t n) (entryOf (content (now (job .entry))) u m) ⌝ }
+    ensures { λ r. ⌜ r ≡ conflict (planned (now (job .entry)) plan) (entryOf (planned (now (job .entry)) plan) t n) (entryOf (planned (now (job .entry)) plan) u m) ⌝ }
 {
     let first = lookup::piece_in(job, plan, t);
     let second = lookup::piece_in(job, plan, u);
@@ -49,8 +48,8 @@ pub fn still_live(
     m: usize,
 ) -> bool
     requires { ⌜ (PlanOf (now job) plan × TurnedOf (now job) (now turned)) × (from ≡ placedOf (plan .rows) n) ⌝ }
-    requires { ⌜ (isCandidate (content (now job)) t n ≡ true) × (isCandidate (content (now job)) u m ≡ true) ⌝ }
-    ensures { λ r. ⌜ r ≡ stays (content (now (job .entry))) t n u m ⌝ }
+    requires { ⌜ (isCandidate (planned (now job) plan) t n ≡ true) × (isCandidate (planned (now job) plan) u m ≡ true) ⌝ }
+    ensures { λ r. ⌜ r ≡ stays (planned (now (job .entry)) plan) t n u m ⌝ }
 {
     if (t == u) & (m <= n) {
         return false;

@@ -8,9 +8,10 @@ ghost use Rattle.words.specs.Sets.{member};
 ghost use Rattle.model.specs.Candidate.{isCandidate};
 ghost use Rattle.model.specs.Format.{content};
 ghost use Rattle.model.specs.Grid.{setWords};
+ghost use Rattle.model.specs.Problem.{under};
 ghost use Rattle.shapes.specs.Turned.{TurnedOf};
 ghost use Rattle.candidates.specs.Conflicts.{placedOf};
-ghost use Rattle.plans.specs.Planned.{PlanOf};
+ghost use Rattle.plans.specs.Planned.{PlanOf, planned};
 ghost use Rattle.live_sets.specs.Known.{Known};
 ghost use Rattle.live_sets.specs.Narrowing.{stays, BitsAdmitted, Filled, Narrowable};
 ghost use Rattle.live_sets.specs.Reach.{Rowed, Laid, Near};
@@ -38,9 +39,9 @@ fn sift_word(
     w: u64,
 ) -> u64
     requires { ⌜ (PlanOf (now job) plan × TurnedOf (now job) (now turned)) × (place ≡ placedOf (plan .rows) n) ⌝ }
-    requires { ⌜ (isCandidate (content (now job)) t n ≡ true) × (first < 65536) ⌝ }
-    requires { ⌜ BitsAdmitted (content (now job)) u first w ⌝ }
-    ensures { λ r. ⌜ ((i : ℕ) → testBit r i ≡ (testBit w i && stays (content (now (job .entry))) t n u (first + i))) ⌝ }
+    requires { ⌜ (isCandidate (planned (now job) plan) t n ≡ true) × (first < 65536) ⌝ }
+    requires { ⌜ BitsAdmitted (planned (now job) plan) u first w ⌝ }
+    ensures { λ r. ⌜ ((i : ℕ) → testBit r i ≡ (testBit w i && stays (planned (now (job .entry)) plan) t n u (first + i))) ⌝ }
 {
     let mut left = w;
     let mut kept = w;
@@ -75,7 +76,7 @@ fn blocked_word(
     first: usize,
 ) -> u64
     requires { ⌜ Laid (now job) nofit (now strings) t n place u first × Near nofit (place .column) first ⌝ }
-    ensures { λ r. ⌜ ((i : ℕ) → i < 64 → isCandidate (content (now (job .entry))) u (first + i) ≡ true → testBit r i ≡ not (stays (content (now (job .entry))) t n u (first + i))) ⌝ }
+    ensures { λ r. ⌜ ((i : ℕ) → i < 64 → isCandidate (under 0 (content (now (job .entry)))) u (first + i) ≡ true → testBit r i ≡ not (stays (under 0 (content (now (job .entry)))) t n u (first + i))) ⌝ }
 {
     let at = first + 64 + nofit.reach * nofit.rows * 4
         - (place.column * nofit.rows + place.row) * 4;
@@ -100,8 +101,8 @@ fn strain_word(
     first: usize,
     w: u64,
 ) -> u64
-    requires { ⌜ Laid (now job) nofit (now strings) t n place u first × BitsAdmitted (content (now job)) u first w ⌝ }
-    ensures { λ r. ⌜ ((i : ℕ) → testBit r i ≡ (testBit w i && stays (content (now (job .entry))) t n u (first + i))) ⌝ }
+    requires { ⌜ Laid (now job) nofit (now strings) t n place u first × BitsAdmitted (under 0 (content (now job))) u first w ⌝ }
+    ensures { λ r. ⌜ ((i : ℕ) → testBit r i ≡ (testBit w i && stays (under 0 (content (now (job .entry)))) t n u (first + i))) ⌝ }
 {
     let span = nofit.reach * nofit.rows * 4;
     let middle = place.column * nofit.rows * 4;
@@ -132,9 +133,9 @@ fn narrow_word(
     w: u64,
 ) -> u64
     requires { ⌜ Known (now job) plan nofit (now turned) (now strings) × (place ≡ placedOf (plan .rows) n) ⌝ }
-    requires { ⌜ (isCandidate (content (now job)) t n ≡ true) × (first + 64 ≤ setWords (content (now job) .sheet) * 64) ⌝ }
-    requires { ⌜ BitsAdmitted (content (now job)) u first w ⌝ }
-    ensures { λ r. ⌜ ((i : ℕ) → testBit r i ≡ (testBit w i && stays (content (now (job .entry))) t n u (first + i))) ⌝ }
+    requires { ⌜ (isCandidate (planned (now job) plan) t n ≡ true) × (first + 64 ≤ setWords (content (now job) .sheet) * 64) ⌝ }
+    requires { ⌜ BitsAdmitted (planned (now job) plan) u first w ⌝ }
+    ensures { λ r. ⌜ ((i : ℕ) → testBit r i ≡ (testBit w i && stays (planned (now (job .entry)) plan) t n u (first + i))) ⌝ }
 {
     if w == 0 {
         return 0;
@@ -162,8 +163,8 @@ pub fn narrow(
     words: usize,
 )
     requires { ⌜ Known (now job) plan nofit (now turned) (now strings) × (place ≡ placedOf (plan .rows) n) ⌝ }
-    requires { ⌜ Narrowable (content (now job)) t n u from to words (now work) ⌝ }
-    ensures { λ _. ⌜ Filled to words (λ m. member (now (work .entry)) (from * 64 + m) && stays (content (now (job .entry))) t n u m) (now (work .entry)) (now (work .exit)) ⌝ }
+    requires { ⌜ Narrowable (planned (now job) plan) t n u from to words (now work) ⌝ }
+    ensures { λ _. ⌜ Filled to words (λ m. member (now (work .entry)) (from * 64 + m) && stays (planned (now (job .entry)) plan) t n u m) (now (work .entry)) (now (work .exit)) ⌝ }
 {
     let mut k = 0;
     while k < words {

@@ -11,9 +11,10 @@ use lib.ListN.{length, drop}
 use Rattle.words.specs.Sets.{member, countMembers}
 use Rattle.words.proofs.Cases.{eq-or-ne}
 use Rattle.model.specs.Candidate.{isCandidate}
-use Rattle.model.specs.Content.{Job, kindCount, pieceCount}
+use Rattle.model.specs.Content.{kindCount, pieceCount}
 use Rattle.model.specs.Grid.{setWords}
 use Rattle.model.specs.Layout.{Layout, entryOf, conflict}
+use Rattle.model.specs.Problem.{Problem}
 use Rattle.model.specs.Search.{copiesLeft}
 use Rattle.model.specs.Services.{workWords}
 use Rattle.model.proofs.Lists.{or-right}
@@ -28,7 +29,7 @@ use Rattle.stepping.proofs.Levels.{copies-next, placed-next}
 use Rattle.stepping.proofs.LiveSets.{member-parts, set-begin, set-placed, enough-holds, enough-fails}
 use Rattle.stepping.proofs.Slots.{start-next, start-kinds, start-lower, start-fits, slot-member, keeps-same, keeps-frame, frame-same, frame-then}
 
-module _ (j : Job) where
+module _ (j : Problem) where
   -- A member that stays is one of the set after the piece was placed, and no other is.
   pub stays-member : (placed : Layout) (bound t n u m : ℕ) → setOf j placed bound t n ≡ true
       → (setOf j placed bound u m && stays j t n u m) ≡ setOf j (entryOf j t n ∷ placed) bound u m
@@ -42,14 +43,14 @@ module _ (j : Job) where
       regroup false b c = refl
 
   -- The copies left do not grow from one level to the next.
-  pub copies-before : (u l : ℕ) → suc l < pieceCount j → 0 < copiesLeft u (piecesFrom j (suc l)) → 0 < copiesLeft u (piecesFrom j l)
-  copies-before u l h p = omega (arith, copies-next j u l (omega arith))
+  pub copies-before : (u l : ℕ) → suc l < pieceCount (j .kinds) → 0 < copiesLeft u (piecesFrom (j .kinds) (suc l)) → 0 < copiesLeft u (piecesFrom (j .kinds) l)
+  copies-before u l h p = omega (arith, copies-next (j .kinds) u l (omega arith))
 
   -- ---- The set of one kind made
 
   -- A set that was written keeps what it is to keep, if it was written by the right test.
   made-of : (ns : List ℕ) (level bound span u at words : ℕ) (test : ℕ → Bool) (work work′ : List ℕ) → at ≡ setStart j level u → words ≡ span → span ≤ setWords (j .sheet)
-      → level < pieceCount j → u < kindCount j → Filled at words test work work′
+      → level < pieceCount (j .kinds) → u < kindCount (j .kinds) → Filled at words test work work′
       → ((m : ℕ) → m < span * 64 → test m ≡ setOf j (placedOf j ns level) bound u m) → Made j ns level bound span u work work′
   made-of ns level bound span u at words test work work′ q w few h g f e =
       record {
@@ -63,16 +64,16 @@ module _ (j : Job) where
       turn m (inr o) = inr (omega (arith, start-next j level u))
 
   -- At the first level that is the test for a candidate.
-  pub made-first : (ns : List ℕ) (u at words : ℕ) (work work′ : List ℕ) → at ≡ setStart j 0 u → words ≡ setWords (j .sheet) → 0 < pieceCount j → u < kindCount j
+  pub made-first : (ns : List ℕ) (u at words : ℕ) (work work′ : List ℕ) → at ≡ setStart j 0 u → words ≡ setWords (j .sheet) → 0 < pieceCount (j .kinds) → u < kindCount (j .kinds)
       → Filled at words (isCandidate j u) work work′ → Made j ns 0 (j .sheet .L + 1) (setWords (j .sheet)) u work work′
   unfolding placedBelow
   made-first ns u at words work work′ q w h g f =
       made-of ns 0 (j .sheet .L + 1) (setWords (j .sheet)) u at words (isCandidate j u) work work′ q w (omega arith) h g f (λ m l. sym (set-begin j u m))
 
   -- At a later one, being a member before and staying.
-  module _ (ns : List ℕ) (level bound span u to from words t : ℕ) (work : List ℕ) (p : Placeable j ns level bound span work) (g : u < kindCount j)
-      (copies : 0 < copiesLeft u (piecesFrom j level)) (w : words ≡ span) (to-place : SetPlace j level u to) (from-place : SetPlace j (level - 1) u from)
-      (kind : t ≡ pieceKind j (level - 1)) where
+  module _ (ns : List ℕ) (level bound span u to from words t : ℕ) (work : List ℕ) (p : Placeable j ns level bound span work) (g : u < kindCount (j .kinds))
+      (copies : 0 < copiesLeft u (piecesFrom (j .kinds) level)) (w : words ≡ span) (to-place : SetPlace j level u to) (from-place : SetPlace j (level - 1) u from)
+      (kind : t ≡ pieceKind (j .kinds) (level - 1)) where
     -- The set of the level before is kept.
     kept-before : Keeps j (placedOf j ns (level - 1)) bound span u (slotOf j work (level - 1) u)
     kept-before =
@@ -81,7 +82,7 @@ module _ (j : Job) where
 
     -- The latest piece is a candidate.
     latest-is : isCandidate j t (numbersAt ns (level - 1)) ≡ true
-    latest-is = rw kind (member-parts j (placedOf j ns (level - 1)) bound (pieceKind j (level - 1)) (numbersAt ns (level - 1)) (p .latest) .0)
+    latest-is = rw kind (member-parts j (placedOf j ns (level - 1)) bound (pieceKind (j .kinds) (level - 1)) (numbersAt ns (level - 1)) (p .latest) .0)
 
     -- The set can be made from it.
     pub set-narrowable : setWords (j .sheet) ≤ 64 → Narrowable j t (numbersAt ns (level - 1)) u from to words work
@@ -104,7 +105,7 @@ module _ (j : Job) where
         ap (λ (a : ℕ). member work (a * 64 + m)) (from-place .place) ∙ sym (slot-member j work (level - 1) u m) ∙ kept-before m h in
         ap (λ (b : Bool). b && stays j t (numbersAt ns (level - 1)) u m) member-is
         ∙ ap (λ (t : ℕ). setOf j (placedOf j ns (level - 1)) bound u m && stays j t (numbersAt ns (level - 1)) u m) kind
-        ∙ stays-member (placedOf j ns (level - 1)) bound (pieceKind j (level - 1)) (numbersAt ns (level - 1)) u m (p .latest)
+        ∙ stays-member (placedOf j ns (level - 1)) bound (pieceKind (j .kinds) (level - 1)) (numbersAt ns (level - 1)) u m (p .latest)
         ∙ ap (λ (es : Layout). setOf j es bound u m) (sym (placed-next j (numbersAt ns) (level - 1)))
         ∙ ap (λ (i : ℕ). setOf j (placedOf j ns i) bound u m) s
 
@@ -116,10 +117,10 @@ module _ (j : Job) where
   -- ---- One kind settled
 
   -- No copies are left: nothing is to be done.
-  pub kind-none : (ns : List ℕ) (level bound span u : ℕ) (work : List ℕ) → copiesLeft u (piecesFrom j level) ≡ 0 → KindSettled j ns level bound span u work work true
+  pub kind-none : (ns : List ℕ) (level bound span u : ℕ) (work : List ℕ) → copiesLeft u (piecesFrom (j .kinds) level) ≡ 0 → KindSettled j ns level bound span u work work true
   kind-none ns level bound span u work e =
       record {
-        answer = sym (rw (eq-eqb (copiesLeft u (piecesFrom j level)) 0 e));
+        answer = sym (rw (eq-eqb (copiesLeft u (piecesFrom (j .kinds) level)) 0 e));
         kept = λ p. absurd (omega arith);
         outside = λ m o. refl;
         behind = refl;
@@ -127,7 +128,7 @@ module _ (j : Job) where
 
   -- The set is made, and its members are counted. (No copies are never too many.)
   pub kind-made : (ns : List ℕ) (level bound span u at words copies : ℕ) (work work′ : List ℕ) (told : Bool) → at ≡ setStart j level u → words ≡ span → Spans j bound span
-      → copies ≡ copiesLeft u (piecesFrom j level) → Made j ns level bound span u work work′ → told ≡ leb copies (countMembers (words * 64) (drop (at * 8) work′))
+      → copies ≡ copiesLeft u (piecesFrom (j .kinds) level) → Made j ns level bound span u work work′ → told ≡ leb copies (countMembers (words * 64) (drop (at * 8) work′))
       → KindSettled j ns level bound span u work work′ told
   unfolding slotOf
   kind-made ns level bound span u at words copies work work′ told q w c r m e =
@@ -135,10 +136,10 @@ module _ (j : Job) where
         answer =
             e
             ∙ ap (λ (n : ℕ). leb n (countMembers (words * 64) (drop (at * 8) work′))) r
-            ∙ ap (λ (n : ℕ). leb (copiesLeft u (piecesFrom j level)) (countMembers (n * 64) (drop (at * 8) work′))) w
-            ∙ ap (λ (a : ℕ). leb (copiesLeft u (piecesFrom j level)) (countMembers (span * 64) (drop (a * 8) work′))) q
-            ∙ ap (leb (copiesLeft u (piecesFrom j level))) (keeps-count j (placedOf j ns level) bound span u (slotOf j work′ level u) c (m .kept))
-            ∙ sym (none-or (copiesLeft u (piecesFrom j level)) (membersOf j (placedOf j ns level) bound u));
+            ∙ ap (λ (n : ℕ). leb (copiesLeft u (piecesFrom (j .kinds) level)) (countMembers (n * 64) (drop (at * 8) work′))) w
+            ∙ ap (λ (a : ℕ). leb (copiesLeft u (piecesFrom (j .kinds) level)) (countMembers (span * 64) (drop (a * 8) work′))) q
+            ∙ ap (leb (copiesLeft u (piecesFrom (j .kinds) level))) (keeps-count j (placedOf j ns level) bound span u (slotOf j work′ level u) c (m .kept))
+            ∙ sym (none-or (copiesLeft u (piecesFrom (j .kinds) level)) (membersOf j (placedOf j ns level) bound u));
         kept = λ g. m .kept;
         outside = m .outside;
         behind = m .behind;
@@ -156,7 +157,7 @@ module _ (j : Job) where
   -- The kinds below `done` are settled and have enough members.
   pub record Settling (ns : List ℕ) (level bound span done : ℕ) (work work′ : List ℕ) : Type 0 where
     pub answer : (u : ℕ) → u < done → enoughOf j ns level bound u ≡ true
-    pub kept : (u : ℕ) → u < done → 0 < copiesLeft u (piecesFrom j level) → Keeps j (placedOf j ns level) bound span u (slotOf j work′ level u)
+    pub kept : (u : ℕ) → u < done → 0 < copiesLeft u (piecesFrom (j .kinds) level) → Keeps j (placedOf j ns level) bound span u (slotOf j work′ level u)
     pub frame : Frame j level work work′
 
   pub settling-begin : (ns : List ℕ) (level bound span : ℕ) (work : List ℕ) → Settling ns level bound span 0 work work
@@ -176,35 +177,35 @@ module _ (j : Job) where
       answer u h (inl q) = rw q (sym (k .answer) ∙ e)
       answer u h (inr q) = s .answer u (omega arith)
 
-      kept : (u : ℕ) → u < done + 1 → (u ≡ done) ⊎ (u ≡ done → ⊥) → 0 < copiesLeft u (piecesFrom j level) → Keeps j (placedOf j ns level) bound span u (slotOf j c level u)
-      kept u h (inl q) p = subst (λ (u : ℕ). Keeps j (placedOf j ns level) bound span u (slotOf j c level u)) (sym q) (k .kept (subst (λ (u : ℕ). 0 < copiesLeft u (piecesFrom j level)) q p))
+      kept : (u : ℕ) → u < done + 1 → (u ≡ done) ⊎ (u ≡ done → ⊥) → 0 < copiesLeft u (piecesFrom (j .kinds) level) → Keeps j (placedOf j ns level) bound span u (slotOf j c level u)
+      kept u h (inl q) p = subst (λ (u : ℕ). Keeps j (placedOf j ns level) bound span u (slotOf j c level u)) (sym q) (k .kept (subst (λ (u : ℕ). 0 < copiesLeft u (piecesFrom (j .kinds) level)) q p))
       kept u h (inr q) p =
           keeps-same j (placedOf j ns level) bound span level u b c
           (λ m l. k .outside (setStart j level u * 64 + m) (inl (omega (arith, start-next j level u, start-kinds j level (u + 1) done (omega arith)))))
           (s .kept u (omega arith) p)
 
   -- A test that holds, and one that fails, as facts of the numbers.
-  enough-of : (ns : List ℕ) (level bound u : ℕ) → enoughOf j ns level bound u ≡ true → 0 < copiesLeft u (piecesFrom j level)
-      → copiesLeft u (piecesFrom j level) ≤ membersOf j (placedOf j ns level) bound u
-  enough-of ns level bound u e p = leb-true _ _ (rw (ne-eqb (copiesLeft u (piecesFrom j level)) 0 (λ q. omega arith)) at e)
+  enough-of : (ns : List ℕ) (level bound u : ℕ) → enoughOf j ns level bound u ≡ true → 0 < copiesLeft u (piecesFrom (j .kinds) level)
+      → copiesLeft u (piecesFrom (j .kinds) level) ≤ membersOf j (placedOf j ns level) bound u
+  enough-of ns level bound u e p = leb-true _ _ (rw (ne-eqb (copiesLeft u (piecesFrom (j .kinds) level)) 0 (λ q. omega arith)) at e)
 
-  few-of : (ns : List ℕ) (level bound u : ℕ) → enoughOf j ns level bound u ≡ false → membersOf j (placedOf j ns level) bound u < copiesLeft u (piecesFrom j level)
-  few-of ns level bound u e = leb-false _ _ (or-right (eqb (copiesLeft u (piecesFrom j level)) 0) _ e)
+  few-of : (ns : List ℕ) (level bound u : ℕ) → enoughOf j ns level bound u ≡ false → membersOf j (placedOf j ns level) bound u < copiesLeft u (piecesFrom (j .kinds) level)
+  few-of ns level bound u e = leb-false _ _ (or-right (eqb (copiesLeft u (piecesFrom (j .kinds) level)) 0) _ e)
 
   -- All kinds have enough members, or one has too few.
-  pub settled-all : (ns : List ℕ) (level bound span : ℕ) (work work′ : List ℕ) → Settling ns level bound span (kindCount j) work work′ → Settled j ns level bound span work work′ true
+  pub settled-all : (ns : List ℕ) (level bound span : ℕ) (work work′ : List ℕ) → Settling ns level bound span (kindCount (j .kinds)) work work′ → Settled j ns level bound span work work′ true
   settled-all ns level bound span work work′ s =
       record {
-        answer = sym (enough-holds j (piecesFrom j level) (placedOf j ns level) bound (λ u h p. enough-of ns level bound u (s .answer u h) p));
+        answer = sym (enough-holds j (piecesFrom (j .kinds) level) (placedOf j ns level) bound (λ u h p. enough-of ns level bound u (s .answer u h) p));
         kept = λ e. s .kept;
         frame = s .frame;
       }
 
-  pub settled-few : (ns : List ℕ) (level bound span u : ℕ) (a b c : List ℕ) (told : Bool) → told ≡ false → u < kindCount j → Settling ns level bound span u a b
+  pub settled-few : (ns : List ℕ) (level bound span u : ℕ) (a b c : List ℕ) (told : Bool) → told ≡ false → u < kindCount (j .kinds) → Settling ns level bound span u a b
       → KindSettled j ns level bound span u b c told → Settled j ns level bound span a c false
   settled-few ns level bound span u a b c told e h s k =
       record {
-        answer = sym (enough-fails j (piecesFrom j level) (placedOf j ns level) bound u h (few-of ns level bound u (sym (k .answer) ∙ e)));
+        answer = sym (enough-fails j (piecesFrom (j .kinds) level) (placedOf j ns level) bound u h (few-of ns level bound u (sym (k .answer) ∙ e)));
         kept = λ q. let z : _≡_ {A = ℕ} 0 1 = cc in absurd (omega arith);
         frame = frame-then j level a b c (s .frame) (kind-frame ns level bound span u b c told k);
       }

@@ -11,6 +11,7 @@ ghost use Rattle.live_sets.specs.Known.{Known};
 ghost use Rattle.stepping.specs.Levels.{piecesFrom};
 ghost use Rattle.stepping.specs.Slots.{SetPlace};
 ghost use Rattle.lookahead.specs.Settled.{Placeable, Latest, Made, KindSettled, Settled};
+ghost use Rattle.plans.specs.Planned.{planned};
 use candidates::conflicts::Placed;
 use candidates::conflicts::placed_of;
 use live_sets::narrowing::narrow;
@@ -46,10 +47,10 @@ fn make_set(
     to: usize,
 )
     requires { ⌜ Known (now job) plan nofit (now turned) (now strings) ⌝ }
-    requires { ⌜ Placeable (content (now job)) numbers level (state .bound) (state .span) (now work) ⌝ }
-    requires { ⌜ (u < kindCount (content (now job))) × (0 < copiesLeft u (piecesFrom (content (now job)) level)) × SetPlace (content (now job)) level u to ⌝ }
-    requires { ⌜ Latest (content (now job)) (plan .rows) numbers level t n place ⌝ }
-    ensures { λ _. ⌜ Made (content (now (job .entry))) numbers level (state .bound) (state .span) u (now (work .entry)) (now (work .exit)) ⌝ }
+    requires { ⌜ Placeable (planned (now job) plan) numbers level (state .bound) (state .span) (now work) ⌝ }
+    requires { ⌜ (u < kindCount (content (now job) .kinds)) × (0 < copiesLeft u (piecesFrom (content (now job) .kinds) level)) × SetPlace (planned (now job) plan) level u to ⌝ }
+    requires { ⌜ Latest (planned (now job) plan) (plan .rows) numbers level t n place ⌝ }
+    ensures { λ _. ⌜ Made (planned (now (job .entry)) plan) numbers level (state .bound) (state .span) u (now (work .entry)) (now (work .exit)) ⌝ }
 {
     let from = set_start(job, plan, level - 1, u);
     narrow(
@@ -87,10 +88,10 @@ fn settle_kind(
     work: &mut [u8],
 ) -> bool
     requires { ⌜ Known (now job) plan nofit (now turned) (now strings) ⌝ }
-    requires { ⌜ Placeable (content (now job)) numbers level (state .bound) (state .span) (now work) ⌝ }
-    requires { ⌜ (u < kindCount (content (now job))) × (copies ≡ copiesLeft u (piecesFrom (content (now job)) level)) ⌝ }
-    requires { ⌜ Latest (content (now job)) (plan .rows) numbers level t n place ⌝ }
-    ensures { λ r. ⌜ KindSettled (content (now (job .entry))) numbers level (state .bound) (state .span) u (now (work .entry)) (now (work .exit)) r ⌝ }
+    requires { ⌜ Placeable (planned (now job) plan) numbers level (state .bound) (state .span) (now work) ⌝ }
+    requires { ⌜ (u < kindCount (content (now job) .kinds)) × (copies ≡ copiesLeft u (piecesFrom (content (now job) .kinds) level)) ⌝ }
+    requires { ⌜ Latest (planned (now job) plan) (plan .rows) numbers level t n place ⌝ }
+    ensures { λ r. ⌜ KindSettled (planned (now (job .entry)) plan) numbers level (state .bound) (state .span) u (now (work .entry)) (now (work .exit)) r ⌝ }
 {
     if copies == 0 {
         return true;
@@ -128,8 +129,8 @@ pub fn settle(
     work: &mut [u8],
 ) -> bool
     requires { ⌜ Known (now job) plan nofit (now turned) (now strings) ⌝ }
-    requires { ⌜ Placeable (content (now job)) numbers level (state .bound) (state .span) (now work) ⌝ }
-    ensures { λ r. ⌜ Settled (content (now (job .entry))) numbers level (state .bound) (state .span) (now (work .entry)) (now (work .exit)) r ⌝ }
+    requires { ⌜ Placeable (planned (now job) plan) numbers level (state .bound) (state .span) (now work) ⌝ }
+    ensures { λ r. ⌜ Settled (planned (now (job .entry)) plan) numbers level (state .bound) (state .span) (now (work .entry)) (now (work .exit)) r ⌝ }
 {
     let kinds = plan.types;
     let before = level - 1;

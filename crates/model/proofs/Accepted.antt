@@ -13,6 +13,7 @@ use Rattle.model.specs.Content.{Part, Kind, Board, Job, kindAt, kindCoun
 use Rattle.model.specs.Format.{Got, bad, got, joined, followed, many, byteAt, readPart, headInRange, withParts, readKind, kindsStated, kindBytes, kindsGot, kindsIn, boardOf, content, cause4, cause6, kindsUnfit, classesOf, kindsLength, refusal}
 use Rattle.model.specs.Grid.{dots}
 use Rattle.model.specs.Lists.{between, sum}
+use Rattle.model.specs.Problem.{Problem, under}
 use Rattle.model.proofs.Causes.{no-cause}
 use Rattle.model.proofs.Lists.{and-left, and-right, and-four, or-left, or-right, not-both}
 
@@ -80,8 +81,8 @@ kind-reads s = go (headInRange s) refl
 
 -- "There are 1 to 8 types", each in range.
 pub record KindsInRange (j : Job) : Type 0 where
-  pub some-kind : 0 < kindCount j
-  pub few-kinds : kindCount j ≤ 8
+  pub some-kind : 0 < kindCount (j .kinds)
+  pub few-kinds : kindCount (j .kinds) ≤ 8
   pub each-kind : (k : Kind) → List·Memᴰ k (j .kinds) → KindInRange k
 
 -- Types that were read, as many as stated, with nothing wrong.
@@ -113,15 +114,15 @@ unfolding sum
 some-demand [] h f = absurd (not-suc-le-zero h)
 some-demand (k ∷ ks) h f = omega (arith, f k (List·Memᴰ·head refl) .demanded)
 
--- What the theorems about the walk ask of a job, and every accepted job has: a piece, and turn masks of four bits.
-pub record Sensible (j : Job) : Type 0 where
-  pub pieced : 0 < pieceCount j
-  pub turned : (t : ℕ) → kindAt j t .rotations < 16
+-- What the theorems about the walk ask of a problem, and an accepted job under any margin has: a piece, and turn masks of four bits.
+pub record Sensible (j : Problem) : Type 0 where
+  pub pieced : 0 < pieceCount (j .kinds)
+  pub turned : (t : ℕ) → kindAt (j .kinds) t .rotations < 16
 
 -- An accepted job has both.
-pub accepted-sensible : (s : List ℕ) → refusal s ≡ 0 → Sensible (content s)
+pub accepted-sensible : (s : List ℕ) (m : ℕ) → refusal s ≡ 0 → Sensible (under m (content s))
 unfolding kindAt kindCount pieceCount
-accepted-sensible s e =
+accepted-sensible s m e =
     let k = accepted-kinds s e in
     record { pieced = some-demand (content s .kinds) (k .some-kind) (k .each-kind); turned = kind-turned (content s .kinds) (k .each-kind) }
 

@@ -60,33 +60,33 @@ module _ (s : List ℕ) (e : refusal s ≡ 0) where
   fits : KindsFit s
   fits = kinds-fit s (no-cause s e .no6)
 
-  pub kind-count : kindCount (content s) ≡ kindsStated s
+  pub kind-count : kindCount (content s .kinds) ≡ kindsStated s
   unfolding kindCount kindsGot
   kind-count = many-length readKind (kindsStated s) (kindBytes s) _ _ (fits .reads)
 
-  pub kinds-least : 1 ≤ kindCount (content s)
+  pub kinds-least : 1 ≤ kindCount (content s .kinds)
   kinds-least = rw kind-count (fits .least)
 
-  pub kinds-most : kindCount (content s) ≤ 8
+  pub kinds-most : kindCount (content s .kinds) ≤ 8
   kinds-most = rw kind-count (fits .most)
 
-  pub pieces-most : pieceCount (content s) ≤ 12
+  pub pieces-most : pieceCount (content s .kinds) ≤ 12
   pieces-most = fits .pieces
 
-  pub kind-ranges : (t : ℕ) → t < kindCount (content s) → KindInRange (kindAt (content s) t)
+  pub kind-ranges : (t : ℕ) → t < kindCount (content s .kinds) → KindInRange (kindAt (content s .kinds) t)
   unfolding kindCount kindAt kindsGot
   kind-ranges t h = many-each readKind noKind KindInRange kind-in-range (kindsStated s) (kindBytes s) _ _ (fits .reads) t h
 
   -- ---- Parts
 
-  pub parts-sound : (t i : ℕ) → t < kindCount (content s) → i < length (kindAt (content s) t .parts) → PartSound (getD (kindAt (content s) t .parts) i [])
+  pub parts-sound : (t i : ℕ) → t < kindCount (content s .kinds) → i < length (kindAt (content s .kinds) t .parts) → PartSound (getD (kindAt (content s .kinds) t .parts) i [])
   unfolding kindCount kindAt cause7 content
   parts-sound t i h l =
       let k = any-at (λ k. any (λ P. not (sound P) || not (all vertexInRange P)) (k .parts)) (content s .kinds) noKind (no-cause7 s e) t h in
-      let p = any-at (λ P. not (sound P) || not (all vertexInRange P)) (kindAt (content s) t .parts) [] k i l in
+      let p = any-at (λ P. not (sound P) || not (all vertexInRange P)) (kindAt (content s .kinds) t .parts) [] k i l in
       record {
         isSound = not-false _ (or-left _ _ p);
-        inRange = not-false _ (or-right (not (sound (getD (kindAt (content s) t .parts) i []))) _ p);
+        inRange = not-false _ (or-right (not (sound (getD (kindAt (content s .kinds) t .parts) i []))) _ p);
       }
 
 -- ---- Gaps
@@ -122,7 +122,7 @@ gap-small (c ∷ cs) e =
     let b = best-from classInRange c cs (and-left _ _ e) (and-right (classInRange c) _ e) in
     leb-true (bestFrom c cs .gap) 63 (and-right (leb (bestFrom c cs .id) 7 && leb (bestFrom c cs .rank) 255) _ b)
 
-pub gap-most : (s : List ℕ) → refusal s ≡ 0 → (k : Kind) → kindGap (content s) k ≤ 63
+pub gap-most : (s : List ℕ) → refusal s ≡ 0 → (k : Kind) → kindGap (content s .classes) k ≤ 63
 unfolding kindGap content byRisingId
 gap-most s e k =
     gap-small (keep (names k) (byRisingId (classesOf s)))

@@ -2,7 +2,7 @@
 use mathlib.Core.List.{List, map}
 use mathlib.Core.Path.{_≡_, refl}
 use Prim.Native.Nat.{ℕ}
-use Rattle.model.specs.Boards.{Marked, answerTo, boards, furtherBoards, numbersOf, saidBy, square, jobOf, squareType, squares, gapSquares, printedJob, printedText, triangles, strips, bar, rankedSquares, leftCorner, star, squareTwice}
+use Rattle.model.specs.Boards.{Marked, answerUnder, answerTo, boards, furtherBoards, clampBoards, numbersOf, saidBy, shownBy, square, jobOf, squareType, squares, gapSquares, printedJob, printedText, triangles, strips, bar, rankedSquares, leftCorner, star, squareTwice}
 use Rattle.model.specs.Opened.{opened}
 
 -- Every question of the table has its expected answer.
@@ -10,7 +10,7 @@ abbrev pub Hold : List Marked → Type 0
 Hold table = map (λ m. answerTo (m .question)) table ≡ map (λ m. m .expected) table
 
 unfoldable openedBoards : ℕ
-unfolding opened boards furtherBoards answerTo numbersOf saidBy square jobOf squareType squares gapSquares printedJob printedText triangles strips bar rankedSquares leftCorner star squareTwice
+unfolding opened boards furtherBoards clampBoards answerUnder answerTo numbersOf saidBy shownBy square jobOf squareType squares gapSquares printedJob printedText triangles strips bar rankedSquares leftCorner star squareTwice
 openedBoards = 0
 
 -- The paper prints the bytes of one job; the others are put together the same way.
@@ -25,3 +25,7 @@ marked-boards = refl
 pub further-boards : Hold furtherBoards
 unfolding openedBoards
 further-boards = refl
+
+pub clamp-boards : Hold clampBoards
+unfolding openedBoards
+clamp-boards = refl

@@ -3,7 +3,7 @@ use mathlib.Core.Bool.{Bool, true, false, _&&_}
 use mathlib.Core.List.{List, [], _∷_, _++_, map, map-append, append-nil}
 use mathlib.Core.Path.{_≡_, refl, sym, ap, _∙_}
 use Prim.Native.Nat.{ℕ, _*_, _<_}
-use lib.IntN.{ℤ, pos, _+ℤ_}
+use lib.IntN.{ℤ, pos, _+ℤ_, _-ℤ_}
 use lib.ListN.{length, length-map}
 use lib.Signed.{leZ}
 use Rattle.integers.specs.Extrema.{maxZ, minZ}
@@ -47,26 +47,26 @@ module _ (g : Vertex → ℤ) (vs : List Vertex) (some : 0 < length vs) where
   pub all-below-bound : (c : ℤ) → all (λ v. leZ (g v) c) vs ≡ leZ (largestZ (map g vs)) c
   all-below-bound c = sym (largest-test c (map g vs) (rw (length-map vs g) some) ∙ all-map (λ z. leZ z c) g vs)
 
--- All of some vertices lie on the board exactly if the least and the largest x and y do.
-pub all-onBoard : (b : Board) (vs : List Vertex) → 0 < length vs
-    → all (onBoard b) vs
-    ≡ (leZ (pos 0) (smallestZ (map (λ v. v .x) vs)) && leZ (largestZ (map (λ v. v .x) vs)) (pos (b .L))
-    && leZ (pos 0) (smallestZ (map (λ v. v .y) vs)) && leZ (largestZ (map (λ v. v .y) vs)) (pos (b .W)))
+-- All of some vertices lie on the board, within a margin, exactly if the least and the largest x and y do.
+pub all-onBoard : (m : ℕ) (b : Board) (vs : List Vertex) → 0 < length vs
+    → all (onBoard m b) vs
+    ≡ (leZ (pos m) (smallestZ (map (λ v. v .x) vs)) && leZ (largestZ (map (λ v. v .x) vs)) (pos (b .L) -ℤ pos m)
+    && leZ (pos m) (smallestZ (map (λ v. v .y) vs)) && leZ (largestZ (map (λ v. v .y) vs)) (pos (b .W) -ℤ pos m))
 unfolding onBoard
-all-onBoard b vs h =
-    all-and (λ v. leZ (pos 0) (v .x) && leZ (v .x) (pos (b .L)) && leZ (pos 0) (v .y)) (λ v. leZ (v .y) (pos (b .W))) vs
-    ∙ ap (λ t. t && all (λ v. leZ (v .y) (pos (b .W))) vs) (all-and (λ v. leZ (pos 0) (v .x) && leZ (v .x) (pos (b .L))) (λ v. leZ (pos 0) (v .y)) vs)
-    ∙ ap (λ t. t && all (λ v. leZ (pos 0) (v .y)) vs && all (λ v. leZ (v .y) (pos (b .W))) vs) (all-and (λ v. leZ (pos 0) (v .x)) (λ v. leZ (v .x) (pos (b .L))) vs)
-    ∙ ap (λ t. t && all (λ v. leZ (v .x) (pos (b .L))) vs && all (λ v. leZ (pos 0) (v .y)) vs && all (λ v. leZ (v .y) (pos (b .W))) vs) (all-above (λ v. v .x) vs h (pos 0))
-    ∙ ap (λ t. lowX && t && all (λ v. leZ (pos 0) (v .y)) vs && all (λ v. leZ (v .y) (pos (b .W))) vs) (all-below-bound (λ v. v .x) vs h (pos (b .L)))
-    ∙ ap (λ t. lowX && highX && t && all (λ v. leZ (v .y) (pos (b .W))) vs) (all-above (λ v. v .y) vs h (pos 0))
-    ∙ ap (λ t. lowX && highX && leZ (pos 0) (smallestZ (map (λ v. v .y) vs)) && t) (all-below-bound (λ v. v .y) vs h (pos (b .W)))
+all-onBoard m b vs h =
+    all-and (λ v. leZ (pos m) (v .x) && leZ (v .x) (pos (b .L) -ℤ pos m) && leZ (pos m) (v .y)) (λ v. leZ (v .y) (pos (b .W) -ℤ pos m)) vs
+    ∙ ap (λ t. t && all (λ v. leZ (v .y) (pos (b .W) -ℤ pos m)) vs) (all-and (λ v. leZ (pos m) (v .x) && leZ (v .x) (pos (b .L) -ℤ pos m)) (λ v. leZ (pos m) (v .y)) vs)
+    ∙ ap (λ t. t && all (λ v. leZ (pos m) (v .y)) vs && all (λ v. leZ (v .y) (pos (b .W) -ℤ pos m)) vs) (all-and (λ v. leZ (pos m) (v .x)) (λ v. leZ (v .x) (pos (b .L) -ℤ pos m)) vs)
+    ∙ ap (λ t. t && all (λ v. leZ (v .x) (pos (b .L) -ℤ pos m)) vs && all (λ v. leZ (pos m) (v .y)) vs && all (λ v. leZ (v .y) (pos (b .W) -ℤ pos m)) vs) (all-above (λ v. v .x) vs h (pos m))
+    ∙ ap (λ t. lowX && t && all (λ v. leZ (pos m) (v .y)) vs && all (λ v. leZ (v .y) (pos (b .W) -ℤ pos m)) vs) (all-below-bound (λ v. v .x) vs h (pos (b .L) -ℤ pos m))
+    ∙ ap (λ t. lowX && highX && t && all (λ v. leZ (v .y) (pos (b .W) -ℤ pos m)) vs) (all-above (λ v. v .y) vs h (pos m))
+    ∙ ap (λ t. lowX && highX && leZ (pos m) (smallestZ (map (λ v. v .y) vs)) && t) (all-below-bound (λ v. v .y) vs h (pos (b .W) -ℤ pos m))
   where
     lowX : Bool
-    lowX = leZ (pos 0) (smallestZ (map (λ v. v .x) vs))
+    lowX = leZ (pos m) (smallestZ (map (λ v. v .x) vs))
 
     highX : Bool
-    highX = leZ (largestZ (map (λ v. v .x) vs)) (pos (b .L))
+    highX = leZ (largestZ (map (λ v. v .x) vs)) (pos (b .L) -ℤ pos m)
 
 -- ---- the box moves
 

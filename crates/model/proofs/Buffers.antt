@@ -8,12 +8,13 @@ use Prim.Native.Nat.{ℕ, _*_}
 use native.Mathlib.Omega.{arith}
 use lib.Dec.{ltb, eqb}
 use lib.ListN.{length}
-use Rattle.model.specs.Content.{Job, pieceCount}
+use Rattle.model.specs.Content.{pieceCount}
 use Rattle.model.specs.Format.{refusal, content}
 use Rattle.model.specs.Grid.{setWords}
+use Rattle.model.specs.Problem.{Problem, under}
 use Rattle.model.specs.Search.{isStopped, held}
 use Rattle.model.specs.Layout.{Layout}
-use Rattle.model.specs.Services.{contentNumbers, readContent, read, cause12, rowContent, conflictRow, wordsIn, numbersIn, workWords, cleared, withLayout, heldAs, finishedAs, verdict, stepCount, RunOutcome, runOutcome, runContent, run}
+use Rattle.model.specs.Services.{contentNumbers, readContent, read, refusalUnder, cause12, rowContent, conflictRow, wordsIn, numbersIn, workWords, cleared, withLayout, heldAs, finishedAs, verdict, stepCount, RunOutcome, runOutcome, runContent, run}
 use Rattle.model.specs.declared.Held.the-variants as HV
 use Rattle.model.specs.declared.RunAnswer.{RunAnswer}
 use Rattle.model.specs.declared.RunAnswer.the-variants as R
@@ -33,50 +34,53 @@ read-keeps s out n = go (eqb (refusal s) 0) refl
     go true e h = rw (e, read) (inner (ltb (numbersIn out) (length (contentNumbers (content s)))) refl (rw (e, read) at h))
 
 -- The same of the conflict row.
-pub row-keeps : (s : List ℕ) (t m u : ℕ) (out : List ℕ) (n : ℕ) → conflictRow s t m u out .answer ≡ W.Refused n → conflictRow s t m u out .buffer ≡ out
+pub row-keeps : (s : List ℕ) (m t k u : ℕ) (out : List ℕ) (n : ℕ) → conflictRow s m t k u out .answer ≡ W.Refused n → conflictRow s m t k u out .buffer ≡ out
 unfolding conflictRow rowContent
-row-keeps s t m u out n = go (eqb (refusal s) 0) refl
+row-keeps s m t k u out n = go (eqb (refusalUnder m s) 0) refl
   where
-    last : (b : Bool) → ltb (wordsIn out) (setWords (content s .sheet)) ≡ b → cause12 (content s) t m u ≡ false → rowContent (content s) t m u out .answer ≡ W.Refused n
-        → rowContent (content s) t m u out .buffer ≡ out
+    j : Problem
+    j = under m (content s)
+
+    last : (b : Bool) → ltb (wordsIn out) (setWords (j .sheet)) ≡ b → cause12 j t k u ≡ false → rowContent j t k u out .answer ≡ W.Refused n
+        → rowContent j t k u out .buffer ≡ out
     last true g f h = rw (f, g, rowContent)
-    last false g f h = let z : _≡_ {A = ℕ} 0 1 = (let k = rw (f, g, rowContent) at h in cc) in absurd (omega arith)
+    last false g f h = let z : _≡_ {A = ℕ} 0 1 = (let z = rw (f, g, rowContent) at h in cc) in absurd (omega arith)
 
-    inner : (b : Bool) → cause12 (content s) t m u ≡ b → rowContent (content s) t m u out .answer ≡ W.Refused n → rowContent (content s) t m u out .buffer ≡ out
+    inner : (b : Bool) → cause12 j t k u ≡ b → rowContent j t k u out .answer ≡ W.Refused n → rowContent j t k u out .buffer ≡ out
     inner true f h = rw (f, rowContent)
-    inner false f h = last (ltb (wordsIn out) (setWords (content s .sheet))) refl f h
+    inner false f h = last (ltb (wordsIn out) (setWords (j .sheet))) refl f h
 
-    go : (b : Bool) → eqb (refusal s) 0 ≡ b → conflictRow s t m u out .answer ≡ W.Refused n → conflictRow s t m u out .buffer ≡ out
+    go : (b : Bool) → eqb (refusalUnder m s) 0 ≡ b → conflictRow s m t k u out .answer ≡ W.Refused n → conflictRow s m t k u out .buffer ≡ out
     go false e h = rw (e, conflictRow)
-    go true e h = rw (e, conflictRow) (inner (cause12 (content s) t m u) refl (rw (e, conflictRow) at h))
+    go true e h = rw (e, conflictRow) (inner (cause12 j t k u) refl (rw (e, conflictRow) at h))
 
 -- A run refuses and changes nothing, or it answers what the walk says, with the work words cleared.
-run-cases : (s : List ℕ) (budget : ℕ) (work out : List ℕ)
-    → (run s budget work out ≡ runOutcome (run s budget work out .answer) work out)
-    ⊎ (run s budget work out ≡ runOutcome (verdict (content s) budget) (cleared (content s) work) (withLayout (held (content s) none budget) out))
+run-cases : (s : List ℕ) (m budget : ℕ) (work out : List ℕ)
+    → (run s m budget work out ≡ runOutcome (run s m budget work out .answer) work out)
+    ⊎ (run s m budget work out ≡ runOutcome (verdict (under m (content s)) budget) (cleared (under m (content s)) work) (withLayout (held (under m (content s)) none budget) out))
 unfolding run runContent
-run-cases s budget work out = go (eqb (refusal s) 0) refl
+run-cases s m budget work out = go (eqb (refusalUnder m s) 0) refl
   where
-    j : Job
-    j = content s
+    j : Problem
+    j = under m (content s)
 
     Either : RunOutcome → Type 0
     Either r = (r ≡ runOutcome (r .answer) work out) ⊎ (r ≡ runOutcome (verdict j budget) (cleared j work) (withLayout (held j none budget) out))
 
-    last : (b : Bool) → ltb (numbersIn out) (4 * pieceCount j) ≡ b → ltb (wordsIn work) (workWords j) ≡ false → Either (runContent j budget work out)
+    last : (b : Bool) → ltb (numbersIn out) (4 * pieceCount (j .kinds)) ≡ b → ltb (wordsIn work) (workWords j) ≡ false → Either (runContent j budget work out)
     last true g f = rw (f, g, runContent) (inl refl)
     last false g f = rw (f, g, runContent) (inr refl)
 
     inner : (b : Bool) → ltb (wordsIn work) (workWords j) ≡ b → Either (runContent j budget work out)
     inner true f = rw (f, runContent) (inl refl)
-    inner false f = last (ltb (numbersIn out) (4 * pieceCount j)) refl f
+    inner false f = last (ltb (numbersIn out) (4 * pieceCount (j .kinds))) refl f
 
-    go : (b : Bool) → eqb (refusal s) 0 ≡ b → Either (run s budget work out)
+    go : (b : Bool) → eqb (refusalUnder m s) 0 ≡ b → Either (run s m budget work out)
     go false e = rw (e, run) (inl refl)
     go true e = rw (e, run) (inner (ltb (wordsIn work) (workWords j)) refl)
 
 -- What the walk says is no refusal; where it says none, or stops with nothing, nothing is held.
-module _ (j : Job) (budget : ℕ) where
+module _ (j : Problem) (budget : ℕ) where
   never-refused : (n : ℕ) → verdict j budget ≡ R.Refused n → ⊥
   unfolding verdict finishedAs
   never-refused n = go (isStopped j none budget) (held j none budget)
@@ -100,28 +104,28 @@ module _ (j : Job) (budget : ℕ) where
       go false (some es) (inl e) = let z : _≡_ {A = ℕ} 0 1 = cc in absurd (omega arith)
       go false (some es) (inr e) = let z : _≡_ {A = ℕ} 0 1 = cc in absurd (omega arith)
 
-module _ (s : List ℕ) (budget : ℕ) (work out : List ℕ) where
+module _ (s : List ℕ) (m budget : ℕ) (work out : List ℕ) where
   -- The same of a run.
-  pub run-keeps : (n : ℕ) → run s budget work out .answer ≡ R.Refused n → (run s budget work out .work ≡ work) × (run s budget work out .out ≡ out)
-  run-keeps n h = go (run-cases s budget work out)
+  pub run-keeps : (n : ℕ) → run s m budget work out .answer ≡ R.Refused n → (run s m budget work out .work ≡ work) × (run s m budget work out .out ≡ out)
+  run-keeps n h = go (run-cases s m budget work out)
     where
-      go : (run s budget work out ≡ runOutcome (run s budget work out .answer) work out)
-          ⊎ (run s budget work out ≡ runOutcome (verdict (content s) budget) (cleared (content s) work) (withLayout (held (content s) none budget) out))
-          → (run s budget work out .work ≡ work) × (run s budget work out .out ≡ out)
+      go : (run s m budget work out ≡ runOutcome (run s m budget work out .answer) work out)
+          ⊎ (run s m budget work out ≡ runOutcome (verdict (under m (content s)) budget) (cleared (under m (content s)) work) (withLayout (held (under m (content s)) none budget) out))
+          → (run s m budget work out .work ≡ work) × (run s m budget work out .out ≡ out)
       go (inl e) = (ap (λ r. r .work) e, ap (λ r. r .out) e)
-      go (inr e) = absurd (never-refused (content s) budget n (sym (ap (λ r. r .answer) e) ∙ h))
+      go (inr e) = absurd (never-refused (under m (content s)) budget n (sym (ap (λ r. r .answer) e) ∙ h))
 
   -- "except 10, which .. clears the work words"; "Stopped without a layout leaves the answer numbers unchanged."
-  pub run-without-layout : (k : ℕ) → (run s budget work out .answer ≡ R.Infeasible k) ⊎ (run s budget work out .answer ≡ R.Stopped HV.Nothing k)
-      → run s budget work out .out ≡ out
+  pub run-without-layout : (k : ℕ) → (run s m budget work out .answer ≡ R.Infeasible k) ⊎ (run s m budget work out .answer ≡ R.Stopped HV.Nothing k)
+      → run s m budget work out .out ≡ out
   unfolding withLayout
-  run-without-layout k h = go (run-cases s budget work out)
+  run-without-layout k h = go (run-cases s m budget work out)
     where
-      walked : run s budget work out .answer ≡ verdict (content s) budget → (verdict (content s) budget ≡ R.Infeasible k) ⊎ (verdict (content s) budget ≡ R.Stopped HV.Nothing k)
+      walked : run s m budget work out .answer ≡ verdict (under m (content s)) budget → (verdict (under m (content s)) budget ≡ R.Infeasible k) ⊎ (verdict (under m (content s)) budget ≡ R.Stopped HV.Nothing k)
       walked a = ⊎-elim (λ e. inl (sym a ∙ e)) (λ e. inr (sym a ∙ e)) h
 
-      go : (run s budget work out ≡ runOutcome (run s budget work out .answer) work out)
-          ⊎ (run s budget work out ≡ runOutcome (verdict (content s) budget) (cleared (content s) work) (withLayout (held (content s) none budget) out)) → run s budget work out .out ≡ out
+      go : (run s m budget work out ≡ runOutcome (run s m budget work out .answer) work out)
+          ⊎ (run s m budget work out ≡ runOutcome (verdict (under m (content s)) budget) (cleared (under m (content s)) work) (withLayout (held (under m (content s)) none budget) out)) → run s m budget work out .out ≡ out
       go (inl e) = ap (λ r. r .out) e
       go (inr e) =
-          ap (λ r. r .out) e ∙ ap (λ h. withLayout h out) (nothing-held (content s) budget k (walked (ap (λ r. r .answer) e)))
+          ap (λ r. r .out) e ∙ ap (λ h. withLayout h out) (nothing-held (under m (content s)) budget k (walked (ap (λ r. r .answer) e)))

@@ -197,7 +197,7 @@ pub record KindsFit (s : List ℕ) : Type 0 where
   pub least : 1 ≤ kindsStated s
   pub most : kindsStated s ≤ 8
   pub reads : kindsGot s ≡ got (content s .kinds) (kindsLength s)
-  pub pieces : pieceCount (content s) ≤ 12
+  pub pieces : pieceCount (content s .kinds) ≤ 12
   pub present : all (namesPresent (classesOf s)) (content s .kinds) ≡ true
 
 pub kinds-fit : (s : List ℕ) → cause6 s ≡ false → KindsFit s

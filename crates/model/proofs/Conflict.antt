@@ -9,12 +9,13 @@ use lib.Signed.{leZ}
 use Rattle.integers.proofs.Absolute.{natAbs-negℤ}
 use Rattle.integers.proofs.Solver.{ring, _⊞_, _⊟_, _⊠_, ⊖_, _≈_}
 use Rattle.model.specs.Candidate.{placedParts}
-use Rattle.model.specs.Content.{Vertex, vertex, Part, Kind, Job}
+use Rattle.model.specs.Content.{Vertex, vertex, Part, Kind, SpacingClass}
 use Rattle.model.specs.Gap.{kindGap, pairGap}
 use Rattle.model.specs.Geometry.{Direction, normals, negated, axes, directions, along, clearance, separates, separated, piecesConflict}
 use Rattle.model.specs.Layout.{Entry, entryKind, conflict}
 use Rattle.model.specs.Lists.{any, largestZ, smallestZ}
 use Rattle.model.specs.Opened.{opened}
+use Rattle.model.specs.Problem.{Problem}
 use Rattle.model.proofs.Extremes.{leZ-same, largest-negated, smallest-negated}
 use Rattle.model.proofs.Tests.{any-append, any-swap, any-reordered, any-map, any-same, any-pair}
 
@@ -115,14 +116,14 @@ piecesConflict-symmetric gap Ps Qs =
 
 -- ---- entries of a layout
 
-pub pairGap-symmetric : (j : Job) (k m : Kind) → pairGap j k m ≡ pairGap j m k
+pub pairGap-symmetric : (cs : List SpacingClass) (k m : Kind) → pairGap cs k m ≡ pairGap cs m k
 unfolding pairGap
-pairGap-symmetric j k m = max-comm (kindGap j k) (kindGap j m)
+pairGap-symmetric cs k m = max-comm (kindGap cs k) (kindGap cs m)
 
-pub conflict-symmetric : (j : Job) (e f : Entry) → conflict j e f ≡ conflict j f e
+pub conflict-symmetric : (j : Problem) (e f : Entry) → conflict j e f ≡ conflict j f e
 unfolding conflict
 conflict-symmetric j e f =
     ap (λ g. piecesConflict g (placedParts (j .sheet) (entryKind j e) (e .place)) (placedParts (j .sheet) (entryKind j f) (f .place)))
-    (pairGap-symmetric j (entryKind j e) (entryKind j f))
-    ∙ piecesConflict-symmetric (pairGap j (entryKind j f) (entryKind j e)) (placedParts (j .sheet) (entryKind j e) (e .place))
+    (pairGap-symmetric (j .classes) (entryKind j e) (entryKind j f))
+    ∙ piecesConflict-symmetric (pairGap (j .classes) (entryKind j f) (entryKind j e)) (placedParts (j .sheet) (entryKind j e) (e .place))
     (placedParts (j .sheet) (entryKind j f) (f .place))

@@ -21,5 +21,6 @@ pub mod Records
 pub mod Causes
 pub mod AcceptedKinds
 pub mod Refusals
+pub mod Margin
 pub mod Program
 pub mod Buffers

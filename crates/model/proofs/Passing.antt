@@ -9,12 +9,13 @@ use native.Mathlib.Omega.{arith}
 use borrow.Author.Tests.{ltb-true, eqb-true, eqb-false, eq-eqb, ne-eqb, lt-ltb, not-true}
 use lib.Dec.{ltb, eqb}
 use lib.ListN.{length, getD}
-use Rattle.model.specs.Content.{Job, kindAt, kindCount}
+use Rattle.model.specs.Content.{kindAt, kindCount}
 use Rattle.model.specs.Layout.{Entry, Layout, entryAt, noEntry, entryNumber, isEntry, conflict, inOrder, ordered, copies, demandMet, apart, passes, Precedes, Passes}
 use Rattle.model.specs.Lists.{all, below}
+use Rattle.model.specs.Problem.{Problem}
 use Rattle.model.proofs.Lists.{and-left, and-right, and-both, and-four, all-at, all-of, all-below, below-all}
 
-module _ (j : Job) where
+module _ (j : Problem) where
   -- ---- Order of two entries
   pub precedes : (e f : Entry) → inOrder j e f ≡ true → Precedes j e f
   unfolding inOrder
@@ -68,7 +69,7 @@ module _ (j : Job) where
       let parts = and-four (ordered j es) (demandMet j es) (all (isEntry j) es) (apart j es) t in
       record {
         rising = ordered-at es (parts .0);
-        demanded = λ i h. eqb-true _ _ (all-below (λ t. eqb (copies t es) (kindAt j t .demand)) (kindCount j) (parts .1) i h);
+        demanded = λ i h. eqb-true _ _ (all-below (λ t. eqb (copies t es) (kindAt (j .kinds) t .demand)) (kindCount (j .kinds)) (parts .1) i h);
         offered = all-at (isEntry j) es noEntry (parts .2);
         clear = apart-at es (parts .3);
       }
@@ -78,6 +79,6 @@ module _ (j : Job) where
   passes-complete es p =
       and-both _ _
       (and-both _ _
-      (and-both _ _ (ordered-of es (p .rising)) (below-all _ (kindCount j) (λ t h. eq-eqb _ _ (p .demanded t h))))
+      (and-both _ _ (ordered-of es (p .rising)) (below-all _ (kindCount (j .kinds)) (λ t h. eq-eqb _ _ (p .demanded t h))))
       (all-of (isEntry j) es noEntry (p .offered)))
       (apart-of es (p .clear))

@@ -8,54 +8,57 @@ use native.Mathlib.Omega.{arith}
 use lib.Dec.{eqb}
 use lib.ListN.{length, replicate, length-replicate}
 use Rattle.words.specs.Number.{count}
-use Rattle.model.specs.Content.{Job, pieceCount}
+use Rattle.model.specs.Content.{pieceCount}
 use Rattle.model.specs.Demand3.{Fit}
 use Rattle.model.specs.Format.{refusal, content}
 use Rattle.model.specs.Layout.{Layout}
 use Rattle.model.specs.Output.{firstLine, heldLines, layoutLines, printed, program}
+use Rattle.model.specs.Problem.{Problem, under}
 use Rattle.model.specs.Search.{isStopped, held}
 use Rattle.model.specs.Services.{numbersIn, wordsIn, workWords, cleared, layoutIn, withLayout, heldAs, finishedAs, stepCount, verdict, run}
 use Rattle.model.specs.declared.RunAnswer.the-variants as R
 use Rattle.model.proofs.Accepted.{accepted-sensible}
+use Rattle.model.proofs.Margin.{refusal-under-0}
 use Rattle.model.proofs.Search.Budget.{held-laid}
 use Rattle.model.proofs.Search.Demand3.{run-fit, read-held}
 
 module _ (s : List ℕ) (accepted : refusal s ≡ 0) (budget : ℕ) where
   -- The lines of the layout are those of the layout held, or none are printed.
-  lines-alike : (b : Bool) (h : Option Layout) → held (content s) none budget ≡ h → (n : ℕ) (out out′ : List ℕ)
-      → layoutLines (cond b (R.Stopped (heldAs (content s) h) n) (finishedAs (content s) h n)) (layoutIn (content s) (withLayout h out))
-      ≡ layoutLines (cond b (R.Stopped (heldAs (content s) h) n) (finishedAs (content s) h n)) (layoutIn (content s) (withLayout h out′))
+  lines-alike : (b : Bool) (h : Option Layout) → held (under 0 (content s)) none budget ≡ h → (n : ℕ) (out out′ : List ℕ)
+      → layoutLines (cond b (R.Stopped (heldAs (under 0 (content s)) h) n) (finishedAs (under 0 (content s)) h n)) (layoutIn (under 0 (content s)) (withLayout h out))
+      ≡ layoutLines (cond b (R.Stopped (heldAs (under 0 (content s)) h) n) (finishedAs (under 0 (content s)) h n)) (layoutIn (under 0 (content s)) (withLayout h out′))
   unfolding layoutLines heldAs finishedAs heldLines
   lines-alike true none e n out out′ = refl
   lines-alike false none e n out out′ = refl
   lines-alike b (some es) e n out out′ =
-      let laid = held-laid (content s) (accepted-sensible s accepted) budget es e in
-      rw (read-held s accepted es out laid, read-held s accepted es out′ laid)
+      let laid = held-laid (under 0 (content s)) (accepted-sensible s 0 accepted) budget es e in
+      rw (read-held s 0 accepted es out laid, read-held s 0 accepted es out′ laid)
 
-  pub printed-alike : (work out work′ out′ : List ℕ) → Fit s work out → Fit s work′ out′
-      → printed (content s) (run s budget work out) ≡ printed (content s) (run s budget work′ out′)
+  pub printed-alike : (work out work′ out′ : List ℕ) → Fit s 0 work out → Fit s 0 work′ out′
+      → printed (under 0 (content s)) (run s 0 budget work out) ≡ printed (under 0 (content s)) (run s 0 budget work′ out′)
   unfolding printed verdict
   printed-alike work out work′ out′ f f′ =
-      rw (run-fit s budget work out f, run-fit s budget work′ out′ f′)
-      (ap (λ t. firstLine (verdict (content s) budget) ++ t)
-      (lines-alike (isStopped (content s) none budget) (held (content s) none budget) refl (stepCount (content s) budget) out out′))
+      rw (run-fit s 0 budget work out f, run-fit s 0 budget work′ out′ f′)
+      (ap (λ t. firstLine (verdict (under 0 (content s)) budget) ++ t)
+      (lines-alike (isStopped (under 0 (content s)) none budget) (held (under 0 (content s)) none budget) refl (stepCount (under 0 (content s)) budget) out out′))
 
 -- The program's own buffers are just long enough.
-program-fit : (s : List ℕ) → refusal s ≡ 0 → Fit s (replicate (workWords (content s) * 8) 0) (replicate (pieceCount (content s) * 8) 0)
+program-fit : (s : List ℕ) → refusal s ≡ 0 → Fit s 0 (replicate (workWords (under 0 (content s)) * 8) 0) (replicate (pieceCount (content s .kinds) * 8) 0)
 unfolding wordsIn numbersIn count
 program-fit s accepted =
     record {
       accepted = accepted;
-      work-long-enough = rw (length-replicate {A = ℕ} (workWords (content s) * 8) 0) (omega arith);
-      out-long-enough = rw (length-replicate {A = ℕ} (pieceCount (content s) * 8) 0) (omega arith);
+      margin-allowed = omega arith;
+      work-long-enough = rw (length-replicate {A = ℕ} (workWords (under 0 (content s)) * 8) 0) (omega arith);
+      out-long-enough = rw (length-replicate {A = ℕ} (pieceCount (content s .kinds) * 8) 0) (omega arith);
     }
 
 -- An accepted job: the text is that of a run with any long enough buffers.
-pub program-prints : (s work out : List ℕ) → Fit s work out → printed (content s) (run s 1000000 work out) ≡ program s
+pub program-prints : (s work out : List ℕ) → Fit s 0 work out → printed (under 0 (content s)) (run s 0 1000000 work out) ≡ program s
 unfolding program
 program-prints s work out f = printed-alike s (f .accepted) 1000000 work out _ _ f (program-fit s (f .accepted))
 
 -- A refused job: the text is the refusal's, whatever the buffers.
-pub program-refuses : (s work out : List ℕ) → eqb (refusal s) 0 ≡ false → printed (content s) (run s 1000000 work out) ≡ program s
+pub program-refuses : (s work out : List ℕ) → eqb (refusal s) 0 ≡ false → printed (under 0 (content s)) (run s 0 1000000 work out) ≡ program s
 unfolding program printed run layoutLines
-program-refuses s work out e = rw (e, run)
+program-refuses s work out e = rw (refusal-under-0 s, e, run)

@@ -9,9 +9,10 @@ use lib.ListN.{length, getD, drop, length-map, List·getD-append}
 use lib.Seq.{getD-append-add, ext-getD}
 use Rattle.words.proofs.Row.{numberAt-bytesOf}
 use Rattle.words.specs.Number.{bytesOf, numberAt, filled}
-use Rattle.model.specs.Content.{Job, pieceCount}
+use Rattle.model.specs.Content.{pieceCount}
 use Rattle.model.specs.Layout.{Entry, Layout, entryAt, noEntry}
 use Rattle.model.specs.Lists.{concat, below}
+use Rattle.model.specs.Problem.{Problem}
 use Rattle.model.specs.Services.{withNumbers, entryIn, layoutIn, entryNumbers, layoutNumbers, withLayout}
 use Rattle.model.proofs.Lists.{length-below, getD-map-below}
 
@@ -57,12 +58,12 @@ module _ (es : Layout) (rest : List ℕ) (i : ℕ) (h : i < length es) where
       )
 
 -- A layout of N entries of two-byte numbers that was written into a buffer is read back from it.
-pub read-layout : (j : Job) (es : Layout) (out : List ℕ) → length es ≡ pieceCount j → ((i : ℕ) → i < length es → Small (entryAt es i))
+pub read-layout : (j : Problem) (es : Layout) (out : List ℕ) → length es ≡ pieceCount (j .kinds) → ((i : ℕ) → i < length es → Small (entryAt es i))
     → layoutIn j (withLayout (some es) out) ≡ es
 unfolding layoutIn withLayout withNumbers filled
 read-layout j es out q b =
     ext-getD noEntry _ es
-    (length-map (below (pieceCount j)) (entryIn (withLayout (some es) out)) ∙ length-below (pieceCount j) ∙ sym q)
+    (length-map (below (pieceCount (j .kinds))) (entryIn (withLayout (some es) out)) ∙ length-below (pieceCount (j .kinds)) ∙ sym q)
     (λ i h.
-    let k : i < length es = rw (length-map (below (pieceCount j)) (entryIn (withLayout (some es) out)), length-below (pieceCount j), ← q) at h in
-    getD-map-below (entryIn (withLayout (some es) out)) (pieceCount j) i noEntry (rw (← q) k) ∙ read-entry es (drop (length (layoutNumbers es) * 2) out) i k (b i k))
+    let k : i < length es = rw (length-map (below (pieceCount (j .kinds))) (entryIn (withLayout (some es) out)), length-below (pieceCount (j .kinds)), ← q) at h in
+    getD-map-below (entryIn (withLayout (some es) out)) (pieceCount (j .kinds)) i noEntry (rw (← q) k) ∙ read-entry es (drop (length (layoutNumbers es) * 2) out) i k (b i k))

@@ -9,32 +9,40 @@ use Rattle.words.specs.Number.{bytes, bytesOf, numberAt}
 use Rattle.model.specs.Content.{Vertex, vertex, Part, pieceCount}
 use Rattle.model.specs.Format.{content, refusal}
 use Rattle.model.specs.Geometry.{moved, piecesConflict}
+use Rattle.model.specs.Grid.{setWords}
 use Rattle.model.specs.Lists.{all, below}
 use Rattle.model.specs.Output.{program}
-use Rattle.model.specs.Services.{RunOutcome, run, check, numbersIn, workWords}
+use Rattle.model.specs.Problem.{under}
+use Rattle.model.specs.Services.{RunOutcome, WriteOutcome, run, check, conflictRow, numbersIn, wordsIn, workWords}
 use Rattle.model.specs.declared.Checked.{Checked}
 use Rattle.model.specs.declared.Checked.the-variants as C
 use Rattle.model.specs.declared.Held.the-variants.{Layout, Nothing}
 use Rattle.model.specs.declared.RunAnswer.{RunAnswer}
-use Rattle.model.specs.declared.RunAnswer.the-variants.{Shortest, Stopped, Infeasible}
+use Rattle.model.specs.declared.RunAnswer.the-variants.{Shortest, Stopped, Infeasible, Refused}
+use Rattle.model.specs.declared.Written.{Written}
+use Rattle.model.specs.declared.Written.the-variants as W
 
 -- ---- Questions and answers
 
--- A run of a job at a budget; a check of a job and a layout's numbers; whether squares at (0,0) and (x,y) are in conflict at a gap;
--- by which number a job's sender is refused; what the program prints of a job.
+-- A run of a job at a budget; a check of a job and a layout's numbers; a row of a job, of the candidate of a number of its first type, against that type; each of
+-- the three under a margin instead of 0; whether squares at (0,0) and (x,y) are in conflict at a gap; by which number a job's sender is refused; what the
+-- program prints of a job.
 pub data Question : Type 0 where
   prints : List ℕ → Question
   runs : List ℕ → ℕ → Question
   checks : List ℕ → List ℕ → Question
+  rows : List ℕ → ℕ → Question
+  clamped : ℕ → Question → Question
   conflicts : ℕ → ℕ → ℕ → Question
   sends : List ℕ → Question
 
--- What a run says, whether its work words are zero, and the answer numbers after it; what check says; whether there is conflict;
+-- What a run says, whether its work words are zero, and the answer numbers after it; what check says; what row says and its words; whether there is conflict;
 -- the number of the refusal, 0 for an accepted job; the bytes printed.
 pub data Answer : Type 0 where
   text : List ℕ → Answer
   says : RunAnswer → Bool → List ℕ → Answer
   finds : Checked → Answer
+  shows : Written → List ℕ → Answer
   isConflict : Bool → Answer
   isRefused : ℕ → Answer
 
@@ -62,15 +70,26 @@ saidBy r = says (r .answer) (all (eqb 0) (r .work)) (numbersOf (r .out))
 unfoldable pub square : Part
 square = vertex (pos 0) (pos 0) ∷ vertex (pos 2) (pos 0) ∷ vertex (pos 2) (pos 2) ∷ vertex (pos 0) (pos 2) ∷ []
 
--- A run is given just enough work words, each byte 255, and just enough answer numbers, each 7.
-unfoldable pub answerTo : Question → Answer
-answerTo (runs s budget) =
+-- What row told and left, as an answer of the table.
+unfoldable pub shownBy : WriteOutcome → Answer
+shownBy r = shows (r .answer) (map (λ i. numberAt 8 (r .buffer) (i * 8)) (below (wordsIn (r .buffer))))
+
+-- The answer under a margin. A run is given just enough work words, each byte 255, and just enough answer numbers, each 7; a row just enough words, each 0.
+unfoldable pub answerUnder : ℕ → Question → Answer
+answerUnder m (runs s budget) =
     saidBy
-    (run s budget (replicate (workWords (content s) * 8) 255) (bytesOf 2 (replicate (pieceCount (content s) * 4) 7)))
-answerTo (checks s ns) = finds (check s (bytesOf 2 ns))
-answerTo (prints s) = text (program s)
-answerTo (sends s) = isRefused (refusal s)
-answerTo (conflicts gap x y) = isConflict (piecesConflict gap (square ∷ []) (map (moved x y) square ∷ []))
+    (run s m budget (replicate (workWords (under m (content s)) * 8) 255)
+    (bytesOf 2 (replicate (pieceCount (content s .kinds) * 4) 7)))
+answerUnder m (checks s ns) = finds (check s m (bytesOf 2 ns))
+answerUnder m (rows s n) = shownBy (conflictRow s m 0 n 0 (replicate (setWords (content s .sheet) * 8) 0))
+answerUnder m (clamped k q) = answerUnder k q
+answerUnder m (prints s) = text (program s)
+answerUnder m (sends s) = isRefused (refusal s)
+answerUnder m (conflicts gap x y) = isConflict (piecesConflict gap (square ∷ []) (map (moved x y) square ∷ []))
+
+-- Document 01 knows no margin: "With m = 0 .., all earlier results hold".
+unfoldable pub answerTo : Question → Answer
+answerTo q = answerUnder 0 q
 
 -- ---- Jobs
 
@@ -201,4 +220,27 @@ furtherBoards =
     ∷ (runs squareTwice 1000000 ⇒ says (Shortest 2 1) true (0 ∷ 0 ∷ 0 ∷ 0 ∷ []))
     -- One candidate for two squares: look-ahead ends the walk before the first step.
     ∷ (runs (squares 2 2) 1000000 ⇒ says (Infeasible 0) true untouched)
+    ∷ []
+
+-- Boards of document 02's first request. Two squares, W 4, margin 1: a square has the row 1 and, at L 6, the columns 1, 2 and 3.
+unfoldable pub clampBoards : List Marked
+clampBoards =
+    -- L 6: columns 1 and 3, end 5, length 6. Column 2 for the first square is one more step, which look-ahead gives back.
+    (clamped 1 (runs (squares 4 6) 1000000) ⇒ says (Shortest 6 3) true (0 ∷ 1 ∷ 1 ∷ 0 ∷ 0 ∷ 3 ∷ 1 ∷ 0 ∷ []))
+    -- L 5: the columns 1 and 2, where the squares overlap.
+    ∷ (clamped 1 (runs (squares 4 5) 1000000) ⇒ says (Infeasible 2) true untouched)
+    -- That layout under margins 1, 0 and 2: the length is its end, 5, plus the margin; at margin 2 it is no layout of candidates.
+    ∷ (clamped 1 (checks (squares 4 6) (0 ∷ 1 ∷ 1 ∷ 0 ∷ 0 ∷ 3 ∷ 1 ∷ 0 ∷ [])) ⇒ finds (C.Passes 6))
+    ∷ (checks (squares 4 6) (0 ∷ 1 ∷ 1 ∷ 0 ∷ 0 ∷ 3 ∷ 1 ∷ 0 ∷ []) ⇒ finds (C.Passes 5))
+    ∷ (clamped 2 (checks (squares 4 6) (0 ∷ 1 ∷ 1 ∷ 0 ∷ 0 ∷ 3 ∷ 1 ∷ 0 ∷ [])) ⇒ finds (C.Refused 11))
+    -- Margin 63 on a small board: no candidate.
+    ∷ (clamped 63 (runs (squares 4 6) 1000000) ⇒ says (Infeasible 0) true untouched)
+    -- Margin 64 is refused by 13, after a cause of the job's sender and before 12.
+    ∷ (clamped 64 (runs (squares 4 6) 1000000) ⇒ says (Refused 13) false untouched)
+    ∷ (clamped 64 (checks (squares 4 6) (0 ∷ 1 ∷ 1 ∷ 0 ∷ 0 ∷ 3 ∷ 1 ∷ 0 ∷ [])) ⇒ finds (C.Refused 13))
+    ∷ (clamped 64 (runs star 1000000) ⇒ says (Refused 7) false (7 ∷ 7 ∷ 7 ∷ 7 ∷ []))
+    ∷ (clamped 64 (rows (squares 2 4) 0) ⇒ shows (W.Refused 13) (0 ∷ []))
+    -- Candidate (0,0), number 0, is one at margin 0 and none at margin 1. It is in conflict with itself and with column 1, which has number 12: 4096 is 2 to the 12th.
+    ∷ (clamped 1 (rows (squares 2 4) 0) ⇒ shows (W.Refused 12) (0 ∷ []))
+    ∷ (rows (squares 2 4) 0 ⇒ shows (W.Count 1) (4097 ∷ []))
     ∷ []

@@ -55,20 +55,20 @@ abbrev pub job : Board → List SpacingClass → List Kind → Job
 job b cs ks = record { sheet = b; classes = cs; kinds = ks }
 
 -- "the demands sum to N"
-unfoldable pub pieceCount : Job → ℕ
-pieceCount j = sum (map (λ k. k .demand) (j .kinds))
+unfoldable pub pieceCount : List Kind → ℕ
+pieceCount ks = sum (map (λ k. k .demand) ks)
 
 -- "T types"
-unfoldable pub kindCount : Job → ℕ
-kindCount j = length (j .kinds)
+unfoldable pub kindCount : List Kind → ℕ
+kindCount ks = length ks
 
 -- Where no type stands: nothing is demanded of it and no turn is allowed it.
 abbrev pub noKind : Kind
 noKind = kind 0 0 0 []
 
 -- The type of this index, "from 0".
-unfoldable pub kindAt : Job → ℕ → Kind
-kindAt j t = getD (j .kinds) t noKind
+unfoldable pub kindAt : List Kind → ℕ → Kind
+kindAt ks t = getD ks t noKind
 
 -- Where no corner stands.
 abbrev pub origin : Vertex

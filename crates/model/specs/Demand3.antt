@@ -8,9 +8,10 @@ use mathlib.Core.Path.{_≡_}
 use Prim.Native.Nat.{ℕ, _*_, _≤_, _<_, min}
 use lib.ListN.{length}
 use Rattle.model.specs.Answers.{runLength, runSteps}
-use Rattle.model.specs.Content.{Job, pieceCount}
+use Rattle.model.specs.Content.{pieceCount}
 use Rattle.model.specs.Format.{refusal, content}
 use Rattle.model.specs.Layout.{Layout, layoutLength, Passes, FirstOfShortest}
+use Rattle.model.specs.Problem.{Problem, under}
 use Rattle.model.specs.Search.{Step, stepsNeeded, stepsTaken}
 use Rattle.model.specs.Services.{RunOutcome, numbersIn, wordsIn, workWords, layoutIn}
 use Rattle.model.specs.declared.Held.the-variants as H
@@ -55,46 +56,48 @@ abbrev pub Completed : List Step → Layout → Type 0
 Completed ss es = (s : Step) × List·Memᴰ s ss × (s .completes ≡ some es)
 
 -- "The best layout of the steps taken is the shortest that they completed."
-pub record BestOf (j : Job) (ss : List Step) (es : Layout) : Type 0 where
+pub record BestOf (j : Problem) (ss : List Step) (es : Layout) : Type 0 where
   pub completed : Completed ss es
   pub shortest : (fs : Layout) → Completed ss fs → layoutLength j es ≤ layoutLength j fs
 
 -- ---- The demand
 
--- "accepted job" and "long enough buffers": as many work words and answer numbers as document 01 says that run needs.
-pub record Fit (s work out : List ℕ) : Type 0 where
+-- "accepted job" and "long enough buffers": as many work words and answer numbers as document 01 says that run needs. A margin of 0 to 63: "demand 3
+-- leaves out a run with" a margin above 63.
+pub record Fit (s : List ℕ) (m : ℕ) (work out : List ℕ) : Type 0 where
   pub accepted : refusal s ≡ 0
-  pub work-long-enough : workWords (content s) ≤ wordsIn work
-  pub out-long-enough : 4 * pieceCount (content s) ≤ numbersIn out
+  pub margin-allowed : m ≤ 63
+  pub work-long-enough : workWords (under m (content s)) ≤ wordsIn work
+  pub out-long-enough : 4 * pieceCount (content s .kinds) ≤ numbersIn out
 
 -- "The layout a run holds is what the first 4 × N answer numbers contain after it."
-abbrev pub heldIn : List ℕ → RunOutcome → Layout
-heldIn s r = layoutIn (content s) (r .out)
+abbrev pub heldIn : Problem → RunOutcome → Layout
+heldIn j r = layoutIn j (r .out)
 
 -- "For every accepted job, every budget and long enough buffers, whatever these hold, .."
-pub record Demand3 (s : List ℕ) (budget : ℕ) (r : RunOutcome) : Type 0 where
+pub record Demand3 (j : Problem) (budget : ℕ) (r : RunOutcome) : Type 0 where
   -- "a run answers 'stopped' exactly when the walk defined in document 01 needs more steps than the budget."
-  pub stopped : SaysStopped (r .answer) ↔ (budget < stepsNeeded (content s) none)
+  pub stopped : SaysStopped (r .answer) ↔ (budget < stepsNeeded j none)
   -- "Otherwise it answers 'shortest' if some layout passes, .."
-  pub otherwise-shortest : (SaysStopped (r .answer) → ⊥) → (es : Layout) → Passes (content s) es → SaysShortest (r .answer)
+  pub otherwise-shortest : (SaysStopped (r .answer) → ⊥) → (es : Layout) → Passes j es → SaysShortest (r .answer)
   -- ".. and 'none' if no layout does."
-  pub otherwise-none : (SaysStopped (r .answer) → ⊥) → ((es : Layout) → Passes (content s) es → ⊥) → SaysNone (r .answer)
+  pub otherwise-none : (SaysStopped (r .answer) → ⊥) → ((es : Layout) → Passes j es → ⊥) → SaysNone (r .answer)
   -- "Over 'shortest' it holds a layout that passes, .."
-  pub holds-passing : SaysShortest (r .answer) → Passes (content s) (heldIn s r)
+  pub holds-passing : SaysShortest (r .answer) → Passes j (heldIn j r)
   -- ".. no passing layout is shorter, .."
-  pub holds-shortest : SaysShortest (r .answer) → (fs : Layout) → Passes (content s) fs
-      → layoutLength (content s) (heldIn s r) ≤ layoutLength (content s) fs
+  pub holds-shortest : SaysShortest (r .answer) → (fs : Layout) → Passes j fs
+      → layoutLength j (heldIn j r) ≤ layoutLength j fs
   -- ".. and it is the first of the shortest in document 01's order."
-  pub holds-first : SaysShortest (r .answer) → FirstOfShortest (content s) (heldIn s r)
+  pub holds-first : SaysShortest (r .answer) → FirstOfShortest j (heldIn j r)
   -- "Over 'stopped' it holds the best layout of the steps taken, if there is one, .."
-  pub stopped-holds-best : SaysStopped (r .answer) → (es : Layout) → Completed (stepsTaken (content s) none budget) es
-      → SaysHeld (r .answer) × BestOf (content s) (stepsTaken (content s) none budget) (heldIn s r)
+  pub stopped-holds-best : SaysStopped (r .answer) → (es : Layout) → Completed (stepsTaken j none budget) es
+      → SaysHeld (r .answer) × BestOf j (stepsTaken j none budget) (heldIn j r)
   -- ".. and otherwise says that it holds none."
-  pub stopped-holds-none : SaysStopped (r .answer) → ((es : Layout) → Completed (stepsTaken (content s) none budget) es → ⊥)
+  pub stopped-holds-none : SaysStopped (r .answer) → ((es : Layout) → Completed (stepsTaken j none budget) es → ⊥)
       → SaysHeld (r .answer) → ⊥
   -- "A length told with a layout is that layout's."
-  pub length-told : SaysHeld (r .answer) → runLength (r .answer) ≡ layoutLength (content s) (heldIn s r)
+  pub length-told : SaysHeld (r .answer) → runLength (r .answer) ≡ layoutLength j (heldIn j r)
   -- "The steps reported are the ones that walk took: .."
-  pub steps-told : runSteps (r .answer) ≡ length (stepsTaken (content s) none budget)
+  pub steps-told : runSteps (r .answer) ≡ length (stepsTaken j none budget)
   -- ".. as many as it needs, or the whole budget if that is less."
-  pub steps-least : runSteps (r .answer) ≡ min (stepsNeeded (content s) none) budget
+  pub steps-least : runSteps (r .answer) ≡ min (stepsNeeded j none) budget

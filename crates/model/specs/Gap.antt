@@ -5,7 +5,7 @@ use mathlib.Core.Option.{Option, none, some}
 use Prim.Native.Nat.{ℕ, max}
 use lib.Dec.{ltb}
 use Rattle.words.specs.Bits.{testBit}
-use Rattle.model.specs.Content.{SpacingClass, Kind, Job}
+use Rattle.model.specs.Content.{SpacingClass, Kind}
 use Rattle.model.specs.Lists.{keep}
 
 -- "class mask (bit i names class id i; zero means no class)"
@@ -32,9 +32,9 @@ gapOr0 none = 0
 gapOr0 (some c) = c .gap
 
 -- "A type's gap is the gap of its class with the smallest rank number, and 0 if it has no class."
-unfoldable pub kindGap : Job → Kind → ℕ
-kindGap j k = gapOr0 (bestRanked (keep (names k) (j .classes)))
+unfoldable pub kindGap : List SpacingClass → Kind → ℕ
+kindGap cs k = gapOr0 (bestRanked (keep (names k) cs))
 
 -- "A pair's gap is the larger of the two."
-unfoldable pub pairGap : Job → Kind → Kind → ℕ
-pairGap j k m = max (kindGap j k) (kindGap j m)
+unfoldable pub pairGap : List SpacingClass → Kind → Kind → ℕ
+pairGap cs k m = max (kindGap cs k) (kindGap cs m)

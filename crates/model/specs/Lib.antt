@@ -5,6 +5,7 @@ pub mod Format
 pub mod Grid
 pub mod Geometry
 pub mod Gap
+pub mod Problem
 pub mod Candidate
 pub mod Layout
 pub mod Search

@@ -10,11 +10,12 @@ use Rattle.model.specs.Content.{pieceCount, kindCount, kindAt}
 use Rattle.model.specs.Grid.{columns, rows, dots, numberOf, placementOf, numberLimit, setWords}
 use Rattle.model.specs.Geometry.{quarterTurn, rotated, moved, vertexAt, following, cross, strictlyLeft, edgeSound, sound, outwardNormal, normals, negated, axes, directions, along, clearance, separates, separated, piecesConflict}
 use Rattle.model.specs.Gap.{names, better, bestFrom, bestRanked, gapOr0, kindGap, pairGap}
+use Rattle.model.specs.Problem.{cause13}
 use Rattle.model.specs.Candidate.{placedPart, placedParts, placedVertices, onBoard, admitted, isCandidate, candidates, natural, extent}
 use Rattle.model.specs.Format.{byteAt, wordAt, trailerAt, boardAt, classesAt, kindsAt, kindsLength, classesStated, kindsStated, lengthStated, marked, boardSection, classesSection, kindsSection, inPlace, shareByte, boardOf, classAt, classesOf, byRisingId, joined, followed, many, vertices, readPart, headInRange, withParts, readKind, kindBytes, kindsGot, kindsIn, content, cause1, cause2, cause3, cause4, classInRange, distinct, cause5, namesPresent, kindsUnfit, cause6, vertexInRange, cause7, refusal}
-use Rattle.model.specs.Layout.{entryOf, entryNumber, entryKind, isEntry, entryExtent, conflict, inOrder, ordered, copies, demandMet, apart, passes, layoutLength}
+use Rattle.model.specs.Layout.{entryOf, entryNumber, entryKind, isEntry, entryExtent, conflict, inOrder, ordered, copies, demandMet, apart, passes, largestEnd, layoutLength}
 use Rattle.model.specs.Search.{pieces, candidateTable, free, abovePrevious, beats, staysBelow, live, copiesLeft, forwardCheck, then, completed, tryCandidates, searchPieces, searchFrom, lengthOf, stepsFrom, stepsNeeded, isStopped, stepsTaken, latest, bestAfter, held}
-use Rattle.model.specs.Services.{numbersIn, wordsIn, withNumbers, withWords, coordinate, vertexNumbers, partNumbers, kindNumbers, classNumbers, contentNumbers, readContent, read, cause12, rowBit, rowWords, rowContent, conflictRow, entryIn, layoutIn, cause11, check, workWords, cleared, entryNumbers, layoutNumbers, withLayout, heldAs, finishedAs, stepCount, verdict, runContent, run}
+use Rattle.model.specs.Services.{numbersIn, wordsIn, withNumbers, withWords, coordinate, vertexNumbers, partNumbers, kindNumbers, classNumbers, contentNumbers, readContent, read, refusalUnder, cause12, rowBit, rowWords, rowContent, conflictRow, entryIn, layoutIn, cause11, checkContent, check, workWords, cleared, entryNumbers, layoutNumbers, withLayout, heldAs, finishedAs, stepCount, verdict, runContent, run}
 use Rattle.model.specs.Output.{digitsBefore, decimal, line, shortestWord, stoppedWord, noneWord, refusedWord, heldWord, firstLine, entryLine, entryLines, heldLines, layoutLines, printed, program}
 
 unfoldable pub openedWords : ℕ
@@ -50,7 +51,7 @@ unfolding byteAt wordAt trailerAt boardAt classesAt kindsAt kindsLength classesS
 openedFormat = 0
 
 unfoldable pub openedLayout : ℕ
-unfolding entryOf entryNumber entryKind isEntry entryExtent conflict inOrder ordered copies demandMet apart passes layoutLength
+unfolding entryOf entryNumber entryKind isEntry entryExtent conflict inOrder ordered copies demandMet apart passes largestEnd layoutLength
 openedLayout = 0
 
 unfoldable pub openedSearch : ℕ
@@ -58,7 +59,7 @@ unfolding pieces candidateTable free abovePrevious beats staysBelow live copiesL
 openedSearch = 0
 
 unfoldable pub openedServices : ℕ
-unfolding numbersIn wordsIn withNumbers withWords coordinate vertexNumbers partNumbers kindNumbers classNumbers contentNumbers readContent read cause12 rowBit rowWords rowContent conflictRow entryIn layoutIn cause11 check workWords cleared entryNumbers layoutNumbers withLayout heldAs finishedAs stepCount verdict runContent run
+unfolding numbersIn wordsIn withNumbers withWords coordinate vertexNumbers partNumbers kindNumbers classNumbers contentNumbers readContent read cause13 refusalUnder cause12 rowBit rowWords rowContent conflictRow entryIn layoutIn cause11 checkContent check workWords cleared entryNumbers layoutNumbers withLayout heldAs finishedAs stepCount verdict runContent run
 openedServices = 0
 
 unfoldable pub openedOutput : ℕ

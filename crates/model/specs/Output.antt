@@ -4,10 +4,11 @@ use mathlib.Core.List.{List, [], _∷_, _++_, map}
 use Prim.Native.Nat.{ℕ, zero, suc, _+_, _*_, _/_, _%_}
 use lib.Dec.{eqb}
 use lib.ListN.{replicate}
-use Rattle.model.specs.Content.{Job, pieceCount}
+use Rattle.model.specs.Content.{pieceCount}
 use Rattle.model.specs.Format.{content}
 use Rattle.model.specs.Layout as L
 use Rattle.model.specs.Lists.{concat}
+use Rattle.model.specs.Problem.{Problem, under}
 use Rattle.model.specs.Services.{RunOutcome, run, layoutIn, entryNumbers, workWords}
 use Rattle.model.specs.declared.Held.{Held}
 use Rattle.model.specs.declared.Held.the-variants.{Layout, Nothing}
@@ -82,11 +83,12 @@ layoutLines (Stopped h steps) es = heldLines h es
 layoutLines (Infeasible steps) es = []
 
 -- What is printed of a run: its first line, and the layout that the answer numbers hold.
-unfoldable pub printed : Job → RunOutcome → List ℕ
+unfoldable pub printed : Problem → RunOutcome → List ℕ
 printed j r = firstLine (r .answer) ++ layoutLines (r .answer) (layoutIn j (r .out))
 
--- "The command program reads a job from standard input, gives run a budget of 1,000,000 and prints." Its buffers are long enough.
+-- "The command program reads a job from standard input, gives run a budget of 1,000,000 and prints." Its buffers are long enough. Document 02:
+-- "m = 0, which the command program passes".
 unfoldable pub program : List ℕ → List ℕ
 program s =
-    printed (content s)
-    (run s 1000000 (replicate (workWords (content s) * 8) 0) (replicate (pieceCount (content s) * 8) 0))
+    printed (under 0 (content s))
+    (run s 0 1000000 (replicate (workWords (under 0 (content s)) * 8) 0) (replicate (pieceCount (content s .kinds) * 8) 0))

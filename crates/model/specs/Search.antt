@@ -6,26 +6,27 @@ use Prim.Native.Nat.{ℕ, max}
 use lib.Dec.{leb, ltb, eqb}
 use lib.ListN.{length, getD, take, replicate}
 use Rattle.model.specs.Candidate.{candidates}
-use Rattle.model.specs.Content.{Job, kindAt, kindCount}
+use Rattle.model.specs.Content.{Kind, kindAt, kindCount}
 use Rattle.model.specs.Layout.{Entry, Layout, entryOf, entryNumber, entryExtent, conflict, layoutLength}
 use Rattle.model.specs.Lists.{all, any, countOf, concat, below}
+use Rattle.model.specs.Problem.{Problem}
 
 -- "Pieces follow the layout's order": the type of each piece, ordered by type, each type as often as it is demanded.
-unfoldable pub pieces : Job → List ℕ
-pieces j = concat (map (λ t. replicate (kindAt j t .demand) t) (below (kindCount j)))
+unfoldable pub pieces : List Kind → List ℕ
+pieces ks = concat (map (λ t. replicate (kindAt ks t .demand) t) (below (kindCount ks)))
 
 -- The candidates of every type, in rising order.
-unfoldable pub candidateTable : Job → List (List ℕ)
-candidateTable j = map (candidates j) (below (kindCount j))
+unfoldable pub candidateTable : Problem → List (List ℕ)
+candidateTable j = map (candidates j) (below (kindCount (j .kinds)))
 
 -- ---- Live candidates. What is placed is listed with the latest piece first
 
 -- "in conflict with nothing placed"
-unfoldable pub free : Job → Layout → Entry → Bool
+unfoldable pub free : Problem → Layout → Entry → Bool
 free j placed e = not (any (λ f. conflict j f e) placed)
 
 -- "numbered above that type's previous copy"
-unfoldable pub abovePrevious : Job → Layout → Entry → Bool
+unfoldable pub abovePrevious : Problem → Layout → Entry → Bool
 abovePrevious j [] e = true
 abovePrevious j (f ∷ placed) e =
     cond (eqb (f .kind) (e .kind)) (ltb (entryNumber j f) (entryNumber j e)) (abovePrevious j placed e)
@@ -36,12 +37,12 @@ beats len none = true
 beats len (some best) = ltb len best
 
 -- "leaving the length of all pieces then placed below the best so far"
-unfoldable pub staysBelow : Job → Layout → Option ℕ → Entry → Bool
+unfoldable pub staysBelow : Problem → Layout → Option ℕ → Entry → Bool
 staysBelow j placed best e = beats (layoutLength j (e ∷ placed)) best
 
 -- "Live candidates of a type with copies still to place are those in conflict with nothing placed, numbered above that type's previous
 -- copy, and leaving the length of all pieces then placed below the best so far."
-unfoldable pub live : Job → Layout → Option ℕ → ℕ → ℕ → Bool
+unfoldable pub live : Problem → Layout → Option ℕ → ℕ → ℕ → Bool
 live j placed best t n =
     staysBelow j placed best (entryOf j t n) && abovePrevious j placed (entryOf j t n) && free j placed (entryOf j t n)
 
@@ -52,9 +53,9 @@ unfoldable pub copiesLeft : ℕ → List ℕ → ℕ
 copiesLeft t left = countOf (eqb t) left
 
 -- Document 01's "look-ahead": "if some type has fewer live candidates than copies left, the walk goes no deeper."
-unfoldable pub forwardCheck : Job → List (List ℕ) → List ℕ → Layout → Option ℕ → Bool
+unfoldable pub forwardCheck : Problem → List (List ℕ) → List ℕ → Layout → Option ℕ → Bool
 forwardCheck j cs left placed best =
-    all (λ t. leb (copiesLeft t left) (countOf (live j placed best t) (getD cs t []))) (below (kindCount j))
+    all (λ t. leb (copiesLeft t left) (countOf (live j placed best t) (getD cs t []))) (below (kindCount (j .kinds)))
 
 -- ---- Steps
 
@@ -86,7 +87,7 @@ completed (t ∷ left) placed = none
 -- "A piece tries its candidates in rising order and takes each that is live at that moment, and a candidate taken passes the walk to the
 -- next piece", which is `next`. "Each candidate taken is one step .., also when look-ahead gives it back."
 -- "A candidate is tried against the best of that moment."
-unfoldable pub tryCandidates : Job → List (List ℕ) → (Layout → Option ℕ → Searched) → ℕ → List ℕ → List ℕ → Layout → Option ℕ → Searched
+unfoldable pub tryCandidates : Problem → List (List ℕ) → (Layout → Option ℕ → Searched) → ℕ → List ℕ → List ℕ → Layout → Option ℕ → Searched
 tryCandidates j cs next t left [] placed best = searched [] best
 tryCandidates j cs next t left (n ∷ ns) placed best =
     elim (live j placed best t n) [
@@ -102,39 +103,39 @@ tryCandidates j cs next t left (n ∷ ns) placed best =
     ]
 
 -- The walk over the pieces left. "A complete layout becomes the best."
-unfoldable pub searchPieces : Job → List (List ℕ) → List ℕ → Layout → Option ℕ → Searched
+unfoldable pub searchPieces : Problem → List (List ℕ) → List ℕ → Layout → Option ℕ → Searched
 searchPieces j cs [] placed best = searched [] (some (layoutLength j placed))
 searchPieces j cs (t ∷ left) placed best = tryCandidates j cs (searchPieces j cs left) t left (getD cs t []) placed best
 
 -- Look-ahead "is tested before the first step": the walk over all pieces, with the best that it begins with.
-unfoldable pub searchFrom : Job → List (List ℕ) → Option ℕ → Searched
+unfoldable pub searchFrom : Problem → List (List ℕ) → Option ℕ → Searched
 searchFrom j cs best =
-    elim (forwardCheck j cs (pieces j) [] best) [
+    elim (forwardCheck j cs (pieces (j .kinds)) [] best) [
       | false ↦ searched [] best
-      | true ↦ searchPieces j cs (pieces j) [] best
+      | true ↦ searchPieces j cs (pieces (j .kinds)) [] best
     ]
 
 -- ---- Budgets
 
 -- The length of the layout, if there is one.
-unfoldable pub lengthOf : Job → Option Layout → Option ℕ
+unfoldable pub lengthOf : Problem → Option Layout → Option ℕ
 lengthOf j none = none
 lengthOf j (some es) = some (layoutLength j es)
 
 -- All the steps "when no budget stops it", of a walk that begins with this layout as best, or with none.
-unfoldable pub stepsFrom : Job → Option Layout → List Step
+unfoldable pub stepsFrom : Problem → Option Layout → List Step
 stepsFrom j begin = searchFrom j (candidateTable j) (lengthOf j begin) .steps
 
 -- "The steps the walk needs are all the candidates it takes when no budget stops it."
-unfoldable pub stepsNeeded : Job → Option Layout → ℕ
+unfoldable pub stepsNeeded : Problem → Option Layout → ℕ
 stepsNeeded j begin = length (stepsFrom j begin)
 
 -- "The walk stops when it would take a candidate with the budget already spent."
-unfoldable pub isStopped : Job → Option Layout → ℕ → Bool
+unfoldable pub isStopped : Problem → Option Layout → ℕ → Bool
 isStopped j begin budget = ltb budget (stepsNeeded j begin)
 
 -- "the steps taken are those up to its end or its stop"
-unfoldable pub stepsTaken : Job → Option Layout → ℕ → List Step
+unfoldable pub stepsTaken : Problem → Option Layout → ℕ → List Step
 stepsTaken j begin budget = take budget (stepsFrom j begin)
 
 -- The later layout, if there is one.
@@ -148,5 +149,5 @@ bestAfter h [] = h
 bestAfter h (s ∷ ss) = bestAfter (latest h (s .completes)) ss
 
 -- "The best layout of the steps taken"
-unfoldable pub held : Job → Option Layout → ℕ → Option Layout
+unfoldable pub held : Problem → Option Layout → ℕ → Option Layout
 held j begin budget = bestAfter begin (stepsTaken j begin budget)

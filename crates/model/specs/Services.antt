@@ -1,5 +1,5 @@
 -- Document 01, "Services" and "Who can cause a refusal": what each service answers, and what it leaves in every buffer handed in.
--- "They are tested as 1 to 7, then 12, 11, 8, 9, then 10, each only after those before it."
+-- "They are tested as 1 to 7, then 12, 11, 8, 9, then 10, each only after those before it." Document 02: "13 .., tested after 7".
 use mathlib.Core.Bool.{Bool, true, false, not, _&&_, _||_, cond}
 use mathlib.Core.List.{List, [], _∷_, _++_, map}
 use mathlib.Core.Option.{Option, none, some}
@@ -15,6 +15,7 @@ use Rattle.model.specs.Format.{refusal, content}
 use Rattle.model.specs.Grid.{placement, setWords}
 use Rattle.model.specs.Layout.{Entry, Layout, entry, entryOf, conflict, passes, layoutLength}
 use Rattle.model.specs.Lists.{concat, below}
+use Rattle.model.specs.Problem.{Problem, under, cause13}
 use Rattle.model.specs.Search.{isStopped, stepsTaken, held}
 use Rattle.model.specs.declared.Checked.{Checked}
 use Rattle.model.specs.declared.Checked.the-variants as C
@@ -68,8 +69,8 @@ classNumbers c = c .id ∷ c .rank ∷ c .gap ∷ []
 unfoldable pub contentNumbers : Job → List ℕ
 contentNumbers j =
     (j .sheet .W ∷ j .sheet .L ∷ j .sheet .g ∷ length (j .classes) ∷ concat (map classNumbers (j .classes)))
-    ++ (kindCount j ∷ concat (map kindNumbers (j .kinds)))
-    ++ (pieceCount j ∷ [])
+    ++ (kindCount (j .kinds) ∷ concat (map kindNumbers (j .kinds)))
+    ++ (pieceCount (j .kinds) ∷ [])
 
 -- What a service that writes into one buffer answers and leaves in it.
 pub record WriteOutcome : Type 0 where
@@ -93,14 +94,24 @@ read s out =
       | true ↦ readContent (content s) out
     ]
 
+-- ---- What row, check and run are given besides the job: the margin
+
+-- "13, margin above 63, tested after 7": by which number a job is refused under a margin, 0 if by none of 1 to 7 and 13.
+unfoldable pub refusalUnder : ℕ → List ℕ → ℕ
+refusalUnder m s =
+    elim (eqb (refusal s) 0) [
+      | false ↦ refusal s
+      | true ↦ cond (cause13 m) 13 0
+    ]
+
 -- ---- Conflict row
 
 -- "12: the row's candidate or type does not exist."
-unfoldable pub cause12 : Job → ℕ → ℕ → ℕ → Bool
-cause12 j t n u = not (ltb t (kindCount j) && isCandidate j t n && ltb u (kindCount j))
+unfoldable pub cause12 : Problem → ℕ → ℕ → ℕ → Bool
+cause12 j t n u = not (ltb t (kindCount (j .kinds)) && isCandidate j t n && ltb u (kindCount (j .kinds)))
 
 -- "a bit is set where that type's candidate of that number exists and is in conflict"
-unfoldable pub rowBit : Job → ℕ → ℕ → ℕ → ℕ → Bool
+unfoldable pub rowBit : Problem → ℕ → ℕ → ℕ → ℕ → Bool
 rowBit j t n u m =
     elim (isCandidate j u m) [
       | false ↦ false
@@ -108,11 +119,11 @@ rowBit j t n u m =
     ]
 
 -- "fills ceil(D / 16) words": "candidate n is bit n mod 64 of word n div 64".
-unfoldable pub rowWords : Job → ℕ → ℕ → ℕ → List ℕ
+unfoldable pub rowWords : Problem → ℕ → ℕ → ℕ → List ℕ
 rowWords j t n u = map (λ w. bitsWhere 64 (λ i. rowBit j t n u (w * 64 + i))) (below (setWords (j .sheet)))
 
 -- Conflict row, of an accepted job. "9: .. row words too few."
-unfoldable pub rowContent : Job → ℕ → ℕ → ℕ → List ℕ → WriteOutcome
+unfoldable pub rowContent : Problem → ℕ → ℕ → ℕ → List ℕ → WriteOutcome
 rowContent j t n u out =
     elim (cause12 j t n u) [
       | true ↦ writeOutcome (W.Refused 12) out
@@ -124,11 +135,11 @@ rowContent j t n u out =
     ]
 
 -- "Conflict row takes a candidate, given as its type and its number, and a second type."
-unfoldable pub conflictRow : List ℕ → ℕ → ℕ → ℕ → List ℕ → WriteOutcome
-conflictRow s t n u out =
-    elim (eqb (refusal s) 0) [
-      | false ↦ writeOutcome (W.Refused (refusal s)) out
-      | true ↦ rowContent (content s) t n u out
+unfoldable pub conflictRow : List ℕ → ℕ → ℕ → ℕ → ℕ → List ℕ → WriteOutcome
+conflictRow s m t n u out =
+    elim (eqb (refusalUnder m s) 0) [
+      | false ↦ writeOutcome (W.Refused (refusalUnder m s)) out
+      | true ↦ rowContent (under m (content s)) t n u out
     ]
 
 -- ---- Check
@@ -139,19 +150,23 @@ entryIn s i =
     entry (numberAt 2 s (i * 8)) (placement (numberAt 2 s (i * 8 + 2)) (numberAt 2 s (i * 8 + 4)) (numberAt 2 s (i * 8 + 6)))
 
 -- The N entries of a layout that is handed in.
-unfoldable pub layoutIn : Job → List ℕ → Layout
-layoutIn j s = map (entryIn s) (below (pieceCount j))
+unfoldable pub layoutIn : Problem → List ℕ → Layout
+layoutIn j s = map (entryIn s) (below (pieceCount (j .kinds)))
 
 -- "11: the layout handed in has another count of numbers, is out of order, or does not pass."
-unfoldable pub cause11 : Job → List ℕ → Bool
-cause11 j s = not (eqb (numbersIn s) (4 * pieceCount j)) || not (passes j (layoutIn j s))
+unfoldable pub cause11 : Problem → List ℕ → Bool
+cause11 j s = not (eqb (numbersIn s) (4 * pieceCount (j .kinds))) || not (passes j (layoutIn j s))
 
--- The check service. "Check gives a layout's length." It changes no buffer.
-unfoldable pub check : List ℕ → List ℕ → Checked
-check s layout =
-    elim (eqb (refusal s) 0) [
-      | false ↦ C.Refused (refusal s)
-      | true ↦ cond (cause11 (content s) layout) (C.Refused 11) (C.Passes (layoutLength (content s) (layoutIn (content s) layout)))
+-- Check, of an accepted job. "Check gives a layout's length."
+unfoldable pub checkContent : Problem → List ℕ → Checked
+checkContent j layout = cond (cause11 j layout) (C.Refused 11) (C.Passes (layoutLength j (layoutIn j layout)))
+
+-- The check service. It changes no buffer.
+unfoldable pub check : List ℕ → ℕ → List ℕ → Checked
+check s m layout =
+    elim (eqb (refusalUnder m s) 0) [
+      | false ↦ C.Refused (refusalUnder m s)
+      | true ↦ checkContent (under m (content s)) layout
     ]
 
 -- ---- Run
@@ -166,11 +181,11 @@ abbrev pub runOutcome : RunAnswer → List ℕ → List ℕ → RunOutcome
 runOutcome a w o = record { answer = a; work = w; out = o }
 
 -- "T × N × ceil(D / 16) work words (T types)"
-unfoldable pub workWords : Job → ℕ
-workWords j = kindCount j * pieceCount j * setWords (j .sheet)
+unfoldable pub workWords : Problem → ℕ
+workWords j = kindCount (j .kinds) * pieceCount (j .kinds) * setWords (j .sheet)
 
 -- "afterwards those work words are zero"
-unfoldable pub cleared : Job → List ℕ → List ℕ
+unfoldable pub cleared : Problem → List ℕ → List ℕ
 cleared j work = withWords (replicate (workWords j) 0) work
 
 -- Type, column, row and turn.
@@ -187,41 +202,41 @@ withLayout none out = out
 withLayout (some es) out = withNumbers (layoutNumbers es) out
 
 -- "A stopped run says whether it holds a layout, and that layout's length."
-unfoldable pub heldAs : Job → Option Layout → H.Held
+unfoldable pub heldAs : Problem → Option Layout → H.Held
 heldAs j none = HV.Nothing
 heldAs j (some es) = HV.Layout (layoutLength j es)
 
 -- A run that ended: "shortest" with the layout that it holds, or "10 ..: none; no layout passes".
-unfoldable pub finishedAs : Job → Option Layout → ℕ → RunAnswer
+unfoldable pub finishedAs : Problem → Option Layout → ℕ → RunAnswer
 finishedAs j none steps = R.Infeasible steps
 finishedAs j (some es) steps = R.Shortest (layoutLength j es) steps
 
 -- "The steps reported are the ones that walk took": "as many as it needs, or the whole budget if that is less".
-unfoldable pub stepCount : Job → ℕ → ℕ
+unfoldable pub stepCount : Problem → ℕ → ℕ
 stepCount j budget = length (stepsTaken j none budget)
 
 -- What the walk answers under a budget: stopped or not, with the best layout of the steps taken and their number.
-unfoldable pub verdict : Job → ℕ → RunAnswer
+unfoldable pub verdict : Problem → ℕ → RunAnswer
 verdict j budget =
     cond (isStopped j none budget) (R.Stopped (heldAs j (held j none budget)) (stepCount j budget))
     (finishedAs j (held j none budget) (stepCount j budget))
 
 -- Run, of an accepted job. "8: work words too few. 9: answer .. words too few."
-unfoldable pub runContent : Job → ℕ → List ℕ → List ℕ → RunOutcome
+unfoldable pub runContent : Problem → ℕ → List ℕ → List ℕ → RunOutcome
 runContent j budget work out =
     elim (ltb (wordsIn work) (workWords j)) [
       | true ↦ runOutcome (R.Refused 8) work out
       | false ↦
-          elim (ltb (numbersIn out) (4 * pieceCount j)) [
+          elim (ltb (numbersIn out) (4 * pieceCount (j .kinds))) [
             | true ↦ runOutcome (R.Refused 9) work out
             | false ↦ runOutcome (verdict j budget) (cleared j work) (withLayout (held j none budget) out)
           ]
     ]
 
 -- The run service.
-unfoldable pub run : List ℕ → ℕ → List ℕ → List ℕ → RunOutcome
-run s budget work out =
-    elim (eqb (refusal s) 0) [
-      | false ↦ runOutcome (R.Refused (refusal s)) work out
-      | true ↦ runContent (content s) budget work out
+unfoldable pub run : List ℕ → ℕ → ℕ → List ℕ → List ℕ → RunOutcome
+run s m budget work out =
+    elim (eqb (refusalUnder m s) 0) [
+      | false ↦ runOutcome (R.Refused (refusalUnder m s)) work out
+      | true ↦ runContent (under m (content s)) budget work out
     ]

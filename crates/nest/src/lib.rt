@@ -16,30 +16,37 @@ pub extern "C" fn nest_read(job: &[u8], answer: &mut [u8]) -> u64
 #[no_mangle]
 pub extern "C" fn nest_row(
     job: &[u8],
+    margin: usize,
     kind: usize,
     number: usize,
     other: usize,
     row: &mut [u8],
 ) -> u64
-    ensures { λ r. ⌜ (r ≡ writtenWord (Services.conflictRow (now (job .entry)) kind number other (now (row .entry)) .answer)) × (now (row .exit) ≡ Services.conflictRow (now (job .entry)) kind number other (now (row .entry)) .buffer) ⌝ }
+    ensures { λ r. ⌜ (r ≡ writtenWord (Services.conflictRow (now (job .entry)) margin kind number other (now (row .entry)) .answer)) × (now (row .exit) ≡ Services.conflictRow (now (job .entry)) margin kind number other (now (row .entry)) .buffer) ⌝ }
 {
-    answers::written_word(rows::row(job, kind, number, other, row))
+    answers::written_word(rows::row(job, margin, kind, number, other, row))
 }
 
 // "Check gives a layout's length."
 #[no_mangle]
-pub extern "C" fn nest_check(job: &[u8], layout: &[u8]) -> u64
-    ensures { λ r. ⌜ r ≡ checkWord (Services.check (now (job .entry)) (now (layout .entry))) ⌝ }
+pub extern "C" fn nest_check(job: &[u8], margin: usize, layout: &[u8]) -> u64
+    ensures { λ r. ⌜ r ≡ checkWord (Services.check (now (job .entry)) margin (now (layout .entry))) ⌝ }
 {
-    answers::check_word(checking::check(job, layout))
+    answers::check_word(checking::check(job, margin, layout))
 }
 
 // The walk under a step budget.
 #[no_mangle]
-pub extern "C" fn nest_run(job: &[u8], budget: u32, work: &mut [u8], answer: &mut [u8]) -> u64
-    ensures { λ r. ⌜ r ≡ runWord (Services.run (now (job .entry)) budget (now (work .entry)) (now (answer .entry)) .answer) ⌝ }
-    ensures { λ _. ⌜ now (work .exit) ≡ Services.run (now (job .entry)) budget (now (work .entry)) (now (answer .entry)) .work ⌝ }
-    ensures { λ _. ⌜ now (answer .exit) ≡ Services.run (now (job .entry)) budget (now (work .entry)) (now (answer .entry)) .out ⌝ }
+pub extern "C" fn nest_run(
+    job: &[u8],
+    margin: usize,
+    budget: u32,
+    work: &mut [u8],
+    answer: &mut [u8],
+) -> u64
+    ensures { λ r. ⌜ r ≡ runWord (Services.run (now (job .entry)) margin budget (now (work .entry)) (now (answer .entry)) .answer) ⌝ }
+    ensures { λ _. ⌜ now (work .exit) ≡ Services.run (now (job .entry)) margin budget (now (work .entry)) (now (answer .entry)) .work ⌝ }
+    ensures { λ _. ⌜ now (answer .exit) ≡ Services.run (now (job .entry)) margin budget (now (work .entry)) (now (answer .entry)) .out ⌝ }
 {
-    answers::run_word(search::run::run(job, budget, work, answer))
+    answers::run_word(search::run::run(job, margin, budget, work, answer))
 }

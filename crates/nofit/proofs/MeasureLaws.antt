@@ -201,7 +201,7 @@ columns-apart span g columns r a c f h l =
 module _ (s : List ℕ) (v : View) (b : Boxes) (x : Viewed s v) (y : BoxesOf s b) (all : Extents) (gap span r : ℕ) (around : Around (v .rotations) (b .of) (v .kinds * 4) all)
     (gaps : NoLarger (v .gaps) (v .kinds) gap) (wide : ((all .«max_x» -ℤ all .«min_x») +ℤ pos gap) ≤ℤ pos span) (spaced : Spaced span (v .step) (v .columns) r) where
   -- the box of a kind at a rotation that it may have
-  box-within : (t k : ℕ) → t < kindCount (content s) → k < 4 → testBit (kindAt (content s) t .rotations) k ≡ true → Within all (extentsOf (turnedVertices s t k))
+  box-within : (t k : ℕ) → t < kindCount (content s .kinds) → k < 4 → testBit (kindAt (content s .kinds) t .rotations) k ≡ true → Within all (extentsOf (turnedVertices s t k))
   box-within t k h l m =
       let q : (t * 4 + k) / 4 ≡ t = omega arith in
       let r : (t * 4 + k) % 4 ≡ k = omega arith in
@@ -210,21 +210,21 @@ module _ (s : List ℕ) (v : View) (b : Boxes) (x : Viewed s v) (y : BoxesOf s b
       (ap₂ (λ i j. testBit (getD (v .rotations) i 0) j) q r ∙ ap (λ n. testBit n k) (kind-in s v x t h .rotations) ∙ m))
 
   -- the gap of a pair
-  pair-most : (t u : ℕ) → t < kindCount (content s) → u < kindCount (content s) → pairGap (content s) (kindAt (content s) t) (kindAt (content s) u) ≤ gap
+  pair-most : (t u : ℕ) → t < kindCount (content s .kinds) → u < kindCount (content s .kinds) → pairGap (content s .classes) (kindAt (content s .kinds) t) (kindAt (content s .kinds) u) ≤ gap
   pair-most t u ht hu = subst (λ n. n ≤ gap) (gap-is s v x t u ht hu) (max-le (gaps t (omega (arith, x .view .kinds))) (gaps u (omega (arith, x .view .kinds))))
 
   -- Pieces that stand so many columns apart are not in conflict.
   pub reaching : Reaching (content s) r
   unfolding offsetConflict
   reaching t q u k a c dy n hq hk ha hc far =
-      let ht : t < kindCount (content s) = omega (arith, n .ordered, n .exists) in
+      let ht : t < kindCount (content s .kinds) = omega (arith, n .ordered, n .exists) in
       let p = pair-most t u ht (n .exists) in
       let e = box-within t q ht hq (n .first) in
       let f = box-within u k (n .exists) hk (n .second) in
       let g = content s .sheet .g in
       let there : Spaced span g (Grid.columns (content s .sheet)) r = rw (sym (x .view .step), sym (x .view .columns)) spaced in
-      boxes-apart (pairGap (content s) (kindAt (content s) t) (kindAt (content s) u)) (map (map (rotated q)) (kindAt (content s) t .parts)) (map (map (rotated k)) (kindAt (content s) u .parts))
-      (pos (c * g) -ℤ pos (a * g)) dy (turned-vertexed q (kindAt (content s) t .parts) (vertexed s v x t ht)) (turned-vertexed k (kindAt (content s) u .parts) (vertexed s v x u (n .exists)))
+      boxes-apart (pairGap (content s .classes) (kindAt (content s .kinds) t) (kindAt (content s .kinds) u)) (map (map (rotated q)) (kindAt (content s .kinds) t .parts)) (map (map (rotated k)) (kindAt (content s .kinds) u .parts))
+      (pos (c * g) -ℤ pos (a * g)) dy (turned-vertexed q (kindAt (content s .kinds) t .parts) (vertexed s v x t ht)) (turned-vertexed k (kindAt (content s .kinds) u .parts) (vertexed s v x u (n .exists)))
       (⊎-elim (λ h. right-apart gap all _ _ _ span (pos (a * g)) (pos (c * g)) dy e f p wide (columns-apart span g (Grid.columns (content s .sheet)) r a c there h hc))
       (λ h. left-apart gap all _ _ _ span (pos (a * g)) (pos (c * g)) dy e f p wide (columns-apart span g (Grid.columns (content s .sheet)) r c a there h ha)) far)
 

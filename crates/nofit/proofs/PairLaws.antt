@@ -149,16 +149,16 @@ bound-far false n h = inl refl
 
 module _ (s : List ℕ) (v : View) (table : List ℤ) (b : Boxes) (w : Nofit) (room : ℕ) (f : Fillable s v table b w room) (i : ℕ) (x : Pair) (o : PairOf w i x)
     (p r : Piece) (hp : PieceOf s (x .kind) p) (hr : PieceOf s (x .other) r) where
-  pub other-exists : x .other < kindCount (content s)
+  pub other-exists : x .other < kindCount (content s .kinds)
   other-exists = omega (arith, o .exists, f .measures .kinds)
 
-  pub kind-exists : x .kind < kindCount (content s)
+  pub kind-exists : x .kind < kindCount (content s .kinds)
   kind-exists = omega (arith, o .ordered, other-exists)
 
-  placed-parts : partsIn table p (x .turn) ≡ map (map (rotated (x .turn))) (kindAt (content s) (x .kind) .parts)
+  placed-parts : partsIn table p (x .turn) ≡ map (map (rotated (x .turn))) (kindAt (content s .kinds) (x .kind) .parts)
   placed-parts = parts-turned s table (x .kind) p (x .turn) (f .turned) hp kind-exists (o .turn)
 
-  other-parts : (k : ℕ) → k < 4 → partsIn table r k ≡ map (map (rotated k)) (kindAt (content s) (x .other) .parts)
+  other-parts : (k : ℕ) → k < 4 → partsIn table r k ≡ map (map (rotated k)) (kindAt (content s .kinds) (x .other) .parts)
   other-parts k h = parts-turned s table (x .other) r k (f .turned) hr other-exists h
 
   pub pattern-ready : Ready table (patternOf v w x) p r
@@ -178,8 +178,8 @@ module _ (s : List ℕ) (v : View) (table : List ℤ) (b : Boxes) (w : Nofit) (r
         turn = o .turn;
         first = hp .fitting;
         second = hr .fitting;
-        corners = rw placed-parts (vertexed-turned (rotated (x .turn)) (kindAt (content s) (x .kind) .parts) (vertexed s v (f .viewed) (x .kind) kind-exists));
-        others = λ k h. rw (other-parts k h) (vertexed-turned (rotated k) (kindAt (content s) (x .other) .parts) (vertexed s v (f .viewed) (x .other) other-exists));
+        corners = rw placed-parts (vertexed-turned (rotated (x .turn)) (kindAt (content s .kinds) (x .kind) .parts) (vertexed s v (f .viewed) (x .kind) kind-exists));
+        others = λ k h. rw (other-parts k h) (vertexed-turned (rotated k) (kindAt (content s .kinds) (x .other) .parts) (vertexed s v (f .viewed) (x .other) other-exists));
       }
 
   pub box-placed : BoxIn table p (x .turn) (boxAt b (x .kind) (x .turn))
@@ -209,7 +209,7 @@ module _ (s : List ℕ) (v : View) (table : List ℤ) (b : Boxes) (w : Nofit) (r
 
   -- The string as it is asked for.
   pub pattern-written : (at n : ℕ) (old new : List ℕ) → Written at n (allowed (getD (v .rotations) (x .other) 0)) (blockedBit table (patternOf v w x) p r) old new
-      → Written at n (allowed (kindAt (content s) (x .other) .rotations)) (blocked (content s) w (x .kind) (x .turn) (x .other) (x .down)) old new
+      → Written at n (allowed (kindAt (content s .kinds) (x .other) .rotations)) (blocked (content s) w (x .kind) (x .turn) (x .other) (x .down)) old new
   pattern-written at n old new t =
       record {
         inside = λ z h a. t .inside z h (ap (λ mask. testBit mask (z % 4)) (kind-in s v (f .viewed) (x .other) other-exists .rotations) ∙ a) ∙ blocked-is z;
@@ -225,7 +225,7 @@ module _ (s : List ℕ) (v : View) (table : List ℤ) (b : Boxes) (w : Nofit) (r
     box-of = subst (λ (c : Pattern). BoxIn table p (c .turn) (boxAt b (x .kind) (x .turn))) (sym e) box-placed
 
     pub written-of : (at n : ℕ) (old new : List ℕ) → Written at n (allowed (c .mask)) (blockedBit table c p r) old new
-        → Written at n (allowed (kindAt (content s) (x .other) .rotations)) (blocked (content s) w (x .kind) (x .turn) (x .other) (x .down)) old new
+        → Written at n (allowed (kindAt (content s .kinds) (x .other) .rotations)) (blocked (content s) w (x .kind) (x .turn) (x .other) (x .down)) old new
     written-of at n old new t = pattern-written at n old new (subst (λ (c : Pattern). Written at n (allowed (c .mask)) (blockedBit table c p r) old new) e t)
 
 -- ---- strings, one after the other
@@ -233,7 +233,7 @@ module _ (s : List ℕ) (v : View) (table : List ℤ) (b : Boxes) (w : Nofit) (r
 -- All that is asked of a string of these kinds and rotations, written as string i.
 abbrev pub Right : Job → Nofit → ℕ → List ℕ → ℕ → ℕ → ℕ → ℕ → Type 0
 Right j w i new t q u down =
-    testBit (kindAt j t .rotations) q ≡ true → (z : ℕ) → z < w .size * 64 → allowed (kindAt j u .rotations) z ≡ true
+    testBit (kindAt (j .kinds) t .rotations) q ≡ true → (z : ℕ) → z < w .size * 64 → allowed (kindAt (j .kinds) u .rotations) z ≡ true
     → member new (stringStart w i + z) ≡ blocked j w t q u down z
 
 right-again : (j : Job) (w : Nofit) (i : ℕ) (new : List ℕ) (t q u down t′ q′ u′ down′ : ℕ) → t′ ≡ t → q′ ≡ q → u′ ≡ u → down′ ≡ down → Right j w i new t′ q′ u′ down′ → Right j w i new t q u down
@@ -246,7 +246,7 @@ earlier w n i z h l =
     let e : suc n * w .size ≤ i * w .size = mul-le-mul-right {m = suc n} {n = i} (w .size) h in
     omega (arith, suc-mul n (w .size))
 
-module _ (j : Job) (w : Nofit) (e : w .kinds ≡ kindCount j) (i : ℕ) (x : Pair) (o : PairOf w i x) (old new : List ℕ)
+module _ (j : Job) (w : Nofit) (e : w .kinds ≡ kindCount (j .kinds)) (i : ℕ) (x : Pair) (o : PairOf w i x) (old new : List ℕ)
     (before : StringsOf j w i old) (kept : (m : ℕ) → m < stringStart w i → member new m ≡ member old m)
     (here : Right j w i new (x .kind) (x .turn) (x .other) (x .down)) where
   above-here : (t q u : ℕ) → t ≤ u → u < w .kinds → q < 4 → aboveString w t q u ≡ i → Right j w i new t q u 0
@@ -311,16 +311,16 @@ module _ (j : Job) (w : Nofit) (e : w .kinds ≡ kindCount j) (i : ℕ) (x : Pai
             (le-or-lt i (belowString w t q u));
       }
 
-module _ (j : Job) (w : Nofit) (e : w .kinds ≡ kindCount j) (i : ℕ) (x : Pair) (o : PairOf w i x) (old : List ℕ) (before : StringsOf j w i old) where
+module _ (j : Job) (w : Nofit) (e : w .kinds ≡ kindCount (j .kinds)) (i : ℕ) (x : Pair) (o : PairOf w i x) (old : List ℕ) (before : StringsOf j w i old) where
   -- String i is filled.
   pub string-filled : (new : List ℕ)
-      → Written (w .first + i * w .size) (w .size) (allowed (kindAt j (x .other) .rotations)) (blocked j w (x .kind) (x .turn) (x .other) (x .down)) old new
+      → Written (w .first + i * w .size) (w .size) (allowed (kindAt (j .kinds) (x .other) .rotations)) (blocked j w (x .kind) (x .turn) (x .other) (x .down)) old new
       → StringsOf j w (i + 1) new
   unfolding stringStart
   string-filled new f = strings-more j w e i x o old new before (λ m h. f .outside m (inl h)) (λ a z h b. f .inside z h b)
 
   -- String i is not asked for.
-  pub string-skipped : (testBit (kindAt j (x .kind) .rotations) (x .turn) ≡ true → ⊥) → StringsOf j w (i + 1) old
+  pub string-skipped : (testBit (kindAt (j .kinds) (x .kind) .rotations) (x .turn) ≡ true → ⊥) → StringsOf j w (i + 1) old
   string-skipped h = strings-more j w e i x o old old before (λ m l. refl) (λ a. absurd (h a))
 
 -- The parities stand before all strings.

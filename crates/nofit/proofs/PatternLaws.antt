@@ -21,6 +21,7 @@ use Rattle.model.specs.Format.{content, refusal}
 use Rattle.model.specs.Gap.{pairGap}
 use Rattle.model.specs.Grid.{Placement, rows, columns, placementOf}
 use Rattle.model.specs.Layout.{entry, entryOf, entryKind, conflict}
+use Rattle.model.specs.Problem.{Problem, under}
 use Rattle.model.proofs.AcceptedKinds.{kind-ranges}
 use Rattle.model.proofs.Lists.{and-left, and-right}
 use Rattle.model.proofs.Moves.{Vertexed}
@@ -115,26 +116,26 @@ same-way x a c m g e =
 
 module _ (s : List ℕ) (e : refusal s ≡ 0) where
   -- Every part of a kind has a vertex.
-  pub kind-vertexed : (t : ℕ) → t < kindCount (content s) → Vertexed (kindAt (content s) t .parts)
-  kind-vertexed t h = go (kindAt (content s) t .parts) (λ i l. kind-ranges s e t h .corners i l .0)
+  pub kind-vertexed : (t : ℕ) → t < kindCount (content s .kinds) → Vertexed (kindAt (content s .kinds) t .parts)
+  kind-vertexed t h = go (kindAt (content s .kinds) t .parts) (λ i l. kind-ranges s e t h .corners i l .0)
     where
       go : (Ps : List Part) → ((i : ℕ) → i < length Ps → 3 ≤ length (getD Ps i [])) → Vertexed Ps
       go [] k = tt
       go (P ∷ Ps) k = (omega (arith, k 0 (omega arith)), go Ps (λ i l. k (suc i) (omega arith)))
 
   -- The conflict of two placed pieces is that at the offset from the one dot to the other.
-  pub conflict-offset : (t u : ℕ) (a c : Placement) → t < kindCount (content s) → u < kindCount (content s)
+  pub conflict-offset : (margin t u : ℕ) (a c : Placement) → t < kindCount (content s .kinds) → u < kindCount (content s .kinds)
       → offsetConflict (content s) t (a .rotation) u (c .rotation) (pos (c .column * content s .sheet .g) -ℤ pos (a .column * content s .sheet .g))
       (pos (c .row * content s .sheet .g) -ℤ pos (a .row * content s .sheet .g))
-      ≡ conflict (content s) (entry t a) (entry u c)
+      ≡ conflict (under margin (content s)) (entry t a) (entry u c)
   unfolding offsetConflict conflict entryKind placedParts
-  conflict-offset t u a c ht hu =
+  conflict-offset margin t u a c ht hu =
       let j : Job = content s in
-      conflict-placed (pairGap j (kindAt j t) (kindAt j u)) (j .sheet) a c (kindAt j t .parts) (kindAt j u .parts) (kind-vertexed t ht) (kind-vertexed u hu)
+      conflict-placed (pairGap (j .classes) (kindAt (j .kinds) t) (kindAt (j .kinds) u)) (j .sheet) a c (kindAt (j .kinds) t .parts) (kindAt (j .kinds) u .parts) (kind-vertexed t ht) (kind-vertexed u hu)
 
 -- The place of a candidate.
-module _ (j : Job) (t n : ℕ) (k : isCandidate j t n ≡ true) where
-  pub candidate-turned : testBit (kindAt j t .rotations) (n % 4) ≡ true
+module _ (j : Problem) (t n : ℕ) (k : isCandidate j t n ≡ true) where
+  pub candidate-turned : testBit (kindAt (j .kinds) t .rotations) (n % 4) ≡ true
   unfolding isCandidate admitted placementOf
   candidate-turned = and-right (ltb (n / 4 / rows (j .sheet)) (columns (j .sheet)) && ltb (n / 4 % rows (j .sheet)) (rows (j .sheet))) _ (and-left _ _ k)
 
@@ -142,13 +143,13 @@ module _ (j : Job) (t n : ℕ) (k : isCandidate j t n ≡ true) where
   unfolding isCandidate admitted placementOf
   candidate-column = ltb-true _ _ (and-left _ _ (and-left _ _ (and-left _ _ k)))
 
--- ---- two candidates
+-- ---- two candidates, under any margin
 
-module _ (s : List ℕ) (w : Nofit) (o : MeasuresOf s w) (t n u m : ℕ) (ordered : t ≤ u) (exists : u < kindCount (content s))
-    (k : isCandidate (content s) t n ≡ true) (l : isCandidate (content s) u m ≡ true) where
+module _ (s : List ℕ) (w : Nofit) (o : MeasuresOf s w) (margin t n u m : ℕ) (ordered : t ≤ u) (exists : u < kindCount (content s .kinds))
+    (k : isCandidate (under margin (content s)) t n ≡ true) (l : isCandidate (under margin (content s)) u m ≡ true) where
   -- Their kinds and rotations are asked for.
   pub needed : Needed (content s) t (n % 4) u (m % 4)
-  needed = record { ordered = ordered; exists = exists; first = candidate-turned (content s) t n k; second = candidate-turned (content s) u m l }
+  needed = record { ordered = ordered; exists = exists; first = candidate-turned (under margin (content s)) t n k; second = candidate-turned (under margin (content s)) u m l }
 
   abbrev dx : ℤ
   dx = pos (m / 4 / w .rows * content s .sheet .g) -ℤ pos (n / 4 / w .rows * content s .sheet .g)
@@ -156,19 +157,19 @@ module _ (s : List ℕ) (w : Nofit) (o : MeasuresOf s w) (t n u m : ℕ) (ordere
   abbrev dy : ℤ
   dy = pos (m / 4 % w .rows * content s .sheet .g) -ℤ pos (n / 4 % w .rows * content s .sheet .g)
 
-  numbers-offset : offsetConflict (content s) t (n % 4) u (m % 4) dx dy ≡ conflict (content s) (entryOf (content s) t n) (entryOf (content s) u m)
+  numbers-offset : offsetConflict (content s) t (n % 4) u (m % 4) dx dy ≡ conflict (under margin (content s)) (entryOf (under margin (content s)) t n) (entryOf (under margin (content s)) u m)
   unfolding entryOf placementOf
   numbers-offset =
       rw (o .rows)
-      (conflict-offset s (o .accepted) t u (placementOf (content s .sheet) n) (placementOf (content s .sheet) m) (omega arith) exists)
+      (conflict-offset s (o .accepted) margin t u (placementOf (content s .sheet) n) (placementOf (content s .sheet) m) (omega arith) exists)
 
   -- Out of reach there is no conflict.
   pub far : (n / 4 / w .rows + w .reach ≤ m / 4 / w .rows) ⊎ (m / 4 / w .rows + w .reach ≤ n / 4 / w .rows)
-      → conflict (content s) (entryOf (content s) t n) (entryOf (content s) u m) ≡ false
+      → conflict (under margin (content s)) (entryOf (under margin (content s)) t n) (entryOf (under margin (content s)) u m) ≡ false
   far h =
       sym numbers-offset
       ∙ o .reaching t (n % 4) u (m % 4) (n / 4 / w .rows) (m / 4 / w .rows) dy needed (omega arith) (omega arith)
-      (rw (o .rows) (candidate-column (content s) t n k)) (rw (o .rows) (candidate-column (content s) u m l)) h
+      (rw (o .rows) (candidate-column (under margin (content s)) t n k)) (rw (o .rows) (candidate-column (under margin (content s)) u m l)) h
 
   -- Bit z of a string, z being where the second number stands in it, is set where the second candidate goes once the first is placed.
   module _ (down y z : ℕ) (e : z + (n / 4 / w .rows * w .rows * 4 + n / 4 % w .rows * 4) ≡ m + 64 + (w .reach + down) * w .rows * 4)
@@ -190,10 +191,10 @@ module _ (s : List ℕ) (w : Nofit) (o : MeasuresOf s w) (t n u m : ℕ) (ordere
         && offsetConflict (content s) t (n % 4) u r (fromMiddle (content s .sheet .g) (w .reach) x) (fromMiddle (content s .sheet .g) (down * w .rows) y)
 
     shown-is : (x : ℕ) → x + n / 4 / w .rows ≡ m / 4 / w .rows + w .reach
-        → shown x y (m % 4) ≡ conflict (content s) (entryOf (content s) t n) (entryOf (content s) u m)
+        → shown x y (m % 4) ≡ conflict (under margin (content s)) (entryOf (under margin (content s)) t n) (entryOf (under margin (content s)) u m)
     shown-is x h = go (le-or-lt (w .reach * 2 + 1) x)
       where
-        go : (w .reach * 2 + 1 ≤ x) ⊎ (x < w .reach * 2 + 1) → shown x y (m % 4) ≡ conflict (content s) (entryOf (content s) t n) (entryOf (content s) u m)
+        go : (w .reach * 2 + 1 ≤ x) ⊎ (x < w .reach * 2 + 1) → shown x y (m % 4) ≡ conflict (under margin (content s)) (entryOf (under margin (content s)) t n) (entryOf (under margin (content s)) u m)
         go (inl q) = rw (le-ltb x (w .reach * 2 + 1) q) (sym (far (inl (omega arith))))
         go (inr q) =
             rw (lt-ltb x (w .reach * 2 + 1) q)
@@ -202,11 +203,11 @@ module _ (s : List ℕ) (w : Nofit) (o : MeasuresOf s w) (t n u m : ℕ) (ordere
             (same-way y (n / 4 % w .rows) (m / 4 % w .rows) (down * w .rows) (content s .sheet .g) row)
             ∙ numbers-offset)
 
-    pattern : (leb 64 z && shown ((z - 64) / 4 / w .rows) ((z - 64) / 4 % w .rows) (z % 4)) ≡ conflict (content s) (entryOf (content s) t n) (entryOf (content s) u m)
+    pattern : (leb 64 z && shown ((z - 64) / 4 / w .rows) ((z - 64) / 4 % w .rows) (z % 4)) ≡ conflict (under margin (content s)) (entryOf (under margin (content s)) t n) (entryOf (under margin (content s)) u m)
     pattern = go (le-or-lt (n / 4 / w .rows) (m / 4 / w .rows + w .reach))
       where
         go : (n / 4 / w .rows ≤ m / 4 / w .rows + w .reach) ⊎ (m / 4 / w .rows + w .reach < n / 4 / w .rows)
-            → (leb 64 z && shown ((z - 64) / 4 / w .rows) ((z - 64) / 4 % w .rows) (z % 4)) ≡ conflict (content s) (entryOf (content s) t n) (entryOf (content s) u m)
+            → (leb 64 z && shown ((z - 64) / 4 / w .rows) ((z - 64) / 4 % w .rows) (z % 4)) ≡ conflict (under margin (content s)) (entryOf (under margin (content s)) t n) (entryOf (under margin (content s)) u m)
         go (inr h) =
             let before : z < 64 = z-before (w .rows) (w .reach) (n / 4 / w .rows) (m / 4 / w .rows) 0 y z (m % 4) place hy (omega arith) h in
             rw (lt-leb 64 z before) (sym (far (inr (omega arith))))
@@ -220,7 +221,7 @@ module _ (s : List ℕ) (w : Nofit) (o : MeasuresOf s w) (t n u m : ℕ) (ordere
             let d = z-turn (w .rows) (w .reach) (n / 4 / w .rows) (m / 4 / w .rows) x y z (m % 4) place hy (omega arith) q in
             (λ i. le-leb 64 z from i && shown (c i) (r i) (d i)) ∙ shown-is x q
 
-    pub blocked-number : blocked (content s) w t (n % 4) u down z ≡ (eqb t u && leb m n) || conflict (content s) (entryOf (content s) t n) (entryOf (content s) u m)
+    pub blocked-number : blocked (content s) w t (n % 4) u down z ≡ (eqb t u && leb m n) || conflict (under margin (content s)) (entryOf (under margin (content s)) t n) (entryOf (under margin (content s)) u m)
     unfolding blocked
     blocked-number = ap₂ (λ (a b : Bool). (eqb t u && a) || b) same-order (and-assoc (leb 64 z) _ _ ∙ pattern)
 

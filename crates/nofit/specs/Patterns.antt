@@ -26,8 +26,8 @@ use Rattle.nofit.specs.declared.places.Nofit.{Nofit}
 -- Kind t, turned q quarter turns, is in conflict with kind u, turned k quarter turns and moved by (dx, dy).
 unfoldable pub offsetConflict : Job → ℕ → ℕ → ℕ → ℕ → ℤ → ℤ → Bool
 offsetConflict j t q u k dx dy =
-    piecesConflict (pairGap j (kindAt j t) (kindAt j u)) (map (map (rotated q)) (kindAt j t .parts))
-    (map (map (shifted dx dy)) (map (map (rotated k)) (kindAt j u .parts)))
+    piecesConflict (pairGap (j .classes) (kindAt (j .kinds) t) (kindAt (j .kinds) u)) (map (map (rotated q)) (kindAt (j .kinds) t .parts))
+    (map (map (shifted dx dy)) (map (map (rotated k)) (kindAt (j .kinds) u .parts)))
 
 -- How far place n lies from the middle one, where the dots are a step apart.
 abbrev pub fromMiddle : ℕ → ℕ → ℕ → ℤ
@@ -36,9 +36,9 @@ fromMiddle step middle n = pos (n * step) -ℤ pos (middle * step)
 -- These are asked for: the kinds exist, the second is not before the first, and both may be turned so.
 pub record Needed (j : Job) (t q u k : ℕ) : Type 0 where
   pub ordered : t ≤ u
-  pub exists : u < kindCount j
-  pub first : testBit (kindAt j t .rotations) q ≡ true
-  pub second : testBit (kindAt j u .rotations) k ≡ true
+  pub exists : u < kindCount (j .kinds)
+  pub first : testBit (kindAt (j .kinds) t .rotations) q ≡ true
+  pub second : testBit (kindAt (j .kinds) u .rotations) k ≡ true
 
 -- ---- the strings
 
@@ -89,7 +89,7 @@ Reaching j reach =
 -- The measures of a table for this job: its kinds and rows, how far pieces reach, and room for the parities of all numbers and for a string.
 pub record MeasuresOf (s : List ℕ) (w : Nofit) : Type 0 where
   pub accepted : refusal s ≡ 0
-  pub kinds : w .kinds ≡ kindCount (content s)
+  pub kinds : w .kinds ≡ kindCount (content s .kinds)
   pub rows : w .rows ≡ Grid.rows (content s .sheet)
   pub some : 1 ≤ w .reach
   pub across : w .reach * content s .sheet .g ≤ 2000

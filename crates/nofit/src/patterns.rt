@@ -307,7 +307,7 @@ fn fill_pair(
 )
     requires { ⌜ Fillable (now job) view (now turned) boxes nofit (length (now bits)) ⌝ }
     requires { ⌜ PairOf nofit i x × (i < nofit .held) ⌝ }
-    ensures { λ _. ⌜ Written (nofit .first + i * nofit .size) (nofit .size) (allowed (kindAt (content (now (job .entry))) (x .other) .rotations)) (blocked (content (now (job .entry))) nofit (x .kind) (x .turn) (x .other) (x .down)) (now (bits .entry)) (now (bits .exit)) ⌝ }
+    ensures { λ _. ⌜ Written (nofit .first + i * nofit .size) (nofit .size) (allowed (kindAt (content (now (job .entry)) .kinds) (x .other) .rotations)) (blocked (content (now (job .entry))) nofit (x .kind) (x .turn) (x .other) (x .down)) (now (bits .entry)) (now (bits .exit)) ⌝ }
 {
     let p = piece_of(job, view, x.kind);
     let r = piece_of(job, view, x.other);

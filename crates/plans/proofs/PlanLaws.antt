@@ -7,10 +7,11 @@ use native.Mathlib.Omega.{arith}
 use lib.IntN.{pos, _+ℤ_}
 use lib.ListN.{getD}
 use Rattle.model.specs.Candidate.{isCandidate, natural}
-use Rattle.model.specs.Content.{Job, kindCount}
+use Rattle.model.specs.Content.{kindCount}
 use Rattle.model.specs.Format.{content}
 use Rattle.model.specs.Grid.{placementOf, rows}
 use Rattle.model.specs.Layout.{entryOf, entryKind, entryExtent}
+use Rattle.model.specs.Problem.{Problem}
 use Rattle.model.proofs.Accepted.{accepted-kinds}
 use Rattle.model.proofs.Numbers.{rows-positive}
 use Rattle.model.proofs.Search.Pieces.{entry-kind}
@@ -21,11 +22,11 @@ use Rattle.candidates.specs.Conflicts.{placedOf, Near}
 use Rattle.candidates.proofs.PreparedLaws.{bounded, extent-is, number-near, candidate-number}
 use Rattle.stepping.proofs.Extents.{candidate-entry}
 use Rattle.stepping.proofs.Limits.{few-words}
-use Rattle.plans.specs.Planned.{PlanOf}
+use Rattle.plans.specs.Planned.{PlanOf, planned}
 use Rattle.plans.specs.declared.plan.Plan.{Plan}
 
 -- A candidate is one of a kind that exists.
-pub candidate-kind : (j : Job) (u m : ℕ) → isCandidate j u m ≡ true → u < kindCount j
+pub candidate-kind : (j : Problem) (u m : ℕ) → isCandidate j u m ≡ true → u < kindCount (j .kinds)
 unfolding entryOf
 candidate-kind j u m e = entry-kind j (entryOf j u m) (candidate-entry j u m ∙ e)
 
@@ -42,26 +43,26 @@ module _ (s : List ℕ) (p : Plan) (o : PlanOf s p) where
   some-row = omega (arith, plan-rows, rows-positive (content s .sheet))
 
   -- There are eight kinds at most, and a set has 64 words at most.
-  pub kinds-few : kindCount (content s) ≤ 8
+  pub kinds-few : kindCount (content s .kinds) ≤ 8
   kinds-few = accepted-kinds s (o .accepted) .few-kinds
 
   pub words-few : p .words ≤ 64
   words-few = omega (arith, o .words, few-words s (o .accepted))
 
   -- A gap is small.
-  pub gap-small : (t : ℕ) → t < kindCount (content s) → getD (p .gaps) t 0 ≤ 63
+  pub gap-small : (t : ℕ) → t < kindCount (content s .kinds) → getD (p .gaps) t 0 ≤ 63
   gap-small t h =
       rw (o .gaps t h ∙ sym (kind-in s (o .view) plan-viewed t h .gap)) (bounded s (o .view) plan-viewed .gaps t (omega (arith, o .viewed .kinds)))
 
-  module _ (u m : ℕ) (c : isCandidate (content s) u m ≡ true) where
+  module _ (u m : ℕ) (c : isCandidate (planned s p) u m ≡ true) where
     -- A candidate stands near.
     pub near : Near (p .step) (placedOf (p .rows) m)
-    near = rw (o .step, o .rows) (number-near s (o .view) plan-viewed m (candidate-number (content s) u m c))
+    near = rw (o .step, o .rows) (number-near s (o .view) plan-viewed m (candidate-number (planned s p) u m c))
 
     -- Its end, by the end of its kind on the first column.
-    pub end-is : natural (getD (p .ends) (u * 4 + m % 4) (pos 0) +ℤ pos (m / 4 / p .rows * p .step)) ≡ entryExtent (content s) (entryOf (content s) u m)
+    pub end-is : natural (getD (p .ends) (u * 4 + m % 4) (pos 0) +ℤ pos (m / 4 / p .rows * p .step)) ≡ entryExtent (planned s p) (entryOf (planned s p) u m)
     unfolding entryExtent entryKind entryOf placementOf extentAt
     end-is =
-        let h : u < kindCount (content s) = candidate-kind (content s) u m c in
+        let h : u < kindCount (content s .kinds) = candidate-kind (planned s p) u m c in
         rw (o .ends u (m % 4) h (omega arith), o .rows, o .step, o .viewed .rows)
         (extent-is s (o .view) (o .boxes) plan-viewed (o .boxed) u h (m / 4 / rows (content s .sheet)) (m / 4 % rows (content s .sheet)) (m % 4) (omega arith))

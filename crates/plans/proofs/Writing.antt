@@ -10,10 +10,10 @@ use lib.Seq.{take-at, drop-at, drop-drop}
 use Rattle.words.specs.Number.{bytes, bytesOf, withNumber, filled}
 use Rattle.words.proofs.Row.{length-bytesOf, bytesOf-append, filled-none}
 use Rattle.words.proofs.Value.{bytes-mod, bytes-add}
-use Rattle.model.specs.Content.{Job}
 use Rattle.model.specs.Grid.{rows, placementOf}
 use Rattle.model.specs.Layout.{Entry, entryOf}
 use Rattle.model.specs.Lists.{below, rising, concat}
+use Rattle.model.specs.Problem.{Problem}
 use Rattle.model.specs.Services.{entryNumbers, layoutNumbers, withNumbers}
 use Rattle.model.proofs.Lists.{length-below}
 use Rattle.model.proofs.ReadBack.{Small, length-numbers}
@@ -80,7 +80,7 @@ written-next e i out h =
     ∙ ap (λ (at : ℕ). withNumber 8 (filled 2 (layoutNumbers (map e (below i))) out) at (fourIn (e i .kind) (e i .place .column) (e i .place .row) (e i .place .rotation))) l
 
 -- The entry of a small number is small.
-pub entry-small : (j : Job) (t n : ℕ) → t < 8 → n < 4096 → Small (entryOf j t n)
+pub entry-small : (j : Problem) (t n : ℕ) → t < 8 → n < 4096 → Small (entryOf j t n)
 unfolding entryOf placementOf
 entry-small j t n h k =
     record {
@@ -91,9 +91,9 @@ entry-small j t n h k =
     }
 
 -- One more entry, as code writes it.
-pub entry-written : (j : Job) (ns out out′ : List ℕ) (i rows-told kind n : ℕ) → pieceKind j i < 8 → n < 4096 → kind ≡ pieceKind j i → n ≡ numbersAt ns i
-    → rows-told ≡ rows (j .sheet) → out′ ≡ written (λ l. entryOf j (pieceKind j l) (numbersAt ns l)) i out
-    → withNumber 8 out′ (i * 8) (fourIn kind (n / 4 / rows-told) (n / 4 % rows-told) (n % 4)) ≡ written (λ l. entryOf j (pieceKind j l) (numbersAt ns l)) (i + 1) out
+pub entry-written : (j : Problem) (ns out out′ : List ℕ) (i rows-told kind n : ℕ) → pieceKind (j .kinds) i < 8 → n < 4096 → kind ≡ pieceKind (j .kinds) i → n ≡ numbersAt ns i
+    → rows-told ≡ rows (j .sheet) → out′ ≡ written (λ l. entryOf j (pieceKind (j .kinds) l) (numbersAt ns l)) i out
+    → withNumber 8 out′ (i * 8) (fourIn kind (n / 4 / rows-told) (n / 4 % rows-told) (n % 4)) ≡ written (λ l. entryOf j (pieceKind (j .kinds) l) (numbersAt ns l)) (i + 1) out
 unfolding entryOf placementOf
 entry-written j ns out out′ i rows-told kind n h k e f r w =
-    rw (e, f, r, w) (sym (written-next (λ l. entryOf j (pieceKind j l) (numbersAt ns l)) i out (entry-small j (pieceKind j i) (numbersAt ns i) h (rw (← f) k))))
+    rw (e, f, r, w) (sym (written-next (λ l. entryOf j (pieceKind (j .kinds) l) (numbersAt ns l)) i out (entry-small j (pieceKind (j .kinds) i) (numbersAt ns i) h (rw (← f) k))))

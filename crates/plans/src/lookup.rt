@@ -10,7 +10,7 @@ ghost use Rattle.model.specs.Layout.{entryOf, entryExtent};
 ghost use Rattle.shapes.specs.Pieces.{PieceOf};
 ghost use Rattle.candidates.specs.Conflicts.{placedOf};
 ghost use Rattle.stepping.specs.Slots.{SetPlace};
-ghost use Rattle.plans.specs.Planned.{PlanOf};
+ghost use Rattle.plans.specs.Planned.{PlanOf, planned};
 use crate::plan::Plan;
 use candidates::conflicts::Placed;
 use candidates::conflicts::larger_gap;
@@ -20,7 +20,7 @@ use shapes::pieces::Piece;
 
 // The piece of a kind.
 pub fn piece_in(job: &[u8], plan: Plan, kind: usize) -> Piece
-    requires { ⌜ PlanOf (now job) plan × (kind < kindCount (content (now job))) ⌝ }
+    requires { ⌜ PlanOf (now job) plan × (kind < kindCount (content (now job) .kinds)) ⌝ }
     ensures { λ r. ⌜ PieceOf (now (job .entry)) kind r ⌝ }
 {
     let counts = plan.parts;
@@ -48,8 +48,8 @@ pub fn larger(a: usize, b: usize) -> usize
 
 // The gap of a pair of kinds.
 pub fn pair_gap(job: &[u8], plan: Plan, t: usize, u: usize) -> u16
-    requires { ⌜ PlanOf (now job) plan × (t < kindCount (content (now job))) × (u < kindCount (content (now job))) ⌝ }
-    ensures { λ r. ⌜ r ≡ pairGap (content (now (job .entry))) (kindAt (content (now (job .entry))) t) (kindAt (content (now (job .entry))) u) ⌝ }
+    requires { ⌜ PlanOf (now job) plan × (t < kindCount (content (now job) .kinds)) × (u < kindCount (content (now job) .kinds)) ⌝ }
+    ensures { λ r. ⌜ r ≡ pairGap (content (now (job .entry)) .classes) (kindAt (content (now (job .entry)) .kinds) t) (kindAt (content (now (job .entry)) .kinds) u) ⌝ }
 {
     let gaps = plan.gaps;
     larger_gap(gaps[t] as usize, gaps[u] as usize)
@@ -57,8 +57,8 @@ pub fn pair_gap(job: &[u8], plan: Plan, t: usize, u: usize) -> u16
 
 // Where candidate m of kind u ends, which stands at this place.
 pub fn end_at(job: &[u8], plan: Plan, u: usize, m: usize, place: Placed) -> usize
-    requires { ⌜ PlanOf (now job) plan × (isCandidate (content (now job)) u m ≡ true) × (place ≡ placedOf (plan .rows) m) ⌝ }
-    ensures { λ r. ⌜ r ≡ entryExtent (content (now (job .entry))) (entryOf (content (now (job .entry))) u m) ⌝ }
+    requires { ⌜ PlanOf (now job) plan × (isCandidate (planned (now job) plan) u m ≡ true) × (place ≡ placedOf (plan .rows) m) ⌝ }
+    ensures { λ r. ⌜ r ≡ entryExtent (planned (now (job .entry)) plan) (entryOf (planned (now (job .entry)) plan) u m) ⌝ }
 {
     let ends = plan.ends;
     placements::end_of(ends[u * 4 + place.rotation], place.column * plan.step)
@@ -66,16 +66,16 @@ pub fn end_at(job: &[u8], plan: Plan, u: usize, m: usize, place: Placed) -> usiz
 
 // Where candidate m of kind u ends.
 pub fn end_of(job: &[u8], plan: Plan, u: usize, m: usize) -> usize
-    requires { ⌜ PlanOf (now job) plan × (isCandidate (content (now job)) u m ≡ true) ⌝ }
-    ensures { λ r. ⌜ r ≡ entryExtent (content (now (job .entry))) (entryOf (content (now (job .entry))) u m) ⌝ }
+    requires { ⌜ PlanOf (now job) plan × (isCandidate (planned (now job) plan) u m ≡ true) ⌝ }
+    ensures { λ r. ⌜ r ≡ entryExtent (planned (now (job .entry)) plan) (entryOf (planned (now (job .entry)) plan) u m) ⌝ }
 {
     end_at(job, plan, u, m, placed_of(plan.rows, m))
 }
 
 // The word at which the set of level l and kind u begins.
 pub fn set_start(job: &[u8], plan: Plan, l: usize, u: usize) -> usize
-    requires { ⌜ PlanOf (now job) plan × (l < pieceCount (content (now job))) × (u < kindCount (content (now job))) ⌝ }
-    ensures { λ r. ⌜ SetPlace (content (now (job .entry))) l u r ⌝ }
+    requires { ⌜ PlanOf (now job) plan × (l < pieceCount (content (now job) .kinds)) × (u < kindCount (content (now job) .kinds)) ⌝ }
+    ensures { λ r. ⌜ SetPlace (planned (now (job .entry)) plan) l u r ⌝ }
 {
     (l * plan.types + u) * plan.words
 }

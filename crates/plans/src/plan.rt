@@ -11,17 +11,20 @@ ghost use Rattle.shapes.specs.Pieces.{Fitting};
 ghost use Rattle.shapes.specs.Turned.{Viewed};
 ghost use Rattle.stepping.specs.Levels.{piecesFrom};
 ghost use Rattle.plans.specs.Planned.{KindsOf, CopiesOf, EndsOf, SizesOf, PlanOf};
+ghost use Rattle.job.specs.View.{problemOf};
 use job::View;
 use shapes::boxes::Boxes;
 use shapes::pieces::Piece;
 use shapes::pieces::piece_of;
 
-// The board's rows and step; how many kinds and pieces there are, and words in a set; the kind of each piece; the copies of each kind left at
+// The board's rows and step; the margin, which says whose candidates the live sets hold (no function of the walk looks at it: it is the same in every length, so
+// the walk compares ends); how many kinds and pieces there are, and words in a set; the kind of each piece; the copies of each kind left at
 // each level, those of kind u at level l under l * 8 + u; where each kind ends at the first column, turned k quarter turns under t * 4 + k; its
 // gap, how many parts it has, and how many vertices each part has, part i of kind t under t * 6 + i.
 pub struct Plan {
     pub rows: usize,
     pub step: usize,
+    pub margin: usize,
     pub types: usize,
     pub pieces: usize,
     pub words: usize,
@@ -36,7 +39,7 @@ pub struct Plan {
 // The kind of each piece: the kinds in their order, each as often as it is demanded.
 fn piece_kinds(job: &[u8], view: View) -> [u8; 12]
     requires { ⌜ Viewed (now job) view ⌝ }
-    ensures { λ r. ⌜ KindsOf (content (now (job .entry))) r ⌝ }
+    ensures { λ r. ⌜ KindsOf (content (now (job .entry)) .kinds) r ⌝ }
 {
     let demands = view.demands;
     let pieces = view.pieces;
@@ -58,8 +61,8 @@ fn piece_kinds(job: &[u8], view: View) -> [u8; 12]
 
 // The copies of kind u among the pieces from piece l on.
 fn count_copies(job: &[u8], view: View, kinds: [u8; 12], l: usize, u: usize) -> u8
-    requires { ⌜ Viewed (now job) view × KindsOf (content (now job)) kinds × (l ≤ pieceCount (content (now job))) ⌝ }
-    ensures { λ r. ⌜ r ≡ copiesLeft u (piecesFrom (content (now (job .entry))) l) ⌝ }
+    requires { ⌜ Viewed (now job) view × KindsOf (content (now job) .kinds) kinds × (l ≤ pieceCount (content (now job) .kinds)) ⌝ }
+    ensures { λ r. ⌜ r ≡ copiesLeft u (piecesFrom (content (now (job .entry)) .kinds) l) ⌝ }
 {
     let pieces = view.pieces;
     let mut count = 0;
@@ -75,8 +78,8 @@ fn count_copies(job: &[u8], view: View, kinds: [u8; 12], l: usize, u: usize) -> 
 
 // The copies of each kind left at each level.
 fn copies_table(job: &[u8], view: View, kinds: [u8; 12]) -> [u8; 96]
-    requires { ⌜ Viewed (now job) view × KindsOf (content (now job)) kinds ⌝ }
-    ensures { λ r. ⌜ CopiesOf (content (now (job .entry))) r ⌝ }
+    requires { ⌜ Viewed (now job) view × KindsOf (content (now job) .kinds) kinds ⌝ }
+    ensures { λ r. ⌜ CopiesOf (content (now (job .entry)) .kinds) r ⌝ }
 {
     let pieces = view.pieces;
     let mut copies = [0u8; 96];
@@ -143,10 +146,10 @@ fn sizes_of(job: &[u8], view: View) -> [u8; 48]
     sizes
 }
 
-// The plan of a job.
+// The plan of a job, under the view's margin.
 pub fn make_plan(job: &[u8], view: View, boxes: Boxes) -> Plan
     requires { ⌜ Viewed (now job) view × BoxesOf (now job) boxes ⌝ }
-    ensures { λ r. ⌜ PlanOf (now (job .entry)) r ⌝ }
+    ensures { λ r. ⌜ PlanOf (now (job .entry)) r × (r .margin ≡ view .margin) ⌝ }
 {
     let kinds = piece_kinds(job, view);
     let gaps = view.gaps;
@@ -154,6 +157,7 @@ pub fn make_plan(job: &[u8], view: View, boxes: Boxes) -> Plan
     Plan {
         rows: view.rows,
         step: view.step,
+        margin: view.margin,
         types: view.kinds,
         pieces: view.pieces,
         words: (view.columns * view.rows + 15) / 16,
@@ -169,7 +173,7 @@ pub fn make_plan(job: &[u8], view: View, boxes: Boxes) -> Plan
 // How many work words a run needs.
 pub fn work_words(job: &[u8], view: View) -> usize
     requires { ⌜ Viewed (now job) view ⌝ }
-    ensures { λ r. ⌜ (r ≡ workWords (content (now (job .entry)))) × (r ≤ 6144) ⌝ }
+    ensures { λ r. ⌜ (r ≡ workWords (problemOf (now (job .entry)) view)) × (r ≤ 6144) ⌝ }
 {
     view.kinds * view.pieces * ((view.columns * view.rows + 15) / 16)
 }

@@ -2,9 +2,8 @@
 ghost use mathlib.Core.Option.{some};
 ghost use mathlib.Core.Path.{_≡_};
 ghost use Prim.Native.Nat.{_/_, _%_, _≤_, _<_};
-ghost use Rattle.model.specs.Format.{content};
 ghost use Rattle.model.specs.Services.{withLayout};
-ghost use Rattle.plans.specs.Planned.{PlanOf};
+ghost use Rattle.plans.specs.Planned.{PlanOf, planned};
 ghost use Rattle.plans.specs.Recording.{fourIn, layoutOf, Recordable};
 use crate::plan::Plan;
 use words::numbers;
@@ -21,8 +20,8 @@ fn entry_word(rows: usize, kind: u8, n: usize) -> u64
 
 // The layout of all pieces, each at the candidate of its number, becomes the first answer numbers.
 pub fn record_layout(job: &[u8], plan: Plan, candidates: [usize; 12], out: &mut [u8])
-    requires { ⌜ PlanOf (now job) plan × Recordable (content (now job)) candidates (now out) ⌝ }
-    ensures { λ _. ⌜ now (out .exit) ≡ withLayout (some (layoutOf (content (now (job .entry))) candidates)) (now (out .entry)) ⌝ }
+    requires { ⌜ PlanOf (now job) plan × Recordable (planned (now job) plan) candidates (now out) ⌝ }
+    ensures { λ _. ⌜ now (out .exit) ≡ withLayout (some (layoutOf (planned (now (job .entry)) plan) candidates)) (now (out .entry)) ⌝ }
 {
     let rows = plan.rows;
     let pieces = plan.pieces;

@@ -75,7 +75,7 @@ module _ (s : List ℕ) (e : refusal s ≡ 0) where
   pub back-length : length (backNumbers (content s)) ≡ 2 + kindsLength s
   back-length =
       let l = kinds-length in
-      length-append (kindCount (content s) ∷ concat (map kindNumbers (content s .kinds))) (pieceCount (content s) ∷ []) ∙ (omega arith)
+      length-append (kindCount (content s .kinds) ∷ concat (map kindNumbers (content s .kinds))) (pieceCount (content s .kinds) ∷ []) ∙ (omega arith)
 
   -- A type takes some bytes.
   pub kinds-some : 1 ≤ kindsLength s
@@ -90,12 +90,12 @@ module _ (s : List ℕ) (e : refusal s ≡ 0) where
     abbrev list : List ℕ
     list = take (base + size - base) (drop base s)
 
-    back-is : (p : ℕ) → p ≡ pieceCount (content s) → (n ∷ []) ++ kindsNumbers n list ++ (p ∷ []) ≡ backNumbers (content s)
+    back-is : (p : ℕ) → p ≡ pieceCount (content s .kinds) → (n ∷ []) ++ kindsNumbers n list ++ (p ∷ []) ≡ backNumbers (content s)
     back-is p ep =
         ap (λ l. (n ∷ []) ++ concat (map kindNumbers l) ++ (p ∷ [])) (values-from _ _ _ (got-list s (six-none s e) base size n eb es en))
         ∙ ap₂ (λ i q. (i ∷ []) ++ concat (map kindNumbers (content s .kinds)) ++ (q ∷ [])) (sym (kind-count s (six-none s e) base size n eb es en)) ep
 
-    pub back-written : (at p : ℕ) (a u v w : List ℕ) → (at + 2 + kindsLength s) * 2 ≤ length a → p ≡ pieceCount (content s)
+    pub back-written : (at p : ℕ) (a u v w : List ℕ) → (at + 2 + kindsLength s) * 2 ≤ length a → p ≡ pieceCount (content s .kinds)
         → u ≡ written at (n ∷ []) a → v ≡ written (at + 1) (kindsNumbers n list) u → w ≡ written (at + 1 + size) (p ∷ []) v
         → w ≡ written at (backNumbers (content s)) a
     back-written at p a u v w h ep eu ev ew =
@@ -111,7 +111,7 @@ module _ (s : List ℕ) (e : refusal s ≡ 0) where
   content-is : contentNumbers (content s) ≡ frontNumbers (content s) ++ backNumbers (content s)
   unfolding contentNumbers
   content-is =
-      append-assoc (frontNumbers (content s)) (kindCount (content s) ∷ concat (map kindNumbers (content s .kinds))) (pieceCount (content s) ∷ [])
+      append-assoc (frontNumbers (content s)) (kindCount (content s .kinds) ∷ concat (map kindNumbers (content s .kinds))) (pieceCount (content s .kinds) ∷ [])
 
   pub content-length : length (contentNumbers (content s)) ≡ 4 + classesStated s * 3 + 2 + kindsLength s
   content-length =

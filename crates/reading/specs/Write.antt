@@ -45,4 +45,4 @@ frontNumbers j = j .sheet .W ∷ j .sheet .L ∷ j .sheet .g ∷ length (j .clas
 
 -- The types and the number of pieces.
 abbrev pub backNumbers : Job → List ℕ
-backNumbers j = (kindCount j ∷ concat (map kindNumbers (j .kinds))) ++ (pieceCount j ∷ [])
+backNumbers j = (kindCount (j .kinds) ∷ concat (map kindNumbers (j .kinds))) ++ (pieceCount (j .kinds) ∷ [])

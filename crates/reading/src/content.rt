@@ -25,7 +25,7 @@ pub fn put_front(job: &[u8], answer: &mut [u8])
 
 // The types behind their count, and the number of pieces.
 pub fn put_back(job: &[u8], pieces: usize, answer: &mut [u8], at: usize)
-    requires { ⌜ ((refusal (now job) ≡ 0) × (pieces ≡ pieceCount (content (now job)))) × ((at + 2 + kindsLength (now job)) * 2 ≤ length (now answer)) ⌝ }
+    requires { ⌜ ((refusal (now job) ≡ 0) × (pieces ≡ pieceCount (content (now job) .kinds))) × ((at + 2 + kindsLength (now job)) * 2 ≤ length (now answer)) ⌝ }
     ensures { λ _. ⌜ now (answer .exit) ≡ written at (backNumbers (content (now (job .entry)))) (now (answer .entry)) ⌝ }
 {
     let t = trailer::read_trailer(job);
@@ -38,7 +38,7 @@ pub fn put_back(job: &[u8], pieces: usize, answer: &mut [u8], at: usize)
 
 // Read, of an accepted job. Too small an answer is refused before anything is written.
 pub fn read_content(job: &[u8], pieces: usize, answer: &mut [u8]) -> Written
-    requires { ⌜ (refusal (now job) ≡ 0) × (pieces ≡ pieceCount (content (now job))) ⌝ }
+    requires { ⌜ (refusal (now job) ≡ 0) × (pieces ≡ pieceCount (content (now job) .kinds)) ⌝ }
     ensures { λ r. ⌜ r ≡ readContent (content (now (job .entry))) (now (answer .entry)) .answer ⌝ }
     ensures { λ _. ⌜ now (answer .exit) ≡ readContent (content (now (job .entry))) (now (answer .entry)) .buffer ⌝ }
 {

@@ -7,9 +7,10 @@ use mathlib.Core.Logic.{⊎-elim}
 use lib.ListN.{length, length-append}
 use Rattle.words.proofs.Cases.{le-or-lt}
 use Rattle.words.specs.Bytes.{AreBytes}
-use Rattle.model.specs.Content.{Job, pieceCount}
+use Rattle.model.specs.Content.{pieceCount}
 use Rattle.model.specs.Lists.{below}
 use Rattle.model.specs.Output.{decimal, shortestWord, stoppedWord, noneWord, refusedWord, heldWord, firstLine, heldLines, layoutLines, printed}
+use Rattle.model.specs.Problem.{Problem}
 use Rattle.model.specs.Services.{RunOutcome, entryIn, layoutIn}
 use Rattle.model.proofs.Printing.{line-two, line-three}
 use Rattle.model.specs.declared.Held.{Held}
@@ -124,6 +125,6 @@ tokens-rendered a s pieces =
     tokens-lines a s (shownCount a pieces) ∙ ap (λ (t : List ℕ). firstLine a ++ t) (shown-lines a s pieces)
 
 -- What is rendered of a run of a job is what the definition of the program's output says is printed of it.
-pub rendered-printed : (j : Job) (r : RunOutcome) → rendered (r .answer) (r .out) (pieceCount j) ≡ printed j r
+pub rendered-printed : (j : Problem) (r : RunOutcome) → rendered (r .answer) (r .out) (pieceCount (j .kinds)) ≡ printed j r
 unfolding rendered printed layoutIn
 rendered-printed j r = refl

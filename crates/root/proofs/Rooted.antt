@@ -6,10 +6,11 @@ use mathlib.Core.Path.{_≡_, refl, sym, ap, _∙_, subst}
 use Prim.Native.Nat.{ℕ, _+_, _-_, _<_}
 use native.Mathlib.Omega.{arith}
 use lib.ListN.{length}
-use Rattle.model.specs.Content.{Job, pieceCount}
+use Rattle.model.specs.Content.{pieceCount}
 use Rattle.model.specs.Grid.{setWords}
-use Rattle.model.specs.Layout.{layoutLength}
+use Rattle.model.specs.Layout.{largestEnd}
 use Rattle.model.specs.Lists.{largest}
+use Rattle.model.specs.Problem.{Problem}
 use Rattle.model.specs.Services.{withLayout}
 use Rattle.stepping.specs.Levels.{placedBelow, tryLevel, goOnLevel, walkSpent, numbersAt}
 use Rattle.stepping.specs.LiveSets.{boundOf}
@@ -25,11 +26,11 @@ use Rattle.walks.proofs.GoingOn.{go-back, deep-ready, go-deep}
 use Rattle.root.specs.Walked.{RoomFor, Walked}
 
 -- Nothing placed has no length.
-no-length : (j : Job) → 0 ≡ layoutLength j []
-unfolding layoutLength largest
+no-length : (j : Problem) → 0 ≡ largestEnd j []
+unfolding largestEnd largest
 no-length j = refl
 
-module _ (j : Job) (budget long words : ℕ) (work out ns : List ℕ) (pieced : 0 < pieceCount j) (e : long ≡ j .sheet .L) (w : words ≡ setWords (j .sheet)) (m : length ns ≡ 12) (r : RoomFor j work out) where
+module _ (j : Problem) (budget long words : ℕ) (work out ns : List ℕ) (pieced : 0 < pieceCount (j .kinds)) (e : long ≡ j .sheet .L) (w : words ≡ setWords (j .sheet)) (m : length ns ≡ 12) (r : RoomFor j work out) where
   -- Nothing is placed.
   begin-ready : Ready j work out ns 0 0 0 (begun budget long words)
   unfolding placedBelow boundOf

@@ -4,7 +4,8 @@ use mathlib.Core.Path.{_≡_}
 use Prim.Native.Nat.{ℕ, _+_, _*_, _≤_}
 use lib.IntN.{ℤ}
 use lib.ListN.{length, drop}
-use Rattle.model.specs.Content.{Job, pieceCount}
+use Rattle.model.specs.Content.{pieceCount}
+use Rattle.model.specs.Problem.{Problem}
 use Rattle.model.specs.Services.{workWords, numbersIn, withLayout}
 use Rattle.stepping.specs.Levels.{walkSpent}
 use Rattle.stepping.specs.LiveSets.{boundOf}
@@ -20,12 +21,12 @@ use Rattle.nofit.specs.Patterns.{MeasuresOf}
 use Rattle.nofit.specs.declared.places.Nofit.{Nofit}
 
 -- The buffers are large enough.
-pub record RoomFor (j : Job) (work out : List ℕ) : Type 0 where
+pub record RoomFor (j : Problem) (work out : List ℕ) : Type 0 where
   pub work-fits : workWords j * 8 ≤ length work
-  pub out-fits : 4 * pieceCount j ≤ numbersIn out
+  pub out-fits : 4 * pieceCount (j .kinds) ≤ numbersIn out
 
 -- What the whole walk leaves.
-pub record Walked (j : Job) (budget : ℕ) (work out work′ out′ : List ℕ) (st : Progress) : Type 0 where
+pub record Walked (j : Problem) (budget : ℕ) (work out work′ out′ : List ℕ) (st : Progress) : Type 0 where
   pub left : st .left ≡ walkSpent j budget .left
   pub stopped : st .stopped ≡ walkSpent j budget .stopped
   pub held : heldOf j (st .found) out′ ≡ walkSpent j budget .held

@@ -10,9 +10,10 @@ ghost use Rattle.model.specs.Grid.{setWords};
 ghost use Rattle.model.specs.Services.{workWords};
 ghost use Rattle.shapes.specs.Boxes.{BoxesOf};
 ghost use Rattle.shapes.specs.Turned.{Viewed};
-ghost use Rattle.plans.specs.Planned.{PlanOf};
+ghost use Rattle.plans.specs.Planned.{PlanOf, planned};
 ghost use Rattle.live_sets.specs.Narrowing.{Filled, Fillable};
 ghost use Rattle.lookahead.specs.Settled.{Settled};
+ghost use Rattle.job.specs.View.{problemOf};
 use candidates::placements::is_candidate;
 use job::View;
 use lookahead::settling::has_members;
@@ -25,8 +26,8 @@ use words::numbers;
 // The bits of a word whose candidates exist.
 fn fill_word(job: &[u8], view: View, boxes: Boxes, u: usize, first: usize) -> u64
     requires { ⌜ Viewed (now job) view × BoxesOf (now job) boxes ⌝ }
-    requires { ⌜ (u < kindCount (content (now job))) × (first < 65536) ⌝ }
-    ensures { λ r. ⌜ r ≡ bitsWhere 64 (λ i. isCandidate (content (now (job .entry))) u (first + i)) ⌝ }
+    requires { ⌜ (u < kindCount (content (now job) .kinds)) × (first < 65536) ⌝ }
+    ensures { λ r. ⌜ r ≡ bitsWhere 64 (λ i. isCandidate (problemOf (now (job .entry)) view) u (first + i)) ⌝ }
 {
     let mut r = 0;
     let mut b: usize = 0;
@@ -40,8 +41,8 @@ fn fill_word(job: &[u8], view: View, boxes: Boxes, u: usize, first: usize) -> u6
 // The set at word `to`: all candidates of kind u.
 fn fill(job: &[u8], view: View, boxes: Boxes, u: usize, work: &mut [u8], to: usize, words: usize)
     requires { ⌜ Viewed (now job) view × BoxesOf (now job) boxes ⌝ }
-    requires { ⌜ Fillable (content (now job)) u to words (now work) ⌝ }
-    ensures { λ _. ⌜ Filled to words (isCandidate (content (now (job .entry))) u) (now (work .entry)) (now (work .exit)) ⌝ }
+    requires { ⌜ Fillable (problemOf (now job) view) u to words (now work) ⌝ }
+    ensures { λ _. ⌜ Filled to words (isCandidate (problemOf (now (job .entry)) view) u) (now (work .entry)) (now (work .exit)) ⌝ }
 {
     let mut k = 0;
     while k < words {
@@ -53,9 +54,9 @@ fn fill(job: &[u8], view: View, boxes: Boxes, u: usize, work: &mut [u8], to: usi
 
 // The sets of the first level, and look-ahead. It ends at the first kind with too few members.
 pub fn settle_first(job: &[u8], view: View, boxes: Boxes, plan: Plan, work: &mut [u8]) -> bool
-    requires { ⌜ Viewed (now job) view × BoxesOf (now job) boxes × PlanOf (now job) plan ⌝ }
-    requires { ⌜ workWords (content (now job)) * 8 ≤ length (now work) ⌝ }
-    ensures { λ r. ⌜ Settled (content (now (job .entry))) (replicate 12 0) 0 (content (now (job .entry)) .sheet .L + 1) (setWords (content (now (job .entry)) .sheet)) (now (work .entry)) (now (work .exit)) r ⌝ }
+    requires { ⌜ (Viewed (now job) view × BoxesOf (now job) boxes × PlanOf (now job) plan) × (plan .margin ≡ view .margin) ⌝ }
+    requires { ⌜ workWords (planned (now job) plan) * 8 ≤ length (now work) ⌝ }
+    ensures { λ r. ⌜ Settled (planned (now (job .entry)) plan) (replicate 12 0) 0 (content (now (job .entry)) .sheet .L + 1) (setWords (content (now (job .entry)) .sheet)) (now (work .entry)) (now (work .exit)) r ⌝ }
 {
     let kinds = plan.types;
     let copies = plan.copies;

@@ -1,11 +1,12 @@
 // The walk of an accepted job from its root, where nothing is placed.
 ghost use Prim.Native.Nat.{_*_, _+_, _≤_};
 ghost use lib.ListN.{length, replicate};
-ghost use Rattle.model.specs.Format.{content};
 ghost use Rattle.shapes.specs.Turned.{Viewed};
 ghost use Rattle.stepping.specs.Levels.{tryLevel, numbersAt};
 ghost use Rattle.walks.specs.Walk.{heldOf, Ready, Left};
 ghost use Rattle.root.specs.Walked.{RoomFor, Walked, Computed};
+ghost use Rattle.job.specs.View.{problemOf};
+ghost use Rattle.plans.specs.Planned.{planned};
 use crate::beginning::settle_first;
 use job::View;
 use nofit::measures::nofit_of;
@@ -47,8 +48,8 @@ fn walk_over(
 ) -> Progress
     requires { ⌜ Computed (now job) view (now turned) boxes plan nofit ⌝ }
     requires { ⌜ (nofit .first + nofit .held * nofit .size + 1) * 8 ≤ length (now strings) ⌝ }
-    requires { ⌜ Ready (content (now job)) (now work) (now answer) (replicate 12 0) 0 1 0 start ⌝ }
-    ensures { λ r. ⌜ Left (content (now (job .entry))) (replicate 12 0) (now (work .entry)) (now (answer .entry)) (now (work .exit)) (now (answer .exit)) 1 start r (tryLevel (content (now (job .entry))) (numbersAt (replicate 12 0)) 0 0 (start .left) (heldOf (content (now (job .entry))) (start .found) (now (answer .entry)))) ⌝ }
+    requires { ⌜ Ready (planned (now job) plan) (now work) (now answer) (replicate 12 0) 0 1 0 start ⌝ }
+    ensures { λ r. ⌜ Left (planned (now (job .entry)) plan) (replicate 12 0) (now (work .entry)) (now (answer .entry)) (now (work .exit)) (now (answer .exit)) 1 start r (tryLevel (planned (now (job .entry)) plan) (numbersAt (replicate 12 0)) 0 0 (start .left) (heldOf (planned (now (job .entry)) plan) (start .found) (now (answer .entry)))) ⌝ }
 {
     make_nofit(job, view, turned, boxes, nofit, strings);
     try_piece(
@@ -79,8 +80,8 @@ fn walk_with_table(
     start: Progress,
 ) -> Progress
     requires { ⌜ Computed (now job) view (now turned) boxes plan nofit × (nofit .first + nofit .held * nofit .size + 1 ≤ 25600) ⌝ }
-    requires { ⌜ Ready (content (now job)) (now work) (now answer) (replicate 12 0) 0 1 0 start ⌝ }
-    ensures { λ r. ⌜ Left (content (now (job .entry))) (replicate 12 0) (now (work .entry)) (now (answer .entry)) (now (work .exit)) (now (answer .exit)) 1 start r (tryLevel (content (now (job .entry))) (numbersAt (replicate 12 0)) 0 0 (start .left) (heldOf (content (now (job .entry))) (start .found) (now (answer .entry)))) ⌝ }
+    requires { ⌜ Ready (planned (now job) plan) (now work) (now answer) (replicate 12 0) 0 1 0 start ⌝ }
+    ensures { λ r. ⌜ Left (planned (now (job .entry)) plan) (replicate 12 0) (now (work .entry)) (now (answer .entry)) (now (work .exit)) (now (answer .exit)) 1 start r (tryLevel (planned (now (job .entry)) plan) (numbersAt (replicate 12 0)) 0 0 (start .left) (heldOf (planned (now (job .entry)) plan) (start .found) (now (answer .entry)))) ⌝ }
 {
     if nofit.first + nofit.held * nofit.size < 1024 {
         let mut strings = [0u8; 8192];
@@ -115,8 +116,8 @@ fn walk_with_table(
 // The walk of an accepted job, in buffers that are large enough. What holds for the whole walk is computed first; the table of no-fit strings only
 // where look-ahead lets the walk begin.
 pub fn walk(job: &[u8], view: View, budget: u32, work: &mut [u8], answer: &mut [u8]) -> Progress
-    requires { ⌜ Viewed (now job) view × RoomFor (content (now job)) (now work) (now answer) ⌝ }
-    ensures { λ r. ⌜ Walked (content (now (job .entry))) budget (now (work .entry)) (now (answer .entry)) (now (work .exit)) (now (answer .exit)) r ⌝ }
+    requires { ⌜ Viewed (now job) view × RoomFor (problemOf (now job) view) (now work) (now answer) ⌝ }
+    ensures { λ r. ⌜ Walked (problemOf (now (job .entry)) view) budget (now (work .entry)) (now (answer .entry)) (now (work .exit)) (now (answer .exit)) r ⌝ }
 {
     let mut turned = [0i16; 4096];
     turn_all(job, view, &mut turned);

@@ -8,12 +8,14 @@ use lib.Dec.{leb, ltb}
 use lib.ListN.{length}
 use Rattle.words.specs.Number.{count}
 use Rattle.model.specs.Candidate.{isCandidate}
-use Rattle.model.specs.Content.{Job, kindCount}
-use Rattle.model.specs.Format.{content, refusal}
+use Rattle.model.specs.Content.{kindCount}
+use Rattle.model.specs.Format.{content}
 use Rattle.model.specs.Grid.{dots, setWords}
-use Rattle.model.specs.Services.{writeOutcome, wordsIn, withWords, cause12, rowWords, rowContent, conflictRow}
+use Rattle.model.specs.Problem.{Problem, under}
+use Rattle.model.specs.Services.{writeOutcome, wordsIn, withWords, cause12, rowWords, rowContent, conflictRow, refusalUnder}
 use Rattle.model.specs.declared.Written.the-variants as W
 use Rattle.model.proofs.Accepted.{accepted-dots}
+use Rattle.job.specs.View.{problemOf}
 use Rattle.job.specs.declared.View.{View}
 use Rattle.rows.specs.Rows.{RowAsked}
 use Rattle.shapes.specs.Turned.{Viewed}
@@ -29,36 +31,36 @@ module _ (s : List ℕ) (v : View) (x : Viewed s v) where
   word-count = rw (x .view .columns, x .view .rows)
 
   -- what the tests of the kinds say
-  pub kinds-exist : (t u : ℕ) → (leb (v .kinds) t || leb (v .kinds) u) ≡ false → (t < kindCount (content s)) × (u < kindCount (content s))
-  kinds-exist t u e = on-dots t (kindCount (content s)) u (kindCount (content s)) (rw (x .view .kinds) at e)
+  pub kinds-exist : (t u : ℕ) → (leb (v .kinds) t || leb (v .kinds) u) ≡ false → (t < kindCount (content s .kinds)) × (u < kindCount (content s .kinds))
+  kinds-exist t u e = on-dots t (kindCount (content s .kinds)) u (kindCount (content s .kinds)) (rw (x .view .kinds) at e)
 
-  pub kind-absent : (t n u : ℕ) → (leb (v .kinds) t || leb (v .kinds) u) ≡ true → cause12 (content s) t n u ≡ true
+  pub kind-absent : (t n u : ℕ) → (leb (v .kinds) t || leb (v .kinds) u) ≡ true → cause12 (problemOf s v) t n u ≡ true
   unfolding cause12
-  kind-absent t n u e = go (leb (kindCount (content s)) t) refl (rw (x .view .kinds) at e)
+  kind-absent t n u e = go (leb (kindCount (content s .kinds)) t) refl (rw (x .view .kinds) at e)
     where
-      go : (w : Bool) → leb (kindCount (content s)) t ≡ w → (w || leb (kindCount (content s)) u) ≡ true → not (ltb t (kindCount (content s)) && isCandidate (content s) t n && ltb u (kindCount (content s))) ≡ true
-      go true d g = rw (le-ltb t (kindCount (content s)) (leb-true _ _ d))
-      go false d g = rw (le-ltb u (kindCount (content s)) (leb-true _ _ g)) (last (ltb t (kindCount (content s)) && isCandidate (content s) t n))
+      go : (w : Bool) → leb (kindCount (content s .kinds)) t ≡ w → (w || leb (kindCount (content s .kinds)) u) ≡ true → not (ltb t (kindCount (content s .kinds)) && isCandidate (problemOf s v) t n && ltb u (kindCount (content s .kinds))) ≡ true
+      go true d g = rw (le-ltb t (kindCount (content s .kinds)) (leb-true _ _ d))
+      go false d g = rw (le-ltb u (kindCount (content s .kinds)) (leb-true _ _ g)) (last (ltb t (kindCount (content s .kinds)) && isCandidate (problemOf s v) t n))
         where
           last : (a : Bool) → not (a && false) ≡ true
           last true = refl
           last false = refl
 
-pub candidate-absent : (j : Job) (t n u : ℕ) → isCandidate j t n ≡ false → cause12 j t n u ≡ true
+pub candidate-absent : (j : Problem) (t n u : ℕ) → isCandidate j t n ≡ false → cause12 j t n u ≡ true
 unfolding cause12
-candidate-absent j t n u e = rw e (go (ltb t (kindCount j)))
+candidate-absent j t n u e = rw e (go (ltb t (kindCount (j .kinds))))
   where
-    go : (a : Bool) → not (a && false && ltb u (kindCount j)) ≡ true
+    go : (a : Bool) → not (a && false && ltb u (kindCount (j .kinds))) ≡ true
     go true = refl
     go false = refl
 
-pub all-exist : (s : List ℕ) (t n u : ℕ) → RowAsked s t n u → cause12 (content s) t n u ≡ false
+pub all-exist : (s : List ℕ) (m t n u : ℕ) → RowAsked s m t n u → cause12 (under m (content s)) t n u ≡ false
 unfolding cause12
-all-exist s t n u a = rw (lt-ltb t (kindCount (content s)) (a .kind), a .candidate, lt-ltb u (kindCount (content s)) (a .other))
+all-exist s m t n u a = rw (lt-ltb t (kindCount (content s .kinds)) (a .kind), a .candidate, lt-ltb u (kindCount (content s .kinds)) (a .other))
 
 -- ---- the three answers on an accepted job
 
-module _ (j : Job) (t n u : ℕ) (out : List ℕ) where
+module _ (j : Problem) (t n u : ℕ) (out : List ℕ) where
   pub row-absent : cause12 j t n u ≡ true → rowContent j t n u out ≡ writeOutcome (W.Refused 12) out
   unfolding rowContent
   row-absent e = rw (e, rowContent)
@@ -71,13 +73,13 @@ module _ (j : Job) (t n u : ℕ) (out : List ℕ) where
   unfolding rowContent wordsIn count
   row-written e h = rw (e, le-ltb (length out / 8) (setWords (j .sheet)) h, rowContent)
 
--- ---- the job's own refusals
+-- ---- the refusals of the job and of the margin
 
-module _ (s : List ℕ) (t n u : ℕ) (out : List ℕ) where
-  pub row-refused : (refusal s ≡ 0 → ⊥) → conflictRow s t n u out ≡ writeOutcome (W.Refused (refusal s)) out
+module _ (s : List ℕ) (m t n u : ℕ) (out : List ℕ) where
+  pub row-refused : (refusalUnder m s ≡ 0 → ⊥) → conflictRow s m t n u out ≡ writeOutcome (W.Refused (refusalUnder m s)) out
   unfolding conflictRow
-  row-refused h = rw (ne-eqb (refusal s) 0 h, conflictRow)
+  row-refused h = rw (ne-eqb (refusalUnder m s) 0 h, conflictRow)
 
-  pub row-accepted : refusal s ≡ 0 → conflictRow s t n u out ≡ rowContent (content s) t n u out
+  pub row-accepted : refusalUnder m s ≡ 0 → conflictRow s m t n u out ≡ rowContent (under m (content s)) t n u out
   unfolding conflictRow
-  row-accepted h = rw (eq-eqb (refusal s) 0 h, conflictRow)
+  row-accepted h = rw (eq-eqb (refusalUnder m s) 0 h, conflictRow)

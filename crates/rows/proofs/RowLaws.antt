@@ -18,6 +18,7 @@ use Rattle.model.specs.Lists.{below, rising}
 use Rattle.model.specs.Services.{rowBit}
 use Rattle.model.proofs.Folds.{map-same, map-below-more}
 use Rattle.model.proofs.Lists.{length-below}
+use Rattle.job.specs.View.{problemOf}
 use Rattle.job.specs.declared.View.{View}
 use Rattle.shapes.specs.Boxes.{BoxesOf}
 use Rattle.candidates.specs.Conflicts.{placedOf, conflictBetween}
@@ -43,26 +44,26 @@ fill-more f s w =
 
 -- ---- what the row has is what the model says
 
-module _ (s : List ℕ) (v : View) (table : List ℤ) (x : Viewed s v) (z : TurnedOf s table) (t u : ℕ) (ht : t < kindCount (content s)) (hu : u < kindCount (content s))
-    (p q : Piece) (ep : PieceOf s t p) (eq : PieceOf s u q) (b : Boxes) (y : BoxesOf s b) (gap n : ℕ) (eg : gap ≡ pairGap (content s) (kindAt (content s) t) (kindAt (content s) u)) where
+module _ (s : List ℕ) (v : View) (table : List ℤ) (x : Viewed s v) (z : TurnedOf s table) (t u : ℕ) (ht : t < kindCount (content s .kinds)) (hu : u < kindCount (content s .kinds))
+    (p q : Piece) (ep : PieceOf s t p) (eq : PieceOf s u q) (b : Boxes) (y : BoxesOf s b) (gap n : ℕ) (eg : gap ≡ pairGap (content s .classes) (kindAt (content s .kinds) t) (kindAt (content s .kinds) u)) where
   -- A bit of the row is what the model says.
-  pub bit-is : (m : ℕ) → bitOf v b table p (placedOf (v .rows) n) q u gap m ≡ rowBit (content s) t n u m
+  pub bit-is : (m : ℕ) → bitOf v b table p (placedOf (v .rows) n) q u gap m ≡ rowBit (problemOf s v) t n u m
   unfolding bitOf rowBit
-  bit-is m = go (isCandidate (content s) u m) refl
+  bit-is m = go (isCandidate (problemOf s v) u m) refl
     where
       test : Bool
       test = conflictBetween table (v .step) p (placedOf (v .rows) n) q (placedOf (v .rows) m) gap
 
-      same : test ≡ conflict (content s) (entryOf (content s) t n) (entryOf (content s) u m)
+      same : test ≡ conflict (problemOf s v) (entryOf (problemOf s v) t n) (entryOf (problemOf s v) u m)
       same =
           ap (λ g. conflictBetween table (v .step) p (placedOf (v .rows) n) q (placedOf (v .rows) m) g) eg
-          ∙ numbers-conflict s v table x z t u ht hu p q ep eq n m
+          ∙ numbers-conflict s v table x z t u ht hu p q ep eq (v .margin) n m
 
-      go : (w : Bool) → isCandidate (content s) u m ≡ w → (offered v b u m && test) ≡ rowBit (content s) t n u m
+      go : (w : Bool) → isCandidate (problemOf s v) u m ≡ w → (offered v b u m && test) ≡ rowBit (problemOf s v) t n u m
       go true e = ap (λ w. w && test) (offered-is s v b x y u hu m ∙ e) ∙ same ∙ rw (e, rowBit)
       go false e = ap (λ w. w && test) (offered-is s v b x y u hu m ∙ e) ∙ rw (e, rowBit)
 
   -- The words of the row are what the model says.
-  pub words-are : (k : ℕ) → map (wordOf v b table p (placedOf (v .rows) n) q u gap) (below k) ≡ map (λ w. bitsWhere 64 (λ i. rowBit (content s) t n u (w * 64 + i))) (below k)
+  pub words-are : (k : ℕ) → map (wordOf v b table p (placedOf (v .rows) n) q u gap) (below k) ≡ map (λ w. bitsWhere 64 (λ i. rowBit (problemOf s v) t n u (w * 64 + i))) (below k)
   unfolding wordOf
   words-are k = map-same _ _ (below k) (λ w. bitsWhere-cong 64 _ _ (λ i l. bit-is (w * 64 + i)))

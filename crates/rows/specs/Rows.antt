@@ -9,6 +9,7 @@ use Rattle.words.specs.Bits.{bitsWhere}
 use Rattle.model.specs.Candidate.{isCandidate}
 use Rattle.model.specs.Content.{kindCount}
 use Rattle.model.specs.Format.{content}
+use Rattle.model.specs.Problem.{under}
 use Rattle.job.specs.declared.View.{View}
 use Rattle.candidates.specs.Conflicts.{Near, placedOf, conflictBetween}
 use Rattle.shapes.specs.Pieces.{Fitting}
@@ -25,11 +26,11 @@ bitOf v b table p a q u gap m = offered v b u m && conflictBetween table (v .ste
 unfoldable pub wordOf : View → Boxes → List ℤ → Piece → Placed → Piece → ℕ → ℕ → ℕ → ℕ
 wordOf v b table p a q u gap w = bitsWhere 64 (λ i. bitOf v b table p a q u gap (w * 64 + i))
 
--- The row's candidate and its second kind exist.
-pub record RowAsked (s : List ℕ) (t n u : ℕ) : Type 0 where
-  pub kind : t < kindCount (content s)
-  pub other : u < kindCount (content s)
-  pub candidate : isCandidate (content s) t n ≡ true
+-- The row's candidate, under this margin, and its second kind exist.
+pub record RowAsked (s : List ℕ) (m t n u : ℕ) : Type 0 where
+  pub kind : t < kindCount (content s .kinds)
+  pub other : u < kindCount (content s .kinds)
+  pub candidate : isCandidate (under m (content s)) t n ≡ true
 
 -- What the row of a candidate is computed from.
 pub record RowReady (v : View) (table : List ℤ) (p : Piece) (a : Placed) (q : Piece) (u : ℕ) : Type 0 where

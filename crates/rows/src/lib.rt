@@ -7,9 +7,11 @@ ghost use Rattle.words.specs.Number.{filled};
 ghost use Rattle.model.specs.Format.{content};
 ghost use Rattle.model.specs.Grid.{setWords};
 ghost use Rattle.model.specs.Lists.{below};
+ghost use Rattle.model.specs.Problem.{under};
 ghost use Rattle.model.specs.Services.{withWords, rowWords, rowContent, conflictRow};
 ghost use Rattle.candidates.specs.Conflicts.{Prepared};
 ghost use Rattle.rows.specs.Rows.{RowAsked, RowReady, bitOf, wordOf};
+ghost use Rattle.job.specs.View.{problemOf};
 use candidates::conflicts::Placed;
 use candidates::conflicts::conflict_between;
 use candidates::conflicts::pair_gap;
@@ -108,8 +110,8 @@ fn fill_for(
     other: usize,
     row: &mut [u8],
 )
-    requires { ⌜ (Prepared (now job) view (now turned) boxes × RowAsked (now job) kind number other) × (setWords (content (now job) .sheet) * 8 ≤ length (now row)) ⌝ }
-    ensures { λ _. ⌜ now (row .exit) ≡ withWords (rowWords (content (now (job .entry))) kind number other) (now (row .entry)) ⌝ }
+    requires { ⌜ (Prepared (now job) view (now turned) boxes × RowAsked (now job) (view .margin) kind number other) × (setWords (content (now job) .sheet) * 8 ≤ length (now row)) ⌝ }
+    ensures { λ _. ⌜ now (row .exit) ≡ withWords (rowWords (problemOf (now (job .entry)) view) kind number other) (now (row .entry)) ⌝ }
 {
     let p = piece_of(job, view, kind);
     let q = piece_of(job, view, other);
@@ -141,8 +143,8 @@ fn row_content(
     row: &mut [u8],
 ) -> Written
     requires { ⌜ Prepared (now job) view (now turned) boxes ⌝ }
-    ensures { λ r. ⌜ r ≡ rowContent (content (now (job .entry))) kind number other (now (row .entry)) .answer ⌝ }
-    ensures { λ _. ⌜ now (row .exit) ≡ rowContent (content (now (job .entry))) kind number other (now (row .entry)) .buffer ⌝ }
+    ensures { λ r. ⌜ r ≡ rowContent (problemOf (now (job .entry)) view) kind number other (now (row .entry)) .answer ⌝ }
+    ensures { λ _. ⌜ now (row .exit) ≡ rowContent (problemOf (now (job .entry)) view) kind number other (now (row .entry)) .buffer ⌝ }
 {
     if (kind >= view.kinds) | (other >= view.kinds) {
         return Written::Refused(12);
@@ -158,12 +160,19 @@ fn row_content(
     Written::Count(n as u16)
 }
 
-// Where the candidates of a second kind are in conflict with a candidate, given as its kind and its number: ceil(D / 16) words.
-pub fn row(job: &[u8], kind: usize, number: usize, other: usize, row: &mut [u8]) -> Written
-    ensures { λ r. ⌜ r ≡ conflictRow (now (job .entry)) kind number other (now (row .entry)) .answer ⌝ }
-    ensures { λ _. ⌜ now (row .exit) ≡ conflictRow (now (job .entry)) kind number other (now (row .entry)) .buffer ⌝ }
+// Where, under a margin, the candidates of a second kind are in conflict with a candidate, given as its kind and its number: ceil(D / 16) words.
+pub fn row(
+    job: &[u8],
+    margin: usize,
+    kind: usize,
+    number: usize,
+    other: usize,
+    row: &mut [u8],
+) -> Written
+    ensures { λ r. ⌜ r ≡ conflictRow (now (job .entry)) margin kind number other (now (row .entry)) .answer ⌝ }
+    ensures { λ _. ⌜ now (row .exit) ≡ conflictRow (now (job .entry)) margin kind number other (now (row .entry)) .buffer ⌝ }
 {
-    let opened = job::open(job);
+    let opened = job::open_under(job, margin);
     let refusal = opened.refusal;
     if refusal != 0 {
         return Written::Refused(refusal);

@@ -18,9 +18,9 @@ stepped st = record { left = st .left - 1; bound = st .bound; span = st .span; f
 abbrev pub halted : Progress → Progress
 halted st = record { left = 0; bound = st .bound; span = st .span; found = st .found; stopped = true }
 
--- A layout of this length is held.
+-- A layout with this largest end is held.
 abbrev pub completed : Progress → ℕ → ℕ → Progress
-completed st length span = record { left = st .left; bound = length; span = span; found = true; stopped = false }
+completed st end span = record { left = st .left; bound = end; span = span; found = true; stopped = false }
 
 -- The answer by whether the walk stopped, whether a layout is held, that layout's length and the steps.
 abbrev pub told : Bool → Bool → ℕ → ℕ → RunAnswer

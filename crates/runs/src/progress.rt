@@ -1,6 +1,6 @@
 // How far the walk has come, and what a run answers there.
 ghost use mathlib.Core.Path.{_≡_};
-ghost use Prim.Native.Nat.{_-_, _≤_, _<_};
+ghost use Prim.Native.Nat.{_+_, _-_, _≤_, _<_};
 ghost use Rattle.runs.specs.Told.{begun, stepped, halted, completed, told};
 use model::Held;
 use model::RunAnswer;
@@ -56,26 +56,26 @@ pub fn halt(st: Progress) -> Progress
     }
 }
 
-// A layout of this length was completed: from now on an end has to stay below it, and candidates that do so lie in so many words.
-pub fn complete(st: Progress, length: usize, span: usize) -> Progress
-    ensures { λ r. ⌜ r ≡ completed st length span ⌝ }
+// A layout with this largest end was completed: from now on an end has to stay below it, and candidates that do so lie in so many words.
+pub fn complete(st: Progress, end: usize, span: usize) -> Progress
+    ensures { λ r. ⌜ r ≡ completed st end span ⌝ }
 {
     Progress {
         left: st.left,
-        bound: length,
+        bound: end,
         span,
         found: true,
         stopped: false,
     }
 }
 
-// What is answered where the walk came so far.
-pub fn tell(budget: u32, st: Progress) -> RunAnswer
-    requires { ⌜ (st .left ≤ budget) × (st .bound ≤ 1001) ⌝ }
-    ensures { λ r. ⌜ r ≡ told (st .stopped) (st .found) (st .bound) (budget - st .left) ⌝ }
+// What is answered where the walk came so far. A length is an end plus the margin.
+pub fn tell(budget: u32, margin: usize, st: Progress) -> RunAnswer
+    requires { ⌜ (st .left ≤ budget) × ((margin ≤ 63) × (st .bound ≤ 1001)) ⌝ }
+    ensures { λ r. ⌜ r ≡ told (st .stopped) (st .found) (st .bound + margin) (budget - st .left) ⌝ }
 {
     let steps = budget - st.left;
-    let length = st.bound as u16;
+    let length = (st.bound + margin) as u16;
     if st.stopped {
         if st.found {
             return RunAnswer::Stopped(Held::Layout(length), steps);

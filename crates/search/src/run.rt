@@ -8,13 +8,13 @@ use runs::progress::tell;
 use runs::room;
 use words::sets;
 
-// The run service. Afterwards the needed work words are cleared.
-pub fn run(job: &[u8], budget: u32, work: &mut [u8], answer: &mut [u8]) -> RunAnswer
-    ensures told { λ r. ⌜ r ≡ Services.run (now (job .entry)) budget (now (work .entry)) (now (answer .entry)) .answer ⌝ }
-    ensures cleared { λ _. ⌜ now (work .exit) ≡ Services.run (now (job .entry)) budget (now (work .entry)) (now (answer .entry)) .work ⌝ }
-    ensures held { λ _. ⌜ now (answer .exit) ≡ Services.run (now (job .entry)) budget (now (work .entry)) (now (answer .entry)) .out ⌝ }
+// The run service, under a margin. Afterwards the needed work words are cleared.
+pub fn run(job: &[u8], margin: usize, budget: u32, work: &mut [u8], answer: &mut [u8]) -> RunAnswer
+    ensures told { λ r. ⌜ r ≡ Services.run (now (job .entry)) margin budget (now (work .entry)) (now (answer .entry)) .answer ⌝ }
+    ensures cleared { λ _. ⌜ now (work .exit) ≡ Services.run (now (job .entry)) margin budget (now (work .entry)) (now (answer .entry)) .work ⌝ }
+    ensures held { λ _. ⌜ now (answer .exit) ≡ Services.run (now (job .entry)) margin budget (now (work .entry)) (now (answer .entry)) .out ⌝ }
 {
-    let opened = job::open(job);
+    let opened = job::open_under(job, margin);
     let refusal = opened.refusal;
     if refusal != 0 {
         return RunAnswer::Refused(refusal);
@@ -29,5 +29,5 @@ pub fn run(job: &[u8], budget: u32, work: &mut [u8], answer: &mut [u8]) -> RunAn
     }
     let st = walk(job, view, budget, work, answer);
     sets::clear(work, words);
-    tell(budget, st)
+    tell(budget, margin, st)
 }

@@ -92,16 +92,16 @@ module _ {A B : Type 0} (g : A → B) (d : A) where
   map-index f xs h = rising-index f 0 xs (λ i l. ap f (omega arith) ∙ h i l)
 
 -- The parts of the piece of kind t in plane k are the kind's parts turned k quarter turns.
-pub parts-turned : (s : List ℕ) (table : List ℤ) (t : ℕ) (p : Piece) (k : ℕ) → TurnedOf s table → PieceOf s t p → t < kindCount (content s) → k < 4
-    → partsIn table p k ≡ map (map (rotated k)) (kindAt (content s) t .parts)
+pub parts-turned : (s : List ℕ) (table : List ℤ) (t : ℕ) (p : Piece) (k : ℕ) → TurnedOf s table → PieceOf s t p → t < kindCount (content s .kinds) → k < 4
+    → partsIn table p k ≡ map (map (rotated k)) (kindAt (content s .kinds) t .parts)
 unfolding partsIn partIn
 parts-turned s table t p k x y ht hk =
     ap (λ n. map (partIn table p k) (below n)) (y .count)
-    ∙ map-index (map (rotated k)) [] (partIn table p k) (kindAt (content s) t .parts) one
+    ∙ map-index (map (rotated k)) [] (partIn table p k) (kindAt (content s .kinds) t .parts) one
   where
-    one : (i : ℕ) → i < length (kindAt (content s) t .parts) → partIn table p k i ≡ map (rotated k) (getD (kindAt (content s) t .parts) i [])
+    one : (i : ℕ) → i < length (kindAt (content s .kinds) t .parts) → partIn table p k i ≡ map (rotated k) (getD (kindAt (content s .kinds) t .parts) i [])
     one i l =
-        let P : Part = getD (kindAt (content s) t .parts) i [] in
+        let P : Part = getD (kindAt (content s .kinds) t .parts) i [] in
         let n : getD (p .sizes) i 0 ≡ length (map (rotated k) P) = y .size i (rw (y .count) l) ∙ sym (length-map P (rotated k)) in
         let a : k * 1024 + p .first + i * 16 ≡ slot k (t * 6 + i) = omega (arith, y .first) in
         ap (λ m. partOf (take (m * 2) (drop (k * 1024 + p .first + i * 16) table))) n
@@ -110,8 +110,8 @@ parts-turned s table t p k x y ht hk =
         ∙ part-of-numbers (map (rotated k) P)
 
 -- The piece of kind t, from the sizes of its parts.
-pub piece-is : (s : List ℕ) (v : View) (x : Viewed s v) (t : ℕ) → t < kindCount (content s) → (n : ℕ) (sizes : List ℕ) → n ≡ length (kindAt (content s) t .parts)
-    → ((i : ℕ) → i < n → getD sizes i 0 ≡ length (getD (kindAt (content s) t .parts) i [])) → PieceOf s t (record { first = t * 96; count = n; sizes = sizes })
+pub piece-is : (s : List ℕ) (v : View) (x : Viewed s v) (t : ℕ) → t < kindCount (content s .kinds) → (n : ℕ) (sizes : List ℕ) → n ≡ length (kindAt (content s .kinds) t .parts)
+    → ((i : ℕ) → i < n → getD sizes i 0 ≡ length (getD (kindAt (content s .kinds) t .parts) i [])) → PieceOf s t (record { first = t * 96; count = n; sizes = sizes })
 piece-is s v x t h n sizes e sized =
     record {
       fitting = record {

@@ -208,7 +208,7 @@ holds-kept old new k q P few h e held =
 module _ (s : List ℕ) (t : ℕ) where
   -- part i of the kind
   abbrev pub partAt : ℕ → Part
-  partAt i = getD (kindAt (content s) t .parts) i []
+  partAt i = getD (kindAt (content s .kinds) t .parts) i []
 
   pub record KindTurnedTo (old new : List ℤ) (n : ℕ) : Type 0 where
     pub held : (i : ℕ) → i < n → (k : ℕ) → k < 4 → Holds new k (t * 6 + i) (map (rotated k) (partAt i))
@@ -230,21 +230,21 @@ module _ (s : List ℕ) (t : ℕ) where
         kept = λ r h k l. p .kept r (omega arith) (λ d. omega arith) k l ∙ b .kept r h k l;
       }
 
-  pub kind-all : (old new : List ℤ) (n : ℕ) → length (kindAt (content s) t .parts) ≤ n → KindTurnedTo old new n → KindTurned s t old new
+  pub kind-all : (old new : List ℤ) (n : ℕ) → length (kindAt (content s .kinds) t .parts) ≤ n → KindTurnedTo old new n → KindTurned s t old new
   kind-all old new n h b = record { held = λ i k l g. b .held i (omega arith) k g; kept = b .kept }
 
 -- ---- all kinds, one after the other
 
 module _ (s : List ℕ) where
   pub record KindsTurned (table : List ℤ) (n : ℕ) : Type 0 where
-    pub held : (t : ℕ) → t < n → (i k : ℕ) → i < length (kindAt (content s) t .parts) → k < 4 → Holds table k (t * 6 + i) (map (rotated k) (partAt s t i))
+    pub held : (t : ℕ) → t < n → (i k : ℕ) → i < length (kindAt (content s .kinds) t .parts) → k < 4 → Holds table k (t * 6 + i) (map (rotated k) (partAt s t i))
 
   pub kinds-none : (table : List ℤ) → KindsTurned table 0
   kinds-none table = record { held = below-none _ }
 
   -- every part of the kinds before n is short, and so few that they end before the slots of the next kind
   pub kinds-more : (old new : List ℤ) (n : ℕ)
-      → ((t : ℕ) → t < n → length (kindAt (content s) t .parts) ≤ 6) → ((t : ℕ) → t < n → (i : ℕ) → i < length (kindAt (content s) t .parts) → length (partAt s t i) ≤ 8)
+      → ((t : ℕ) → t < n → length (kindAt (content s .kinds) t .parts) ≤ 6) → ((t : ℕ) → t < n → (i : ℕ) → i < length (kindAt (content s .kinds) t .parts) → length (partAt s t i) ≤ 8)
       → KindsTurned old n → KindTurned s n old new → KindsTurned new (n + 1)
   kinds-more old new n few short b p =
       record {
@@ -256,5 +256,5 @@ module _ (s : List ℕ) where
             (p .held);
       }
 
-  pub kinds-all : (table : List ℤ) (n : ℕ) → kindCount (content s) ≤ n → length table ≡ 4096 → KindsTurned table n → TurnedOf s table
+  pub kinds-all : (table : List ℤ) (n : ℕ) → kindCount (content s .kinds) ≤ n → length table ≡ 4096 → KindsTurned table n → TurnedOf s table
   kinds-all table n h size b = record { size = size; held = λ t i k l g. b .held t (omega arith) i k g }

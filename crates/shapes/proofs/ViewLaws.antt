@@ -16,18 +16,18 @@ pub part-read-at : (s : List ℕ) (o r : ℕ) (P : Part) → r ≡ byteAt s o �
 part-read-at s o r P e p = ap (λ n. vertices n (drop (o + 1) s)) (e ∙ p .stated) ∙ p .read
 
 module _ (s : List ℕ) (v : View) (x : Viewed s v) where
-  pub few-kinds : kindCount (content s) ≤ 8
+  pub few-kinds : kindCount (content s .kinds) ≤ 8
   few-kinds = accepted-kinds s (x .accepted) .few-kinds
 
-  module _ (t : ℕ) (h : t < kindCount (content s)) where
-    pub kind-in : KindIn s v t (kindAt (content s) t)
+  module _ (t : ℕ) (h : t < kindCount (content s .kinds)) where
+    pub kind-in : KindIn s v t (kindAt (content s .kinds) t)
     kind-in = x .view .kind t h
 
-    pub some-part : 1 ≤ length (kindAt (content s) t .parts)
+    pub some-part : 1 ≤ length (kindAt (content s .kinds) t .parts)
     some-part = kind-ranges s (x .accepted) t h .partsLeast
 
-    pub part-in : (i : ℕ) → i < length (kindAt (content s) t .parts) → PartAt s (getD (v .«part_at») (t * 6 + i) 0) (getD (kindAt (content s) t .parts) i [])
+    pub part-in : (i : ℕ) → i < length (kindAt (content s .kinds) t .parts) → PartAt s (getD (v .«part_at») (t * 6 + i) 0) (getD (kindAt (content s .kinds) t .parts) i [])
     part-in i l = kind-in .part i l
 
-    pub part-short : (i : ℕ) → i < length (kindAt (content s) t .parts) → length (getD (kindAt (content s) t .parts) i []) ≤ 8
+    pub part-short : (i : ℕ) → i < length (kindAt (content s .kinds) t .parts) → length (getD (kindAt (content s .kinds) t .parts) i []) ≤ 8
     part-short i l = part-in i l .most

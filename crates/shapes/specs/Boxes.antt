@@ -22,9 +22,9 @@ boxAt b t k = getD (b .of) (t * 4 + k) noBox
 
 -- The vertices of all parts of kind t, turned k quarter turns.
 abbrev pub turnedVertices : List ℕ → ℕ → ℕ → List Vertex
-turnedVertices s t k = concat (map (map (rotated k)) (kindAt (content s) t .parts))
+turnedVertices s t k = concat (map (map (rotated k)) (kindAt (content s .kinds) t .parts))
 
 -- These are the least and the largest x and y over all vertices of each kind at each rotation.
 pub record BoxesOf (s : List ℕ) (b : Boxes) : Type 0 where
   pub size : length (b .of) ≡ 32
-  pub exact : (t k : ℕ) → t < kindCount (content s) → k < 4 → boxAt b t k ≡ extentsOf (turnedVertices s t k)
+  pub exact : (t k : ℕ) → t < kindCount (content s .kinds) → k < 4 → boxAt b t k ≡ extentsOf (turnedVertices s t k)

@@ -24,8 +24,8 @@ pub record Fitting (p : Piece) : Type 0 where
 pub record PieceOf (s : List ℕ) (t : ℕ) (p : Piece) : Type 0 where
   pub fitting : Fitting p
   pub first : p .first ≡ t * 96
-  pub count : p .count ≡ length (kindAt (content s) t .parts)
-  pub size : (i : ℕ) → i < p .count → getD (p .sizes) i 0 ≡ length (getD (kindAt (content s) t .parts) i [])
+  pub count : p .count ≡ length (kindAt (content s .kinds) t .parts)
+  pub size : (i : ℕ) → i < p .count → getD (p .sizes) i 0 ≡ length (getD (kindAt (content s .kinds) t .parts) i [])
 
 -- Part i of the piece in plane k.
 unfoldable pub partIn : List ℤ → Piece → ℕ → ℕ → Part

@@ -50,11 +50,11 @@ pub record PartTurned (P : Part) (q : ℕ) (old new : List ℤ) : Type 0 where
 
 -- The same of all parts of kind t of the job.
 pub record KindTurned (s : List ℕ) (t : ℕ) (old new : List ℤ) : Type 0 where
-  pub held : (i k : ℕ) → i < length (kindAt (content s) t .parts) → k < 4 → Holds new k (t * 6 + i) (map (rotated k) (getD (kindAt (content s) t .parts) i []))
+  pub held : (i k : ℕ) → i < length (kindAt (content s .kinds) t .parts) → k < 4 → Holds new k (t * 6 + i) (map (rotated k) (getD (kindAt (content s .kinds) t .parts) i []))
   pub kept : (r : ℕ) → r < t * 6 → Kept old new r
 
 -- The table has the turned parts of all kinds.
 pub record TurnedOf (s : List ℕ) (table : List ℤ) : Type 0 where
   pub size : length table ≡ 4096
-  pub held : (t i k : ℕ) → t < kindCount (content s) → i < length (kindAt (content s) t .parts) → k < 4
-      → Holds table k (t * 6 + i) (map (rotated k) (getD (kindAt (content s) t .parts) i []))
+  pub held : (t i k : ℕ) → t < kindCount (content s .kinds) → i < length (kindAt (content s .kinds) t .parts) → k < 4
+      → Holds table k (t * 6 + i) (map (rotated k) (getD (kindAt (content s .kinds) t .parts) i []))

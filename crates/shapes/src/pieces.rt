@@ -23,7 +23,7 @@ pub struct Piece {
 
 // The piece of a kind.
 pub fn piece_of(job: &[u8], view: View, kind: usize) -> Piece
-    requires { ⌜ Viewed (now job) view × (kind < kindCount (content (now job))) ⌝ }
+    requires { ⌜ Viewed (now job) view × (kind < kindCount (content (now job) .kinds)) ⌝ }
     ensures { λ r. ⌜ PieceOf (now (job .entry)) kind r ⌝ }
 {
     let counts = view.parts;

@@ -61,7 +61,7 @@ fn turn_part(job: &[u8], from: usize, n: usize, turned: &mut [i16], q: usize)
 
 // All parts of a kind.
 fn turn_kind(job: &[u8], view: View, kind: usize, turned: &mut [i16])
-    requires { ⌜ (Viewed (now job) view × (kind < kindCount (content (now job)))) × (length (now turned) ≡ 4096) ⌝ }
+    requires { ⌜ (Viewed (now job) view × (kind < kindCount (content (now job) .kinds))) × (length (now turned) ≡ 4096) ⌝ }
     ensures { λ _. ⌜ KindTurned (now (job .entry)) kind (now (turned .entry)) (now (turned .exit)) ⌝ }
 {
     let counts = view.parts;

@@ -6,8 +6,8 @@ use mathlib.Core.Path.{_≡_, refl, _∙_}
 use Prim.Native.Nat.{ℕ, zero, suc, _+_}
 use native.Mathlib.Omega.{arith}
 use lib.ListN.{length, getD, length-reverse}
-use Rattle.model.specs.Content.{Job}
 use Rattle.model.specs.Layout.{Layout, entryOf}
+use Rattle.model.specs.Problem.{Problem}
 use Rattle.model.specs.Search.{Step, Searched, then, candidateTable, live, forwardCheck, completed, tryCandidates, searchPieces, lengthOf, latest}
 use Rattle.model.proofs.Search.Equations.{tries-end, tries-dead}
 use Rattle.stepping.specs.Spending.{spend}
@@ -29,7 +29,7 @@ spend-none zero h (s ∷ ss) e = e
 spend-none (suc k) h (s ∷ ss) e = latest-none h (s .completes) (spend-none k (latest h (s .completes)) ss e)
 
 -- Of what follows a candidate taken.
-pub goOn-none : (j : Job) (left : List ℕ) (placed : Layout) (k : ℕ) (h : Option Layout) → goOnSpent j left placed k h .held ≡ none → h ≡ none
+pub goOn-none : (j : Problem) (left : List ℕ) (placed : Layout) (k : ℕ) (h : Option Layout) → goOnSpent j left placed k h .held ≡ none → h ≡ none
 unfolding goOnSpent
 goOn-none j left placed k h e = latest-none h (completed left placed) (spend-none k (latest h (completed left placed)) _ e)
 
@@ -62,7 +62,7 @@ unfolding completed
 completed-entries n [] placed e = length-reverse placed ∙ omega arith
 completed-entries n (t ∷ left) placed e = tt
 
-module _ (j : Job) (cs : List (List ℕ)) (n : ℕ) where
+module _ (j : Problem) (cs : List (List ℕ)) (n : ℕ) where
   -- So has each that the walk completes, if the pieces left and the pieces placed are n.
   goOn-steps-entries : (left : List ℕ) (placed : Layout) (best : Option ℕ) → AllEntries n (searchPieces j cs left placed best .steps)
       → AllEntries n (goOn j cs left placed best .steps)
@@ -100,7 +100,7 @@ module _ (j : Job) (cs : List (List ℕ)) (n : ℕ) where
   pieces-entries (t ∷ left) placed best e = tries-entries t left (pieces-entries left) (getD cs t []) placed best e
 
 -- The layout held at the end has an entry for each piece, if the one at the start has.
-pub goOn-entries : (j : Job) (left : List ℕ) (placed : Layout) (k : ℕ) (h : Option Layout) (n : ℕ) → length left + length placed ≡ n
+pub goOn-entries : (j : Problem) (left : List ℕ) (placed : Layout) (k : ℕ) (h : Option Layout) (n : ℕ) → length left + length placed ≡ n
     → Entries n h → Entries n (goOnSpent j left placed k h .held)
 unfolding goOnSpent
 goOn-entries j left placed k h n e p =

@@ -8,10 +8,11 @@ use native.Mathlib.Omega.{arith}
 use lib.Dec.{ltb, eqb}
 use lib.ListN.{length, getD, length-drop, drop-of-length-le}
 use lib.Seq.{drop-cons}
-use Rattle.model.specs.Content.{Job, kindCount, pieceCount}
+use Rattle.model.specs.Content.{Kind, kindCount, pieceCount}
 use Rattle.model.specs.Grid.{numberLimit}
-use Rattle.model.specs.Layout.{Layout, entryOf, isEntry, layoutLength}
+use Rattle.model.specs.Layout.{Layout, entryOf, isEntry, largestEnd}
 use Rattle.model.specs.Lists.{all, countOf, largest, rising, below}
+use Rattle.model.specs.Problem.{Problem}
 use Rattle.model.specs.Search.{pieces, completed, latest, searchFrom, stepsFrom, held, copiesLeft}
 use Rattle.model.specs.Services.{runOutcome, runContent, verdict, wordsIn, numbersIn, workWords, cleared, withLayout}
 use Rattle.model.proofs.Search.Pieces.{length-pieces, mem-pieces}
@@ -30,36 +31,37 @@ getD-mem [] i d h = absurd (omega arith)
 getD-mem (n ∷ ns) zero d h = List·Memᴰ·head refl
 getD-mem (n ∷ ns) (suc i) d h = List·Memᴰ·tail (getD-mem ns i d (omega arith))
 
-module _ (j : Job) where
-  -- ---- The pieces from a level on
+-- ---- The pieces from a level on
 
+module _ (ks : List Kind) where
   -- The first of them and the others; none past the last; how many.
-  pub pieces-next : (l : ℕ) → l < pieceCount j → piecesFrom j l ≡ pieceKind j l ∷ piecesFrom j (suc l)
+  pub pieces-next : (l : ℕ) → l < pieceCount ks → piecesFrom ks l ≡ pieceKind ks l ∷ piecesFrom ks (suc l)
   unfolding piecesFrom pieceKind
-  pieces-next l h = drop-cons (pieces j) l 0 (rw (length-pieces j) h)
+  pieces-next l h = drop-cons (pieces ks) l 0 (rw (length-pieces ks) h)
 
-  pub pieces-end : (l : ℕ) → pieceCount j ≤ l → piecesFrom j l ≡ []
+  pub pieces-end : (l : ℕ) → pieceCount ks ≤ l → piecesFrom ks l ≡ []
   unfolding piecesFrom
-  pieces-end l h = drop-of-length-le (pieces j) {i = l} (rw (length-pieces j) h)
+  pieces-end l h = drop-of-length-le (pieces ks) {i = l} (rw (length-pieces ks) h)
 
-  pub pieces-left : (l : ℕ) → length (piecesFrom j l) ≡ pieceCount j - l
+  pub pieces-left : (l : ℕ) → length (piecesFrom ks l) ≡ pieceCount ks - l
   unfolding piecesFrom
-  pieces-left l = rw (length-drop, length-pieces j)
+  pieces-left l = rw (length-drop, length-pieces ks)
 
   -- The kind of a piece is one of the kinds.
-  pub piece-kind : (l : ℕ) → l < pieceCount j → pieceKind j l < kindCount j
+  pub piece-kind : (l : ℕ) → l < pieceCount ks → pieceKind ks l < kindCount ks
   unfolding pieceKind
-  piece-kind l h = mem-pieces j (getD (pieces j) l 0) (getD-mem (pieces j) l 0 (rw (length-pieces j) h))
+  piece-kind l h = mem-pieces ks (getD (pieces ks) l 0) (getD-mem (pieces ks) l 0 (rw (length-pieces ks) h))
 
   -- The copies left of a kind: one less after each piece of the kind.
-  pub copies-next : (u l : ℕ) → l < pieceCount j → copiesLeft u (piecesFrom j l) ≡ cond (eqb u (pieceKind j l)) 1 0 + copiesLeft u (piecesFrom j (suc l))
+  pub copies-next : (u l : ℕ) → l < pieceCount ks → copiesLeft u (piecesFrom ks l) ≡ cond (eqb u (pieceKind ks l)) 1 0 + copiesLeft u (piecesFrom ks (suc l))
   unfolding copiesLeft countOf
   copies-next u l h = rw (pieces-next l h)
 
+module _ (j : Problem) where
   -- ---- The pieces placed
 
   -- One piece more.
-  pub placed-next : (numbers : ℕ → ℕ) (l : ℕ) → placedBelow j numbers (suc l) ≡ entryOf j (pieceKind j l) (numbers l) ∷ placedBelow j numbers l
+  pub placed-next : (numbers : ℕ → ℕ) (l : ℕ) → placedBelow j numbers (suc l) ≡ entryOf j (pieceKind (j .kinds) l) (numbers l) ∷ placedBelow j numbers l
   unfolding placedBelow
   placed-next numbers l = refl
 
@@ -76,13 +78,13 @@ module _ (j : Job) where
   placed-same f g (suc l) e = rw (e l (omega arith), placed-same f g l (λ i h. e i (omega arith)))
 
   -- In the order of the layout.
-  pub placed-layout : (numbers : ℕ → ℕ) (l : ℕ) → reverse (placedBelow j numbers l) ≡ map (λ i. entryOf j (pieceKind j i) (numbers i)) (below l)
+  pub placed-layout : (numbers : ℕ → ℕ) (l : ℕ) → reverse (placedBelow j numbers l) ≡ map (λ i. entryOf j (pieceKind (j .kinds) i) (numbers i)) (below l)
   unfolding placedBelow below rising
   placed-layout numbers zero = refl
   placed-layout numbers (suc l) =
-      reverse-cons (entryOf j (pieceKind j l) (numbers l)) (placedBelow j numbers l)
-      ∙ ap (λ (es : Layout). es ++ entryOf j (pieceKind j l) (numbers l) ∷ []) (placed-layout numbers l)
-      ∙ sym (ap (map (λ i. entryOf j (pieceKind j i) (numbers i))) (below-suc l) ∙ map-append (λ i. entryOf j (pieceKind j i) (numbers i)) (below l) (l ∷ []))
+      reverse-cons (entryOf j (pieceKind (j .kinds) l) (numbers l)) (placedBelow j numbers l)
+      ∙ ap (λ (es : Layout). es ++ entryOf j (pieceKind (j .kinds) l) (numbers l) ∷ []) (placed-layout numbers l)
+      ∙ sym (ap (map (λ i. entryOf j (pieceKind (j .kinds) i) (numbers i))) (below-suc l) ∙ map-append (λ i. entryOf j (pieceKind (j .kinds) i) (numbers i)) (below l) (l ∷ []))
 
   -- ---- The walk, level by level
 
@@ -93,61 +95,61 @@ module _ (j : Job) where
 
   -- All pieces are placed: the layout is complete, and held.
   pub level-last : (numbers : ℕ → ℕ) (k : ℕ) (h : Option Layout)
-      → goOnLevel j numbers (pieceCount j) k h ≡ spent k (some (reverse (placedBelow j numbers (pieceCount j)))) false
+      → goOnLevel j numbers (pieceCount (j .kinds)) k h ≡ spent k (some (reverse (placedBelow j numbers (pieceCount (j .kinds))))) false
   unfolding goOnLevel
-  level-last numbers k h = rw (pieces-end (pieceCount j) (omega arith)) (goOn-last j (placedBelow j numbers (pieceCount j)) k h)
+  level-last numbers k h = rw (pieces-end (j .kinds) (pieceCount (j .kinds)) (omega arith)) (goOn-last j (placedBelow j numbers (pieceCount (j .kinds))) k h)
 
   -- The layout held has N entries, if the one at the start has.
-  pub placed-entries : (numbers : ℕ → ℕ) (l k : ℕ) (h : Option Layout) → l ≤ pieceCount j → Entries (pieceCount j) h
-      → Entries (pieceCount j) (goOnLevel j numbers l k h .held)
+  pub placed-entries : (numbers : ℕ → ℕ) (l k : ℕ) (h : Option Layout) → l ≤ pieceCount (j .kinds) → Entries (pieceCount (j .kinds)) h
+      → Entries (pieceCount (j .kinds)) (goOnLevel j numbers l k h .held)
   unfolding goOnLevel
   placed-entries numbers l k h c p =
-      goOn-entries j (piecesFrom j l) (placedBelow j numbers l) k h (pieceCount j) (omega (arith, pieces-left l, placed-count numbers l)) p
+      goOn-entries j (piecesFrom (j .kinds) l) (placedBelow j numbers l) k h (pieceCount (j .kinds)) (omega (arith, pieces-left (j .kinds) l, placed-count numbers l)) p
 
   module _ (numbers : ℕ → ℕ) (l : ℕ) (h : Option Layout) (a : all (isEntry j) (placedBelow j numbers l) ≡ true) where
     -- Where the pieces placed do not end below the bound, nothing is done; nor past the limit of the numbers.
-    pub level-over : (n k : ℕ) → boundOf j h ≤ layoutLength j (placedBelow j numbers l) → tryLevel j numbers l n k h ≡ spent k h false
+    pub level-over : (n k : ℕ) → boundOf j h ≤ largestEnd j (placedBelow j numbers l) → tryLevel j numbers l n k h ≡ spent k h false
     unfolding tryLevel
-    level-over n k c = spent-over j (pieceKind j l) (piecesFrom j (suc l)) (placedBelow j numbers l) h a n k c
+    level-over n k c = spent-over j (pieceKind (j .kinds) l) (piecesFrom (j .kinds) (suc l)) (placedBelow j numbers l) h a n k c
 
     pub level-past : (n k : ℕ) → numberLimit (j .sheet) ≤ n → tryLevel j numbers l n k h ≡ spent k h false
     unfolding tryLevel
-    level-past n k c = spent-past j (pieceKind j l) (piecesFrom j (suc l)) (placedBelow j numbers l) n k h c
+    level-past n k c = spent-past j (pieceKind (j .kinds) l) (piecesFrom (j .kinds) (suc l)) (placedBelow j numbers l) n k h c
 
-    module _ (b : layoutLength j (placedBelow j numbers l) < boundOf j h) where
+    module _ (b : largestEnd j (placedBelow j numbers l) < boundOf j h) where
       -- With a piece left, look-ahead gives the latest candidate back, or the next piece tries its candidates.
-      pub level-back : (k : ℕ) → l < pieceCount j → enough j (piecesFrom j l) (placedBelow j numbers l) (boundOf j h) ≡ false
+      pub level-back : (k : ℕ) → l < pieceCount (j .kinds) → enough j (piecesFrom (j .kinds) l) (placedBelow j numbers l) (boundOf j h) ≡ false
           → goOnLevel j numbers l k h ≡ spent k h false
       unfolding goOnLevel
       level-back k c e =
-          rw (pieces-next l c)
-          (goOn-back j (placedBelow j numbers l) k h (pieceKind j l) (piecesFrom j (suc l)) a b (rw (pieces-next l c) at e))
+          rw (pieces-next (j .kinds) l c)
+          (goOn-back j (placedBelow j numbers l) k h (pieceKind (j .kinds) l) (piecesFrom (j .kinds) (suc l)) a b (rw (pieces-next (j .kinds) l c) at e))
 
-      pub level-deep : (k : ℕ) → l < pieceCount j → enough j (piecesFrom j l) (placedBelow j numbers l) (boundOf j h) ≡ true
+      pub level-deep : (k : ℕ) → l < pieceCount (j .kinds) → enough j (piecesFrom (j .kinds) l) (placedBelow j numbers l) (boundOf j h) ≡ true
           → goOnLevel j numbers l k h ≡ tryLevel j numbers l 0 k h
       unfolding goOnLevel tryLevel
       level-deep k c e =
-          rw (pieces-next l c)
-          (goOn-deep j (placedBelow j numbers l) k h (pieceKind j l) (piecesFrom j (suc l)) a b (piece-kind l c) (rw (pieces-next l c) at e))
+          rw (pieces-next (j .kinds) l c)
+          (goOn-deep j (placedBelow j numbers l) k h (pieceKind (j .kinds) l) (piecesFrom (j .kinds) (suc l)) a b (piece-kind (j .kinds) l c) (rw (pieces-next (j .kinds) l c) at e))
 
-      module _ (e : setOf j (placedBelow j numbers l) (boundOf j h) (pieceKind j l) (numbers l) ≡ true) where
+      module _ (e : setOf j (placedBelow j numbers l) (boundOf j h) (pieceKind (j .kinds) l) (numbers l) ≡ true) where
         -- A member is tried with the budget spent: the walk stops.
         pub level-stops : tryLevel j numbers l (numbers l) 0 h ≡ spent 0 h true
         unfolding tryLevel
-        level-stops = take-stops j (pieceKind j l) (piecesFrom j (suc l)) (placedBelow j numbers l) h a b (numbers l) e
+        level-stops = take-stops j (pieceKind (j .kinds) l) (piecesFrom (j .kinds) (suc l)) (placedBelow j numbers l) h a b (numbers l) e
 
         -- Else it is placed and counted and the walk goes on; if that stops, it is all.
         pub level-ends : (k : ℕ) → 0 < k → goOnLevel j numbers (suc l) (k - 1) h .stopped ≡ true
             → tryLevel j numbers l (numbers l) k h ≡ goOnLevel j numbers (suc l) (k - 1) h
         unfolding tryLevel goOnLevel placedBelow
-        level-ends k p d = take-ends j (pieceKind j l) (piecesFrom j (suc l)) (placedBelow j numbers l) h a b (numbers l) e k p d
+        level-ends k p d = take-ends j (pieceKind (j .kinds) l) (piecesFrom (j .kinds) (suc l)) (placedBelow j numbers l) h a b (numbers l) e k p d
 
         -- If not, the numbers after it are tried, with what is left and held.
         pub level-goes : (k : ℕ) → 0 < k → goOnLevel j numbers (suc l) (k - 1) h .stopped ≡ false
             → tryLevel j numbers l (numbers l) k h
             ≡ tryLevel j numbers l (suc (numbers l)) (goOnLevel j numbers (suc l) (k - 1) h .left) (goOnLevel j numbers (suc l) (k - 1) h .held)
         unfolding tryLevel goOnLevel placedBelow
-        level-goes k p d = take-goes j (pieceKind j l) (piecesFrom j (suc l)) (placedBelow j numbers l) h a b (numbers l) e k p d
+        level-goes k p d = take-goes j (pieceKind (j .kinds) l) (piecesFrom (j .kinds) (suc l)) (placedBelow j numbers l) h a b (numbers l) e k p d
 
   -- ---- The start
 
@@ -156,19 +158,19 @@ module _ (j : Job) where
   unfolding all
   start-admitted = refl
 
-  pub start-below : layoutLength j [] < boundOf j none
-  unfolding layoutLength largest boundOf
+  pub start-below : largestEnd j [] < boundOf j none
+  unfolding largestEnd largest boundOf
   start-below = omega arith
 
   -- ---- The whole walk
 
   -- Nothing is complete before the first step, as long as there is a piece.
-  start-none : 0 < pieceCount j → latest none (completed (piecesFrom j 0) []) ≡ none
+  start-none : 0 < pieceCount (j .kinds) → latest none (completed (piecesFrom (j .kinds) 0) []) ≡ none
   unfolding completed latest
-  start-none h = rw (pieces-next 0 h)
+  start-none h = rw (pieces-next (j .kinds) 0 h)
 
   -- The walk of the definition is what follows once nothing is placed, at level 0.
-  pub walk-spent : 0 < pieceCount j → (budget : ℕ) → spend budget none (stepsFrom j none) ≡ walkSpent j budget
+  pub walk-spent : 0 < pieceCount (j .kinds) → (budget : ℕ) → spend budget none (stepsFrom j none) ≡ walkSpent j budget
   unfolding walkSpent stepsFrom searchFrom goOn goOnSpent piecesFrom
   walk-spent h budget = ap (λ (g : Option Layout). spend budget g (stepsFrom j none)) (sym (start-none h))
 
@@ -177,14 +179,14 @@ module _ (j : Job) where
   walk-level numbers budget = refl
 
   -- What a run answers, and the layout that it holds.
-  pub verdict-walk : 0 < pieceCount j → (budget : ℕ) → verdict j budget ≡ answerOf j budget (walkSpent j budget)
+  pub verdict-walk : 0 < pieceCount (j .kinds) → (budget : ℕ) → verdict j budget ≡ answerOf j budget (walkSpent j budget)
   verdict-walk h budget = verdict-spent j budget ∙ ap (answerOf j budget) (walk-spent h budget)
 
-  pub held-walk : 0 < pieceCount j → (budget : ℕ) → held j none budget ≡ walkSpent j budget .held
+  pub held-walk : 0 < pieceCount (j .kinds) → (budget : ℕ) → held j none budget ≡ walkSpent j budget .held
   held-walk h budget = held-spent j none budget ∙ ap (λ (w : Spent). w .held) (walk-spent h budget)
 
   -- All that a run answers and leaves, where its buffers are large enough.
-  pub run-walk : 0 < pieceCount j → (budget : ℕ) (work out : List ℕ) → ltb (wordsIn work) (workWords j) ≡ false → ltb (numbersIn out) (4 * pieceCount j) ≡ false
+  pub run-walk : 0 < pieceCount (j .kinds) → (budget : ℕ) (work out : List ℕ) → ltb (wordsIn work) (workWords j) ≡ false → ltb (numbersIn out) (4 * pieceCount (j .kinds)) ≡ false
       → runContent j budget work out ≡ runOutcome (answerOf j budget (walkSpent j budget)) (cleared j work) (withLayout (walkSpent j budget .held) out)
   unfolding runContent
   run-walk h budget work out p q = rw (p, q, runContent, verdict-walk h budget, held-walk h budget)

@@ -12,6 +12,7 @@ use Rattle.model.specs.Content.{Kind, SpacingClass, kindAt, kindCount, pieceCou
 use Rattle.model.specs.Format.{Got, bad, got, content, refusal, cause4, cause6, boardOf, kindsUnfit, kindsIn, kindsGot, kindsStated, kindsLength, classesOf}
 use Rattle.model.specs.Grid.{setWords}
 use Rattle.model.specs.Lists.{between, sum}
+use Rattle.model.specs.Problem.{under}
 use Rattle.model.specs.Services.{workWords}
 use Rattle.model.proofs.Accepted.{accepted-kinds, accepted-dots, KindInRange}
 use Rattle.model.proofs.Causes.{no-cause}
@@ -25,7 +26,7 @@ fit-sum cs size (got ks m) e = ltb-false _ _ (or-right (not (eqb m size)) _ (or-
 
 module _ (s : List ℕ) (accepted : refusal s ≡ 0) where
   -- "the demands sum to N, at most 12"
-  pub few-pieces : pieceCount (content s) ≤ 12
+  pub few-pieces : pieceCount (content s .kinds) ≤ 12
   unfolding cause6 content pieceCount
   few-pieces = fit-sum (classesOf s) (kindsLength s) (kindsGot s) (or-right (not (between 1 8 (kindsStated s))) _ (no-cause s accepted .no6))
 
@@ -42,7 +43,7 @@ module _ (s : List ℕ) (accepted : refusal s ≡ 0) where
       leb-true _ 1000 (and-right (leb 1 (boardOf s .L)) _ (not-false _ (or-right (not (between 1 1000 (boardOf s .W))) _ (or-left _ _ (or-left _ _ e)))))
 
   -- Each kind is demanded.
-  pub demanded : (t : ℕ) → t < kindCount (content s) → 0 < kindAt (content s) t .demand
+  pub demanded : (t : ℕ) → t < kindCount (content s .kinds) → 0 < kindAt (content s .kinds) t .demand
   unfolding kindAt kindCount
   demanded t h = go (content s .kinds) t h (accepted-kinds s accepted .each-kind)
     where
@@ -52,6 +53,6 @@ module _ (s : List ℕ) (accepted : refusal s ≡ 0) where
       go (k ∷ ks) (suc t) h f = go ks t (omega arith) (λ l d. f l (List·Memᴰ·tail d))
 
   -- The work words of a run are few.
-  pub few-work : workWords (content s) ≤ 6144
+  pub few-work : (m : ℕ) → workWords (under m (content s)) ≤ 6144
   unfolding workWords
-  few-work = mul-le-mul (mul-le-mul (accepted-kinds s accepted .few-kinds) few-pieces) few-words
+  few-work m = mul-le-mul (mul-le-mul (accepted-kinds s accepted .few-kinds) few-pieces) few-words

@@ -10,22 +10,23 @@ use borrow.Author.Tests.{ltb-true, lt-ltb, le-ltb, eqb-true, eqb-false, le-leb, 
 use lib.Dec.{leb, ltb, eqb}
 use lib.ListN.{getD}
 use Rattle.model.specs.Candidate.{isCandidate, candidates}
-use Rattle.model.specs.Content.{Job, kindCount}
+use Rattle.model.specs.Content.{kindCount}
 use Rattle.model.specs.Grid.{numberLimit, setWords}
-use Rattle.model.specs.Layout.{Entry, Layout, entryOf, entryNumber, entryExtent, isEntry, conflict, layoutLength}
+use Rattle.model.specs.Layout.{Entry, Layout, entryOf, entryNumber, entryExtent, isEntry, conflict, largestEnd, layoutLength}
 use Rattle.model.specs.Lists.{all, any, countOf, below}
+use Rattle.model.specs.Problem.{Problem}
 use Rattle.model.specs.Search.{candidateTable, free, abovePrevious, beats, staysBelow, live, lengthOf, copiesLeft, forwardCheck}
 use Rattle.model.proofs.Lists.{and-both, and-four, all-below, below-all, not-both}
 use Rattle.model.proofs.Numbers.{number-of-placement}
-use Rattle.model.proofs.Search.Completions.{length-cons}
+use Rattle.model.proofs.Search.Completions.{end-cons}
 use Rattle.model.proofs.Search.ForwardCheck.{above-through}
 use Rattle.model.proofs.Search.Pieces.{table-at}
 use Rattle.stepping.specs.LiveSets.{setOf, boundOf, membersOf, enough}
 use Rattle.stepping.proofs.Counting.{countOf-keep, countOf-same, countOf-below, all-below-same}
-use Rattle.stepping.proofs.Extents.{candidate-extent, candidate-entry, placed-length, candidate-below, limit-words}
-use Rattle.stepping.proofs.Tests.{and-turn, and-last, not-or, ltb-max, ltb-bounds}
+use Rattle.stepping.proofs.Extents.{candidate-extent, candidate-entry, placed-end, candidate-below, limit-words}
+use Rattle.stepping.proofs.Tests.{and-turn, and-last, not-or, ltb-max, ltb-plus, ltb-bounds}
 
-module _ (j : Job) where
+module _ (j : Problem) where
   -- ---- Members
 
   -- What a member is: four tests.
@@ -49,21 +50,21 @@ module _ (j : Job) where
 
   -- ---- Live is being a member, where the pieces placed end below the bound
 
-  -- The larger of two ends beats the best if both are below the bound.
+  -- The length that the larger of two ends gives beats the best if both ends are below the bound.
   pub beats-bound : (h : Option Layout) (x l : ℕ) → x ≤ j .sheet .L → l ≤ j .sheet .L
-      → beats (max x l) (lengthOf j h) ≡ (ltb x (boundOf j h) && ltb l (boundOf j h))
-  unfolding beats lengthOf boundOf
+      → beats (max x l + j .margin) (lengthOf j h) ≡ (ltb x (boundOf j h) && ltb l (boundOf j h))
+  unfolding beats lengthOf boundOf layoutLength
   beats-bound none x l p q = sym (and-both _ _ (lt-ltb x (j .sheet .L + 1) (omega arith)) (lt-ltb l (j .sheet .L + 1) (omega arith)))
-  beats-bound (some es) x l p q = ltb-max x l (layoutLength j es)
+  beats-bound (some es) x l p q = ltb-plus (max x l) (largestEnd j es) (j .margin) ∙ ltb-max x l (largestEnd j es)
 
   -- A candidate is live if it is a member and the pieces placed end below the bound. (What is placed are candidates, so all ends are at
   -- most L, and L + 1 bounds nothing.)
   pub live-member : (placed : Layout) (h : Option Layout) (u m : ℕ) → all (isEntry j) placed ≡ true → isCandidate j u m ≡ true
-      → live j placed (lengthOf j h) u m ≡ (setOf j placed (boundOf j h) u m && ltb (layoutLength j placed) (boundOf j h))
-  unfolding live staysBelow setOf
+      → live j placed (lengthOf j h) u m ≡ (setOf j placed (boundOf j h) u m && ltb (largestEnd j placed) (boundOf j h))
+  unfolding live staysBelow setOf layoutLength
   live-member placed h u m a c =
-      rw (length-cons j (entryOf j u m) placed, beats-bound h _ _ (candidate-extent j u m c) (placed-length j placed a), c)
-      (and-turn (ltb (entryExtent j (entryOf j u m)) (boundOf j h)) (ltb (layoutLength j placed) (boundOf j h))
+      rw (end-cons j (entryOf j u m) placed, beats-bound h _ _ (candidate-extent j u m c) (placed-end j placed a), c)
+      (and-turn (ltb (entryExtent j (entryOf j u m)) (boundOf j h)) (ltb (largestEnd j placed) (boundOf j h))
       (abovePrevious j placed (entryOf j u m)) (free j placed (entryOf j u m)))
 
   -- ---- How a set changes
@@ -130,17 +131,17 @@ module _ (j : Job) where
 
   -- ---- Look-ahead by counting members
 
-  module _ (placed : Layout) (h : Option Layout) (a : all (isEntry j) placed ≡ true) (l : layoutLength j placed < boundOf j h) where
+  module _ (placed : Layout) (h : Option Layout) (a : all (isEntry j) placed ≡ true) (l : largestEnd j placed < boundOf j h) where
     -- A number is that of a live candidate exactly if it is a member, as long as the pieces placed end below the bound.
     pub member-live : (u m : ℕ) → (isCandidate j u m && live j placed (lengthOf j h) u m) ≡ setOf j placed (boundOf j h) u m
     member-live u m = go (isCandidate j u m) refl
       where
         go : (c : Bool) → isCandidate j u m ≡ c → (c && live j placed (lengthOf j h) u m) ≡ setOf j placed (boundOf j h) u m
-        go true e = live-member placed h u m a e ∙ rw (lt-ltb (layoutLength j placed) (boundOf j h) l) (and-true (setOf j placed (boundOf j h) u m))
+        go true e = live-member placed h u m a e ∙ rw (lt-ltb (largestEnd j placed) (boundOf j h) l) (and-true (setOf j placed (boundOf j h) u m))
         go false e = sym (no-member placed (boundOf j h) u m e)
 
     -- So there are as many live candidates as members.
-    pub count-live : (u : ℕ) → u < kindCount j
+    pub count-live : (u : ℕ) → u < kindCount (j .kinds)
         → countOf (live j placed (lengthOf j h) u) (getD (candidateTable j) u [])
         ≡ countOf (setOf j placed (boundOf j h) u) (below (numberLimit (j .sheet)))
     unfolding candidates
@@ -153,11 +154,11 @@ module _ (j : Job) where
     -- Look-ahead: every kind has at least as many members as copies left.
     pub forward-counts : (left : List ℕ)
         → forwardCheck j (candidateTable j) left placed (lengthOf j h)
-        ≡ all (λ u. leb (copiesLeft u left) (countOf (setOf j placed (boundOf j h) u) (below (numberLimit (j .sheet))))) (below (kindCount j))
+        ≡ all (λ u. leb (copiesLeft u left) (countOf (setOf j placed (boundOf j h) u) (below (numberLimit (j .sheet))))) (below (kindCount (j .kinds)))
     unfolding forwardCheck
     forward-counts left =
         all-below-same (λ u. leb (copiesLeft u left) (countOf (live j placed (lengthOf j h) u) (getD (candidateTable j) u [])))
-        (λ u. leb (copiesLeft u left) (countOf (setOf j placed (boundOf j h) u) (below (numberLimit (j .sheet))))) (kindCount j)
+        (λ u. leb (copiesLeft u left) (countOf (setOf j placed (boundOf j h) u) (below (numberLimit (j .sheet))))) (kindCount (j .kinds))
         (λ u k. ap (leb (copiesLeft u left)) (count-live u k))
 
   -- No number that the words have a bit for beyond the limit is a member.
@@ -175,23 +176,23 @@ module _ (j : Job) where
           go false e = no-member placed bound u m e
 
   -- Look-ahead by what the words of the sets hold.
-  pub forward-members : (left : List ℕ) (placed : Layout) (h : Option Layout) → all (isEntry j) placed ≡ true → layoutLength j placed < boundOf j h
+  pub forward-members : (left : List ℕ) (placed : Layout) (h : Option Layout) → all (isEntry j) placed ≡ true → largestEnd j placed < boundOf j h
       → forwardCheck j (candidateTable j) left placed (lengthOf j h)
-      ≡ all (λ u. leb (copiesLeft u left) (membersOf j placed (boundOf j h) u)) (below (kindCount j))
+      ≡ all (λ u. leb (copiesLeft u left) (membersOf j placed (boundOf j h) u)) (below (kindCount (j .kinds)))
   forward-members left placed h a l =
       forward-counts placed h a l left
       ∙ all-below-same (λ u. leb (copiesLeft u left) (countOf (setOf j placed (boundOf j h) u) (below (numberLimit (j .sheet)))))
-      (λ u. leb (copiesLeft u left) (membersOf j placed (boundOf j h) u)) (kindCount j)
+      (λ u. leb (copiesLeft u left) (membersOf j placed (boundOf j h) u)) (kindCount (j .kinds))
       (λ u k. ap (leb (copiesLeft u left)) (sym (members-limit placed (boundOf j h) u)))
 
   -- It need look only at the kinds with copies left.
-  pub forward-enough : (left : List ℕ) (placed : Layout) (h : Option Layout) → all (isEntry j) placed ≡ true → layoutLength j placed < boundOf j h
+  pub forward-enough : (left : List ℕ) (placed : Layout) (h : Option Layout) → all (isEntry j) placed ≡ true → largestEnd j placed < boundOf j h
       → forwardCheck j (candidateTable j) left placed (lengthOf j h) ≡ enough j left placed (boundOf j h)
   unfolding enough
   forward-enough left placed h a l =
       forward-members left placed h a l
       ∙ all-below-same (λ u. leb (copiesLeft u left) (membersOf j placed (boundOf j h) u))
-      (λ u. eqb (copiesLeft u left) 0 || leb (copiesLeft u left) (membersOf j placed (boundOf j h) u)) (kindCount j)
+      (λ u. eqb (copiesLeft u left) 0 || leb (copiesLeft u left) (membersOf j placed (boundOf j h) u)) (kindCount (j .kinds))
       (λ u k. spared (copiesLeft u left) (membersOf j placed (boundOf j h) u))
     where
       spared : (c m : ℕ) → leb c m ≡ (eqb c 0 || leb c m)
@@ -203,11 +204,11 @@ module _ (j : Job) where
 
   -- The sets are enough if each kind with copies left has as many members.
   pub enough-holds : (left : List ℕ) (placed : Layout) (bound : ℕ)
-      → ((u : ℕ) → u < kindCount j → 0 < copiesLeft u left → copiesLeft u left ≤ membersOf j placed bound u) → enough j left placed bound ≡ true
+      → ((u : ℕ) → u < kindCount (j .kinds) → 0 < copiesLeft u left → copiesLeft u left ≤ membersOf j placed bound u) → enough j left placed bound ≡ true
   unfolding enough
-  enough-holds left placed bound f = below-all (λ u. eqb (copiesLeft u left) 0 || leb (copiesLeft u left) (membersOf j placed bound u)) (kindCount j) each
+  enough-holds left placed bound f = below-all (λ u. eqb (copiesLeft u left) 0 || leb (copiesLeft u left) (membersOf j placed bound u)) (kindCount (j .kinds)) each
     where
-      each : (u : ℕ) → u < kindCount j → (eqb (copiesLeft u left) 0 || leb (copiesLeft u left) (membersOf j placed bound u)) ≡ true
+      each : (u : ℕ) → u < kindCount (j .kinds) → (eqb (copiesLeft u left) 0 || leb (copiesLeft u left) (membersOf j placed bound u)) ≡ true
       each u k = go (eqb (copiesLeft u left) 0) refl
         where
           go : (b : Bool) → eqb (copiesLeft u left) 0 ≡ b → (b || leb (copiesLeft u left) (membersOf j placed bound u)) ≡ true
@@ -218,7 +219,7 @@ module _ (j : Job) where
               positive c g = omega arith
 
   -- They are not if some kind has fewer.
-  pub enough-fails : (left : List ℕ) (placed : Layout) (bound u : ℕ) → u < kindCount j → membersOf j placed bound u < copiesLeft u left
+  pub enough-fails : (left : List ℕ) (placed : Layout) (bound u : ℕ) → u < kindCount (j .kinds) → membersOf j placed bound u < copiesLeft u left
       → enough j left placed bound ≡ false
   unfolding enough
   enough-fails left placed bound u k l = go (enough j left placed bound) refl
@@ -232,7 +233,7 @@ module _ (j : Job) where
           (rw (ne-eqb (copiesLeft u left) 0 (λ q. omega arith), lt-leb (copiesLeft u left) (membersOf j placed bound u) l))
 
       go : (b : Bool) → enough j left placed bound ≡ b → enough j left placed bound ≡ false
-      go true e = absurd (wrong (all-below test (kindCount j) e u k))
+      go true e = absurd (wrong (all-below test (kindCount (j .kinds)) e u k))
       go false e = e
 
   -- ---- A member placed
@@ -243,16 +244,16 @@ module _ (j : Job) where
   unfolding all
   placed-admitted placed bound t n e a = and-both _ _ (candidate-entry j t n ∙ member-parts placed bound t n e .0) a
 
-  pub placed-below : (placed : Layout) (bound t n : ℕ) → setOf j placed bound t n ≡ true → layoutLength j placed < bound
-      → layoutLength j (entryOf j t n ∷ placed) < bound
+  pub placed-below : (placed : Layout) (bound t n : ℕ) → setOf j placed bound t n ≡ true → largestEnd j placed < bound
+      → largestEnd j (entryOf j t n ∷ placed) < bound
   placed-below placed bound t n e l =
-      omega (arith, length-cons j (entryOf j t n) placed, ltb-true (entryExtent j (entryOf j t n)) bound (member-parts placed bound t n e .3))
+      omega (arith, end-cons j (entryOf j t n) placed, ltb-true (entryExtent j (entryOf j t n)) bound (member-parts placed bound t n e .3))
 
   -- A member is live, as long as the pieces placed end below the bound.
-  pub live-of-member : (placed : Layout) (h : Option Layout) (t n : ℕ) → all (isEntry j) placed ≡ true → layoutLength j placed < boundOf j h
+  pub live-of-member : (placed : Layout) (h : Option Layout) (t n : ℕ) → all (isEntry j) placed ≡ true → largestEnd j placed < boundOf j h
       → setOf j placed (boundOf j h) t n ≡ true → live j placed (lengthOf j h) t n ≡ true
   live-of-member placed h t n a l e =
-      live-member placed h t n a (member-parts placed (boundOf j h) t n e .0) ∙ rw (e, lt-ltb (layoutLength j placed) (boundOf j h) l)
+      live-member placed h t n a (member-parts placed (boundOf j h) t n e .0) ∙ rw (e, lt-ltb (largestEnd j placed) (boundOf j h) l)
 
   -- A candidate that is no member is not live.
   pub dead-of-member : (placed : Layout) (h : Option Layout) (t n : ℕ) → all (isEntry j) placed ≡ true → isCandidate j t n ≡ true
@@ -260,9 +261,9 @@ module _ (j : Job) where
   dead-of-member placed h t n a c e = live-member placed h t n a c ∙ rw e
 
   -- Where the pieces placed do not end below the bound, nothing is live.
-  pub none-live : (placed : Layout) (h : Option Layout) (t n : ℕ) → all (isEntry j) placed ≡ true → boundOf j h ≤ layoutLength j placed
+  pub none-live : (placed : Layout) (h : Option Layout) (t n : ℕ) → all (isEntry j) placed ≡ true → boundOf j h ≤ largestEnd j placed
       → live j placed (lengthOf j h) t n ≡ false
-  unfolding live staysBelow beats lengthOf boundOf
-  none-live placed none t n a l = absurd (omega (arith, placed-length j placed a))
+  unfolding live staysBelow beats lengthOf boundOf layoutLength
+  none-live placed none t n a l = absurd (omega (arith, placed-end j placed a))
   none-live placed (some es) t n a l =
-      rw (le-ltb (layoutLength j (entryOf j t n ∷ placed)) (layoutLength j es) (omega (arith, length-cons j (entryOf j t n) placed)))
+      rw (le-ltb (layoutLength j (entryOf j t n ∷ placed)) (layoutLength j es) (omega (arith, end-cons j (entryOf j t n) placed)))

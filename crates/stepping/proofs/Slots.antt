@@ -8,14 +8,15 @@ use lib.ListN.{length, take, drop, length-drop}
 use lib.Seq.{take-all}
 use Rattle.words.specs.Sets.{member}
 use Rattle.words.proofs.Member.{member-drop}
-use Rattle.model.specs.Content.{Job, kindCount, pieceCount}
+use Rattle.model.specs.Content.{kindCount, pieceCount}
 use Rattle.model.specs.Grid.{setWords}
 use Rattle.model.specs.Layout.{Layout}
+use Rattle.model.specs.Problem.{Problem}
 use Rattle.model.specs.Services.{workWords}
 use Rattle.stepping.specs.LiveSets.{Keeps}
 use Rattle.stepping.specs.Slots.{setStart, slotOf, Frame}
 
-module _ (j : Job) where
+module _ (j : Problem) where
   -- ---- Places
 
   -- One set behind the other.
@@ -28,26 +29,26 @@ module _ (j : Job) where
   start-kinds l u v h = mul-le-mul-right (setWords (j .sheet)) (omega arith)
 
   -- One level behind the other.
-  pub start-level : (l : ℕ) → setStart j l (kindCount j) ≡ setStart j (l + 1) 0
+  pub start-level : (l : ℕ) → setStart j l (kindCount (j .kinds)) ≡ setStart j (l + 1) 0
   unfolding setStart
   start-level l = omega arith
 
   pub start-levels : (l k : ℕ) → l ≤ k → setStart j l 0 ≤ setStart j k 0
   unfolding setStart
-  start-levels l k h = mul-le-mul-right (setWords (j .sheet)) (omega (arith, mul-le-mul-right (kindCount j) h))
+  start-levels l k h = mul-le-mul-right (setWords (j .sheet)) (omega (arith, mul-le-mul-right (kindCount (j .kinds)) h))
 
   -- A set of a lower level ends before a level begins.
-  pub start-lower : (l k u : ℕ) → l < k → u < kindCount j → setStart j l u + setWords (j .sheet) ≤ setStart j k 0
+  pub start-lower : (l k u : ℕ) → l < k → u < kindCount (j .kinds) → setStart j l u + setWords (j .sheet) ≤ setStart j k 0
   start-lower l k u h g =
-      omega (arith, start-next l u, start-kinds l (u + 1) (kindCount j) (omega arith), start-level l, start-levels (l + 1) k (omega arith))
+      omega (arith, start-next l u, start-kinds l (u + 1) (kindCount (j .kinds)) (omega arith), start-level l, start-levels (l + 1) k (omega arith))
 
   -- All lie within the needed words.
-  pub start-all : setStart j (pieceCount j) 0 ≡ workWords j
+  pub start-all : setStart j (pieceCount (j .kinds)) 0 ≡ workWords j
   unfolding setStart workWords
   start-all = omega arith
 
-  pub start-fits : (l u : ℕ) → l < pieceCount j → u < kindCount j → setStart j l u + setWords (j .sheet) ≤ workWords j
-  start-fits l u h g = omega (arith, start-lower l (pieceCount j) u h g, start-all)
+  pub start-fits : (l u : ℕ) → l < pieceCount (j .kinds) → u < kindCount (j .kinds) → setStart j l u + setWords (j .sheet) ≤ workWords j
+  start-fits l u h g = omega (arith, start-lower l (pieceCount (j .kinds)) u h g, start-all)
 
   -- ---- Members
 
@@ -63,7 +64,7 @@ module _ (j : Job) where
   keeps-same placed bound span l u work work′ f k m h = slot-member work′ l u m ∙ f m h ∙ sym (slot-member work l u m) ∙ k m h
 
   -- So is one below a level, where only that level and those above it changed.
-  pub keeps-frame : (placed : Layout) (bound span l k u : ℕ) (work work′ : List ℕ) → span ≤ setWords (j .sheet) → l < k → u < kindCount j → Frame j k work work′
+  pub keeps-frame : (placed : Layout) (bound span l k u : ℕ) (work work′ : List ℕ) → span ≤ setWords (j .sheet) → l < k → u < kindCount (j .kinds) → Frame j k work work′
       → Keeps j placed bound span u (slotOf j work l u) → Keeps j placed bound span u (slotOf j work′ l u)
   keeps-frame placed bound span l k u work work′ few h g f s =
       keeps-same placed bound span l u work work′ (λ m q. f .lower (setStart j l u * 64 + m) (omega (arith, start-lower l k u h g))) s

@@ -9,8 +9,8 @@ use borrow.Author.Tests.{lt-ltb, le-ltb}
 use lib.Dec.{ltb, leb·suc-suc}
 use lib.ListN.{length, take, length-take}
 use lib.Seq.{take-nil}
-use Rattle.model.specs.Content.{Job}
 use Rattle.model.specs.Layout.{Layout}
+use Rattle.model.specs.Problem.{Problem}
 use Rattle.model.specs.Search.{Step, latest, bestAfter, stepsFrom, stepsNeeded, stepsTaken, isStopped, held}
 use Rattle.model.specs.Services.{stepCount, verdict}
 use Rattle.stepping.specs.Spending.{Spent, spent, spend, onward, answerOf}
@@ -82,7 +82,7 @@ onward-goes w ss e = rw e
 
 -- ---- The whole walk
 
-module _ (j : Job) (begin : Option Layout) (budget : ℕ) where
+module _ (j : Problem) (begin : Option Layout) (budget : ℕ) where
   -- Whether the walk stopped is what spending says.
   pub stopped-spent : isStopped j begin budget ≡ spend budget begin (stepsFrom j begin) .stopped
   unfolding isStopped stepsNeeded
@@ -94,11 +94,11 @@ module _ (j : Job) (begin : Option Layout) (budget : ℕ) where
   held-spent = sym (spend-held budget begin (stepsFrom j begin))
 
 -- The steps told are the budget less what is left of it.
-pub steps-spent : (j : Job) (budget : ℕ) → stepCount j budget ≡ budget - spend budget none (stepsFrom j none) .left
+pub steps-spent : (j : Problem) (budget : ℕ) → stepCount j budget ≡ budget - spend budget none (stepsFrom j none) .left
 unfolding stepCount stepsTaken
 steps-spent j budget = rw (spend-left budget none (stepsFrom j none), length-take) (omega arith)
 
 -- What a run answers is what spending says.
-pub verdict-spent : (j : Job) (budget : ℕ) → verdict j budget ≡ answerOf j budget (spend budget none (stepsFrom j none))
+pub verdict-spent : (j : Problem) (budget : ℕ) → verdict j budget ≡ answerOf j budget (spend budget none (stepsFrom j none))
 unfolding verdict answerOf
 verdict-spent j budget = rw (stopped-spent j none budget, held-spent j none budget, steps-spent j budget)

@@ -9,10 +9,11 @@ use borrow.Author.Tests.{ltb-true, ltb-false}
 use lib.Dec.{ltb, leb·zero}
 use lib.ListN.{getD}
 use Rattle.model.specs.Candidate.{isCandidate, candidates}
-use Rattle.model.specs.Content.{Job, kindCount}
+use Rattle.model.specs.Content.{kindCount}
 use Rattle.model.specs.Grid.{numberLimit}
-use Rattle.model.specs.Layout.{Layout, entryOf, isEntry, layoutLength}
+use Rattle.model.specs.Layout.{Layout, entryOf, isEntry, largestEnd, layoutLength}
 use Rattle.model.specs.Lists.{all, keep, countOf, rising, below}
+use Rattle.model.specs.Problem.{Problem}
 use Rattle.model.specs.Search.{Step, Searched, step, searched, then, candidateTable, live, copiesLeft, forwardCheck, completed, tryCandidates, searchPieces, lengthOf, latest}
 use Rattle.model.proofs.Lists.{below-all, not-both}
 use Rattle.model.proofs.Search.Completions.{length-reverse}
@@ -41,9 +42,9 @@ rising-past n m h =
     let e : m - n ≡ 0 = omega arith in
     ap (rising n) e
 
-module _ (j : Job) (t : ℕ) where
+module _ (j : Problem) (t : ℕ) where
   -- The candidates of a kind are those from number 0 on.
-  pub table-remaining : t < kindCount j → getD (candidateTable j) t [] ≡ remaining j t 0
+  pub table-remaining : t < kindCount (j .kinds) → getD (candidateTable j) t [] ≡ remaining j t 0
   unfolding remaining candidates below
   table-remaining h = table-at j t h ∙ ap (λ (m : ℕ). keep (isCandidate j t) (rising 0 m)) (omega arith)
 
@@ -71,11 +72,11 @@ module _ (j : Job) (t : ℕ) where
 -- ---- A candidate taken
 
 -- With no piece left, look-ahead asks for nothing.
-pub forward-last : (j : Job) (cs : List (List ℕ)) (placed : Layout) (best : Option ℕ) → forwardCheck j cs [] placed best ≡ true
+pub forward-last : (j : Problem) (cs : List (List ℕ)) (placed : Layout) (best : Option ℕ) → forwardCheck j cs [] placed best ≡ true
 unfolding forwardCheck copiesLeft countOf
-forward-last j cs placed best = below-all _ (kindCount j) (λ u h. leb·zero (countOf (live j placed best u) (getD cs u [])))
+forward-last j cs placed best = below-all _ (kindCount (j .kinds)) (λ u h. leb·zero (countOf (live j placed best u) (getD cs u [])))
 
-module _ (j : Job) (cs : List (List ℕ)) where
+module _ (j : Problem) (cs : List (List ℕ)) where
   -- Where look-ahead fails nothing is done; else the walk goes over the pieces left.
   pub goes-back : (left : List ℕ) (placed : Layout) (best : Option ℕ) → forwardCheck j cs left placed best ≡ false
       → goOn j cs left placed best ≡ searched [] best
@@ -192,14 +193,14 @@ module _ (j : Job) (cs : List (List ℕ)) where
 
 -- ---- One piece, number by number
 
-module _ (j : Job) (t : ℕ) (left : List ℕ) (placed : Layout) where
+module _ (j : Problem) (t : ℕ) (left : List ℕ) (placed : Layout) where
   -- Past the limit of the numbers no step is taken.
   pub try-past : (best : Option ℕ) (n : ℕ) → numberLimit (j .sheet) ≤ n → tryFrom j t left placed best n ≡ searched [] best
   unfolding tryFrom
   try-past best n l = rw (remaining-past j t n l) (tries-end j (candidateTable j) (searchPieces j (candidateTable j) left) t left placed best)
 
   -- All candidates of a kind are those from number 0 on: this is the walk over the pieces.
-  pub try-pieces : (best : Option ℕ) → t < kindCount j → searchPieces j (candidateTable j) (t ∷ left) placed best ≡ tryFrom j t left placed best 0
+  pub try-pieces : (best : Option ℕ) → t < kindCount (j .kinds) → searchPieces j (candidateTable j) (t ∷ left) placed best ≡ tryFrom j t left placed best 0
   unfolding tryFrom searchPieces
   try-pieces best h = rw (table-remaining j t h)
 
@@ -231,11 +232,11 @@ module _ (j : Job) (t : ℕ) (left : List ℕ) (placed : Layout) where
         go (suc d) n e f = try-skip n (f n (omega arith) (omega arith)) ∙ go d (suc n) (omega arith) (λ i p q. f i (omega arith) q)
 
     -- Where the pieces placed do not end below the bound, no step is taken.
-    pub try-over : (n : ℕ) → boundOf j h ≤ layoutLength j placed → tryFrom j t left placed (lengthOf j h) n ≡ searched [] (lengthOf j h)
+    pub try-over : (n : ℕ) → boundOf j h ≤ largestEnd j placed → tryFrom j t left placed (lengthOf j h) n ≡ searched [] (lengthOf j h)
     unfolding tryFrom
     try-over n l = tries-none j (candidateTable j) t left (remaining j t n) placed (lengthOf j h) (λ m. none-live j placed h t m a l)
 
-    module _ (l : layoutLength j placed < boundOf j h) (n : ℕ) (e : setOf j placed (boundOf j h) t n ≡ true) where
+    module _ (l : largestEnd j placed < boundOf j h) (n : ℕ) (e : setOf j placed (boundOf j h) t n ≡ true) where
       -- A member is taken: its step, what follows it, then the numbers after it with the new best.
       pub try-takes : tryFrom j t left placed (lengthOf j h) n
           ≡ then (step (entryOf j t n) (completed left (entryOf j t n ∷ placed))
@@ -284,7 +285,7 @@ module _ (j : Job) (t : ℕ) (left : List ℕ) (placed : Layout) where
     spent-skip-to n m k l f = rw (try-skip-to n m l f)
 
     -- Where the pieces placed do not end below the bound, nothing is done.
-    pub spent-over : (n k : ℕ) → boundOf j h ≤ layoutLength j placed → tryFromSpent j t left placed n k h ≡ spent k h false
+    pub spent-over : (n k : ℕ) → boundOf j h ≤ largestEnd j placed → tryFromSpent j t left placed n k h ≡ spent k h false
     unfolding tryFromSpent
     spent-over n k l = rw (try-over n l) (spend-end k h)
 
@@ -295,7 +296,7 @@ module _ (j : Job) (t : ℕ) (left : List ℕ) (placed : Layout) where
 
 -- ---- What follows a candidate taken, under a budget of which k is left
 
-module _ (j : Job) (placed : Layout) (k : ℕ) (h : Option Layout) where
+module _ (j : Problem) (placed : Layout) (k : ℕ) (h : Option Layout) where
   -- It was the last piece: the layout is complete, and held.
   pub goOn-last : goOnSpent j [] placed k h ≡ spent k (some (reverse placed)) false
   unfolding goOnSpent completed latest searchPieces
@@ -303,14 +304,14 @@ module _ (j : Job) (placed : Layout) (k : ℕ) (h : Option Layout) where
       rw (goes-deep j (candidateTable j) [] placed (lengthOf j h) (forward-last j (candidateTable j) placed (lengthOf j h)))
       (spend-end k (some (reverse placed)))
 
-  module _ (u : ℕ) (left : List ℕ) (a : all (isEntry j) placed ≡ true) (l : layoutLength j placed < boundOf j h) where
+  module _ (u : ℕ) (left : List ℕ) (a : all (isEntry j) placed ≡ true) (l : largestEnd j placed < boundOf j h) where
     -- Some kind has too few members: the candidate is given back.
     pub goOn-back : enough j (u ∷ left) placed (boundOf j h) ≡ false → goOnSpent j (u ∷ left) placed k h ≡ spent k h false
     unfolding goOnSpent completed latest
     goOn-back e = rw (goes-back j (candidateTable j) (u ∷ left) placed (lengthOf j h) (forward-enough j (u ∷ left) placed h a l ∙ e)) (spend-end k h)
 
     -- Else the next piece tries its candidates.
-    pub goOn-deep : u < kindCount j → enough j (u ∷ left) placed (boundOf j h) ≡ true
+    pub goOn-deep : u < kindCount (j .kinds) → enough j (u ∷ left) placed (boundOf j h) ≡ true
         → goOnSpent j (u ∷ left) placed k h ≡ tryFromSpent j u left placed 0 k h
     unfolding goOnSpent tryFromSpent completed latest
     goOn-deep c e =
@@ -320,11 +321,11 @@ module _ (j : Job) (placed : Layout) (k : ℕ) (h : Option Layout) where
         )
 
 -- The budget does not grow.
-pub goOn-left-le : (j : Job) (left : List ℕ) (placed : Layout) (k : ℕ) (h : Option Layout) → goOnSpent j left placed k h .left ≤ k
+pub goOn-left-le : (j : Problem) (left : List ℕ) (placed : Layout) (k : ℕ) (h : Option Layout) → goOnSpent j left placed k h .left ≤ k
 unfolding goOnSpent
 goOn-left-le j left placed k h = spend-left-le k (latest h (completed left placed)) (goOn j (candidateTable j) left placed (lengthOf j h) .steps)
 
--- The bound once a layout is complete: the length of the pieces placed.
-pub bound-complete : (j : Job) (placed : Layout) → boundOf j (some (reverse placed)) ≡ layoutLength j placed
-unfolding boundOf
-bound-complete j placed = length-reverse j placed
+-- The bound once a layout is complete: the largest end of the pieces placed.
+pub bound-complete : (j : Problem) (placed : Layout) → boundOf j (some (reverse placed)) ≡ largestEnd j placed
+unfolding boundOf layoutLength
+bound-complete j placed = omega (arith, length-reverse j placed)

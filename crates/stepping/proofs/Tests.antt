@@ -1,10 +1,12 @@
 -- Tests that are equal: conjunctions put in another order, and comparisons.
 use mathlib.Core.Bool.{Bool, true, false, not, _&&_, _||_, and-true, and-false}
+use mathlib.Core.Logic.{⊎-elim}
 use mathlib.Core.Path.{_≡_, refl, sym, _∙_}
-use Prim.Native.Nat.{ℕ, max, _≤_}
+use Prim.Native.Nat.{ℕ, _+_, max, _≤_}
 use native.Mathlib.Omega.{arith}
 use borrow.Author.Tests.{ltb-true, ltb-false, lt-ltb, le-ltb}
 use lib.Dec.{ltb}
+use Rattle.words.proofs.Cases.{le-or-lt}
 
 -- Four tests the other way round.
 pub and-turn : (p q a f : Bool) → (p && q && a && f) ≡ (f && a && p && q)
@@ -25,6 +27,10 @@ and-last true true true b true true = sym (and-true (b && true) ∙ and-true b)
 pub not-or : (a b : Bool) → not (a || b) ≡ (not b && not a)
 not-or true b = sym (and-false (not b))
 not-or false b = sym (and-true (not b))
+
+-- The same added to both sides changes no comparison.
+pub ltb-plus : (a b m : ℕ) → ltb (a + m) (b + m) ≡ ltb a b
+ltb-plus a b m = ⊎-elim (λ l. le-ltb (a + m) (b + m) (omega arith) ∙ sym (le-ltb a b l)) (λ l. lt-ltb (a + m) (b + m) (omega arith) ∙ sym (lt-ltb a b l)) (le-or-lt b a)
 
 -- The larger of two numbers is below a bound if both are.
 pub ltb-max : (a b c : ℕ) → ltb (max a b) c ≡ (ltb a c && ltb b c)

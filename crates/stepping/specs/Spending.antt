@@ -3,8 +3,8 @@ use mathlib.Core.Bool.{Bool, true, false, cond}
 use mathlib.Core.List.{List, [], _∷_}
 use mathlib.Core.Option.{Option}
 use Prim.Native.Nat.{ℕ, zero, suc, _-_}
-use Rattle.model.specs.Content.{Job}
 use Rattle.model.specs.Layout.{Layout}
+use Rattle.model.specs.Problem.{Problem}
 use Rattle.model.specs.Search.{Step, latest}
 use Rattle.model.specs.Services.{heldAs, finishedAs}
 use Rattle.model.specs.declared.RunAnswer.{RunAnswer}
@@ -31,6 +31,6 @@ unfoldable pub onward : Spent → List Step → Spent
 onward w ss = cond (w .stopped) w (spend (w .left) (w .held) ss)
 
 -- What a run of this budget answers where the walk left this.
-unfoldable pub answerOf : Job → ℕ → Spent → RunAnswer
+unfoldable pub answerOf : Problem → ℕ → Spent → RunAnswer
 answerOf j budget w =
     cond (w .stopped) (R.Stopped (heldAs j (w .held)) (budget - w .left)) (finishedAs j (w .held) (budget - w .left))

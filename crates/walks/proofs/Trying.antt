@@ -10,13 +10,14 @@ use native.Mathlib.Omega.{arith}
 use lib.ListN.{length, drop, set, length-set, length-map}
 use lib.Seq.{getD-set-same, getD-set-other}
 use Rattle.words.specs.Number.{count}
-use Rattle.model.specs.Content.{Job, pieceCount}
+use Rattle.model.specs.Content.{pieceCount}
 use Rattle.model.specs.Grid.{setWords}
-use Rattle.model.specs.Layout.{Layout, entryOf, entryExtent, isEntry, layoutLength}
+use Rattle.model.specs.Layout.{Layout, entryOf, entryExtent, isEntry, largestEnd}
 use Rattle.model.specs.Lists.{all, below}
+use Rattle.model.specs.Problem.{Problem}
 use Rattle.model.specs.Services.{entryIn, layoutIn, withLayout, numbersIn, workWords}
 use Rattle.model.proofs.Lists.{length-below}
-use Rattle.model.proofs.Search.Completions.{length-cons}
+use Rattle.model.proofs.Search.Completions.{end-cons}
 use Rattle.stepping.specs.LiveSets.{setOf, boundOf, Keeps}
 use Rattle.stepping.specs.Levels.{pieceKind, piecesFrom, placedBelow, tryLevel, goOnLevel, numbersAt, placedOf}
 use Rattle.stepping.specs.Slots.{slotOf}
@@ -38,24 +39,24 @@ use Rattle.runs.specs.declared.progress.Progress.{Progress}
 
 -- ---- The layout held
 
-module _ (j : Job) where
+module _ (j : Problem) where
   -- The layout that the answer numbers say has N entries.
-  pub held-entries : (b : Bool) (out : List ℕ) → Entries (pieceCount j) (heldOf j b out)
+  pub held-entries : (b : Bool) (out : List ℕ) → Entries (pieceCount (j .kinds)) (heldOf j b out)
   unfolding layoutIn
-  held-entries true out = length-map (below (pieceCount j)) (entryIn out) ∙ length-below (pieceCount j)
+  held-entries true out = length-map (below (pieceCount (j .kinds))) (entryIn out) ∙ length-below (pieceCount (j .kinds))
   held-entries false out = tt
 
   -- Nothing held after a candidate was taken is nothing held before.
   pub none-before : (numbers : ℕ → ℕ) (l k : ℕ) (h : Option Layout) → goOnLevel j numbers l k h .held ≡ none → h ≡ none
   unfolding goOnLevel
-  none-before numbers l k h e = goOn-none j (piecesFrom j l) (placedBelow j numbers l) k h e
+  none-before numbers l k h e = goOn-none j (piecesFrom (j .kinds) l) (placedBelow j numbers l) k h e
 
   -- Numbers among which there is no member are passed over.
   pub level-skip : (numbers : ℕ → ℕ) (l : ℕ) (h : Option Layout) → all (isEntry j) (placedBelow j numbers l) ≡ true → (n m k : ℕ) → n ≤ m
-      → ((i : ℕ) → n ≤ i → i < m → setOf j (placedBelow j numbers l) (boundOf j h) (pieceKind j l) i ≡ false)
+      → ((i : ℕ) → n ≤ i → i < m → setOf j (placedBelow j numbers l) (boundOf j h) (pieceKind (j .kinds) l) i ≡ false)
       → tryLevel j numbers l n k h ≡ tryLevel j numbers l m k h
   unfolding tryLevel
-  level-skip numbers l h a n m k o f = spent-skip-to j (pieceKind j l) (piecesFrom j (suc l)) (placedBelow j numbers l) h a n m k o f
+  level-skip numbers l h a n m k o f = spent-skip-to j (pieceKind (j .kinds) l) (piecesFrom (j .kinds) (suc l)) (placedBelow j numbers l) h a n m k o f
 
 -- A buffer of the same length holds as many numbers.
 pub same-numbers : (a b : List ℕ) → length a ≡ length b → numbersIn a ≡ numbersIn b
@@ -65,14 +66,14 @@ same-numbers a b e = rw e
 -- ---- The loop
 
 -- What stands at each turn, from number `from` on. (With 0 are marked the values at the beginning.)
-pub record Trying (j : Job) (ns : List ℕ) (level len : ℕ) (work₀ out₀ work out : List ℕ) (st₀ st : Progress) (from : ℕ) : Type 0 where
+pub record Trying (j : Problem) (ns : List ℕ) (level len : ℕ) (work₀ out₀ work out : List ℕ) (st₀ st : Progress) (from : ℕ) : Type 0 where
   pub ready : Ready j work out ns level (level + 1) len st
   pub same : tryLevel j (numbersAt ns) level 0 (st₀ .left) (heldOf j (st₀ .found) out₀) ≡ tryLevel j (numbersAt ns) level from (st .left) (heldOf j (st .found) out)
   pub lowered : st .bound ≤ st₀ .bound
   pub written : out ≡ withLayout (heldOf j (st .found) out) out₀
   pub behind : drop (workWords j * 8) work ≡ drop (workWords j * 8) work₀
 
-module _ (j : Job) (ns : List ℕ) (level len : ℕ) where
+module _ (j : Problem) (ns : List ℕ) (level len : ℕ) where
   -- The whole of it.
   abbrev whole : Progress → List ℕ → Spent
   whole st out = tryLevel j (numbersAt ns) level 0 (st .left) (heldOf j (st .found) out)
@@ -101,21 +102,21 @@ module _ (j : Job) (ns : List ℕ) (level len : ℕ) where
         }
 
     -- The set of the piece is kept.
-    pub trying-keeps : level < pieceCount j → Keeps j (placedOf j ns level) (st .bound) (st .span) (pieceKind j level) (slotOf j work level (pieceKind j level))
-    trying-keeps h = t .ready .sets level (pieceKind j level) (omega arith) (piece-kind j level h) (copies-here j level h)
+    pub trying-keeps : level < pieceCount (j .kinds) → Keeps j (placedOf j ns level) (st .bound) (st .span) (pieceKind (j .kinds) level) (slotOf j work level (pieceKind (j .kinds) level))
+    trying-keeps h = t .ready .sets level (pieceKind (j .kinds) level) (omega arith) (piece-kind (j .kinds) level h) (copies-here (j .kinds) level h)
 
-    module _ (r : Next) (v : NextLive j (placedOf j ns level) (st .bound) (pieceKind j level) len from r) where
+    module _ (r : Next) (v : NextLive j (placedOf j ns level) (st .bound) (pieceKind (j .kinds) level) len from r) where
       -- The walk goes to the next live candidate.
       trying-skips : tryLevel j (numbersAt ns) level from (st .left) (heldOf j (st .found) out) ≡ tryLevel j (numbersAt ns) level (r .number) (st .left) (heldOf j (st .found) out)
       trying-skips =
           level-skip j (numbersAt ns) level (heldOf j (st .found) out) (t .ready .admitted) from (r .number) (st .left) (v .above)
-          (λ i p q. ap (λ (b : ℕ). setOf j (placedOf j ns level) b (pieceKind j level) i) (sym (t .ready .bound-is)) ∙ v .passed i p q)
+          (λ i p q. ap (λ (b : ℕ). setOf j (placedOf j ns level) b (pieceKind (j .kinds) level) i) (sym (t .ready .bound-is)) ∙ v .passed i p q)
 
       -- There is none: what is placed does not end below the bound, or no member is left.
       pub trying-past : r .found ≡ false → Left j ns work₀ out₀ work out (level + 1) st₀ st (whole st₀ out₀)
       trying-past f = go (v .none f)
         where
-          go : (st .bound ≤ len) ⊎ ((i : ℕ) → from ≤ i → setOf j (placedOf j ns level) (st .bound) (pieceKind j level) i ≡ false) → Left j ns work₀ out₀ work out (level + 1) st₀ st (whole st₀ out₀)
+          go : (st .bound ≤ len) ⊎ ((i : ℕ) → from ≤ i → setOf j (placedOf j ns level) (st .bound) (pieceKind (j .kinds) level) i ≡ false) → Left j ns work₀ out₀ work out (level + 1) st₀ st (whole st₀ out₀)
           go (inl o) =
               trying-leaves (level-over j (numbersAt ns) level (heldOf j (st .found) out) (t .ready .admitted) from (st .left)
               (omega (arith, t .ready .bound-is, t .ready .len-is)))
@@ -123,10 +124,10 @@ module _ (j : Job) (ns : List ℕ) (level len : ℕ) where
               let past : from ≤ from + setWords (j .sheet) * 64 = omega arith in
               trying-leaves
               (level-skip j (numbersAt ns) level (heldOf j (st .found) out) (t .ready .admitted) from (from + setWords (j .sheet) * 64) (st .left) past
-              (λ i p q. ap (λ (b : ℕ). setOf j (placedOf j ns level) b (pieceKind j level) i) (sym (t .ready .bound-is)) ∙ o i p)
+              (λ i p q. ap (λ (b : ℕ). setOf j (placedOf j ns level) b (pieceKind (j .kinds) level) i) (sym (t .ready .bound-is)) ∙ o i p)
               ∙ level-past j (numbersAt ns) level (heldOf j (st .found) out) (t .ready .admitted) (from + setWords (j .sheet) * 64) (st .left) (omega (arith, limit-words (j .sheet))))
 
-      module _ (f : r .found ≡ true) (inside : level < pieceCount j) (few : level < 12) where
+      module _ (f : r .found ≡ true) (inside : level < pieceCount (j .kinds)) (few : level < 12) where
         -- The numbers with the new one: those below are as they were.
         same-below : (i : ℕ) → i < level → numbersAt ns i ≡ numbersAt (set ns level (r .number)) i
         same-below i q = sym (getD-set-other ns level i (r .number) 0 (λ e. omega arith))
@@ -140,10 +141,10 @@ module _ (j : Job) (ns : List ℕ) (level len : ℕ) where
         admitted : all (isEntry j) (placedOf j (set ns level (r .number)) level) ≡ true
         admitted = rw (← (placed-is level (omega arith))) (t .ready .admitted)
 
-        member-is : setOf j (placedOf j (set ns level (r .number)) level) (boundOf j (heldOf j (st .found) out)) (pieceKind j level) (numbersAt (set ns level (r .number)) level) ≡ true
+        member-is : setOf j (placedOf j (set ns level (r .number)) level) (boundOf j (heldOf j (st .found) out)) (pieceKind (j .kinds) level) (numbersAt (set ns level (r .number)) level) ≡ true
         member-is = rw (← (placed-is level (omega arith)), number-is, ← (t .ready .bound-is)) (v .found f .member)
 
-        short : layoutLength j (placedOf j (set ns level (r .number)) level) < boundOf j (heldOf j (st .found) out)
+        short : largestEnd j (placedOf j (set ns level (r .number)) level) < boundOf j (heldOf j (st .found) out)
         short = rw (← (placed-is level (omega arith)), ← (t .ready .bound-is), ← (t .ready .len-is)) (v .found f .below)
 
         -- The walk from the new number on, with the numbers as they are then.
@@ -174,13 +175,13 @@ module _ (j : Job) (ns : List ℕ) (level len : ℕ) where
 
         -- ---- A candidate is taken
 
-        placed-more : placedOf j (set ns level (r .number)) (level + 1) ≡ entryOf j (pieceKind j level) (r .number) ∷ placedOf j ns level
+        placed-more : placedOf j (set ns level (r .number)) (level + 1) ≡ entryOf j (pieceKind (j .kinds) level) (r .number) ∷ placedOf j ns level
         placed-more =
             ap (λ (i : ℕ). placedOf j (set ns level (r .number)) i) (add-one level)
             ∙ placed-next j (numbersAt (set ns level (r .number))) level
             ∙ rw (number-is, ← (placed-is level (omega arith)))
 
-        live : setOf j (placedOf j ns level) (st .bound) (pieceKind j level) (r .number) ≡ true
+        live : setOf j (placedOf j ns level) (st .bound) (pieceKind (j .kinds) level) (r .number) ≡ true
         live = v .found f .member
 
         -- What the walk asks once it is placed.
@@ -190,8 +191,8 @@ module _ (j : Job) (ns : List ℕ) (level len : ℕ) where
               work-fits = t .ready .work-fits;
               out-fits = t .ready .out-fits;
               room = length-set ns level (r .number) ∙ t .ready .room;
-              admitted = rw placed-more (placed-admitted j (placedOf j ns level) (st .bound) (pieceKind j level) (r .number) live (t .ready .admitted));
-              len-is = rw placed-more (v .found f .reaches ∙ ap (max (entryExtent j (entryOf j (pieceKind j level) (r .number)))) (t .ready .len-is) ∙ sym (length-cons j (entryOf j (pieceKind j level) (r .number)) (placedOf j ns level)));
+              admitted = rw placed-more (placed-admitted j (placedOf j ns level) (st .bound) (pieceKind (j .kinds) level) (r .number) live (t .ready .admitted));
+              len-is = rw placed-more (v .found f .reaches ∙ ap (max (entryExtent j (entryOf j (pieceKind (j .kinds) level) (r .number)))) (t .ready .len-is) ∙ sym (end-cons j (entryOf j (pieceKind (j .kinds) level) (r .number)) (placedOf j ns level)));
               bound-is = t .ready .bound-is;
               written = t .ready .written;
               running = refl;
@@ -206,7 +207,7 @@ module _ (j : Job) (ns : List ℕ) (level len : ℕ) where
             rw q (record {
               some = omega arith;
               within = omega arith;
-              below = rw (v .found f .reaches, t .ready .len-is, ← (length-cons j (entryOf j (pieceKind j level) (r .number)) (placedOf j ns level))) (placed-below j (placedOf j ns level) (st .bound) (pieceKind j level) (r .number) live (rw (← (t .ready .len-is)) (v .found f .below)));
+              below = rw (v .found f .reaches, t .ready .len-is, ← (end-cons j (entryOf j (pieceKind (j .kinds) level) (r .number)) (placedOf j ns level))) (placed-below j (placedOf j ns level) (st .bound) (pieceKind (j .kinds) level) (r .number) live (rw (← (t .ready .len-is)) (v .found f .below)));
               latest = rw (e, number-is, ← (placed-is level (omega arith))) live;
             })
 
@@ -223,7 +224,7 @@ module _ (j : Job) (ns : List ℕ) (level len : ℕ) where
               (add-one level)
               (subst (λ (s : Progress). Left j (set ns level (r .number)) work out work′ out′ (level + 1) s st′ (goOnLevel j (numbersAt (set ns level (r .number))) (level + 1) (s .left) (heldOf j (s .found) out))) q d)
 
-          entries : Entries (pieceCount j) (goOnLevel j (numbersAt (set ns level (r .number))) (suc level) (st .left - 1) (heldOf j (st .found) out) .held)
+          entries : Entries (pieceCount (j .kinds)) (goOnLevel j (numbersAt (set ns level (r .number))) (suc level) (st .left - 1) (heldOf j (st .found) out) .held)
           entries = placed-entries j (numbersAt (set ns level (r .number))) (suc level) (st .left - 1) (heldOf j (st .found) out) (omega arith) (held-entries j (st .found) out)
 
           -- The layout held then, over the one held before.
@@ -231,7 +232,7 @@ module _ (j : Job) (ns : List ℕ) (level len : ℕ) where
           over =
               done .written
               ∙ ap (withLayout (goOnLevel j (numbersAt (set ns level (r .number))) (suc level) (st .left - 1) (heldOf j (st .found) out) .held)) (t .written)
-              ∙ layout-after (pieceCount j) _ (heldOf j (st .found) out) out₀
+              ∙ layout-after (pieceCount (j .kinds)) _ (heldOf j (st .found) out) out₀
               entries (held-entries j (st .found) out) (none-before j (numbersAt (set ns level (r .number))) (suc level) (st .left - 1) (heldOf j (st .found) out))
 
           -- The sets that it leaves are those of the pieces placed before.
@@ -273,7 +274,7 @@ module _ (j : Job) (ns : List ℕ) (level len : ℕ) where
                   written =
                       ap (λ (g : Option Layout). withLayout g out′) (done .held)
                       ∙ ap (withLayout (goOnLevel j (numbersAt (set ns level (r .number))) (suc level) (st .left - 1) (heldOf j (st .found) out) .held)) (done .written)
-                      ∙ layout-after (pieceCount j) _ _ out entries entries (λ e. e)
+                      ∙ layout-after (pieceCount (j .kinds)) _ _ out entries entries (λ e. e)
                       ∙ sym (done .written);
                   running = z;
                   spans = done .spans;

@@ -5,9 +5,10 @@ use mathlib.Core.Option.{Option, none, some}
 use mathlib.Core.Path.{_≡_}
 use Prim.Native.Nat.{ℕ, _*_, _-_, _≤_, _<_}
 use lib.ListN.{length, drop}
-use Rattle.model.specs.Content.{Job, pieceCount}
-use Rattle.model.specs.Layout.{Layout, isEntry, layoutLength}
+use Rattle.model.specs.Content.{pieceCount}
+use Rattle.model.specs.Layout.{Layout, isEntry, largestEnd}
 use Rattle.model.specs.Lists.{all, below}
+use Rattle.model.specs.Problem.{Problem}
 use Rattle.model.specs.Services.{layoutIn, withLayout, numbersIn, workWords}
 use Rattle.stepping.specs.LiveSets.{setOf, boundOf, Spans}
 use Rattle.stepping.specs.Levels.{pieceKind, numbersAt, placedOf}
@@ -16,17 +17,17 @@ use Rattle.stepping.specs.Spending.{Spent}
 use Rattle.runs.specs.declared.progress.Progress.{Progress}
 
 -- The layout held: what the answer numbers say, if one is found.
-abbrev pub heldOf : Job → Bool → List ℕ → Option Layout
+abbrev pub heldOf : Problem → Bool → List ℕ → Option Layout
 heldOf j true out = some (layoutIn j out)
 heldOf j false out = none
 
 -- What stands when the walk comes to a level: `depth` levels have their sets.
-pub record Ready (j : Job) (work out ns : List ℕ) (level depth len : ℕ) (st : Progress) : Type 0 where
+pub record Ready (j : Problem) (work out ns : List ℕ) (level depth len : ℕ) (st : Progress) : Type 0 where
   pub work-fits : workWords j * 8 ≤ length work
-  pub out-fits : 4 * pieceCount j ≤ numbersIn out
+  pub out-fits : 4 * pieceCount (j .kinds) ≤ numbersIn out
   pub room : length ns ≡ 12
   pub admitted : all (isEntry j) (placedOf j ns level) ≡ true
-  pub len-is : len ≡ layoutLength j (placedOf j ns level)
+  pub len-is : len ≡ largestEnd j (placedOf j ns level)
   pub bound-is : st .bound ≡ boundOf j (heldOf j (st .found) out)
   pub written : withLayout (heldOf j (st .found) out) out ≡ out
   pub running : st .stopped ≡ false
@@ -34,14 +35,14 @@ pub record Ready (j : Job) (work out ns : List ℕ) (level depth len : ℕ) (st 
   pub sets : SetsKept j ns depth (st .bound) (st .span) work
 
 -- A piece was just placed: what is placed ends below the bound, and the piece was a member.
-pub record Taken (j : Job) (ns : List ℕ) (level len : ℕ) (st : Progress) : Type 0 where
+pub record Taken (j : Problem) (ns : List ℕ) (level len : ℕ) (st : Progress) : Type 0 where
   pub some : 0 < level
-  pub within : level ≤ pieceCount j
+  pub within : level ≤ pieceCount (j .kinds)
   pub below : len < st .bound
-  pub latest : setOf j (placedOf j ns (level - 1)) (st .bound) (pieceKind j (level - 1)) (numbersAt ns (level - 1)) ≡ true
+  pub latest : setOf j (placedOf j ns (level - 1)) (st .bound) (pieceKind (j .kinds) (level - 1)) (numbersAt ns (level - 1)) ≡ true
 
 -- What the walk leaves: what the definition says, the layout held in the answer numbers, and the sets of the levels below `depth` at the bound that it came to.
-pub record Left (j : Job) (ns work out work′ out′ : List ℕ) (depth : ℕ) (st st′ : Progress) (w : Spent) : Type 0 where
+pub record Left (j : Problem) (ns work out work′ out′ : List ℕ) (depth : ℕ) (st st′ : Progress) (w : Spent) : Type 0 where
   pub left : st′ .left ≡ w .left
   pub stopped : st′ .stopped ≡ w .stopped
   pub held : heldOf j (st′ .found) out′ ≡ w .held

@@ -5,6 +5,7 @@ ghost use Rattle.model.specs.Format.{content};
 ghost use Rattle.live_sets.specs.Known.{Known};
 ghost use Rattle.stepping.specs.Levels.{tryLevel, goOnLevel, numbersAt};
 ghost use Rattle.walks.specs.Walk.{heldOf, Ready, Taken, Left};
+ghost use Rattle.plans.specs.Planned.{planned};
 use bounding::lowering::lower;
 use branching::choosing::next_live;
 use lookahead::settling::settle;
@@ -28,9 +29,9 @@ pub fn try_piece(
     extent: usize,
     state: Progress,
 ) -> Progress
-    requires { ⌜ Known (now job) plan nofit (now turned) (now strings) × (level < pieceCount (content (now job))) ⌝ }
-    requires { ⌜ Ready (content (now job)) (now work) (now out) numbers level (level + 1) extent state ⌝ }
-    ensures { λ r. ⌜ Left (content (now (job .entry))) numbers (now (work .entry)) (now (out .entry)) (now (work .exit)) (now (out .exit)) (level + 1) state r (tryLevel (content (now (job .entry))) (numbersAt numbers) level 0 (state .left) (heldOf (content (now (job .entry))) (state .found) (now (out .entry)))) ⌝ }
+    requires { ⌜ Known (now job) plan nofit (now turned) (now strings) × (level < pieceCount (content (now job) .kinds)) ⌝ }
+    requires { ⌜ Ready (planned (now job) plan) (now work) (now out) numbers level (level + 1) extent state ⌝ }
+    ensures { λ r. ⌜ Left (planned (now (job .entry)) plan) numbers (now (work .entry)) (now (out .entry)) (now (work .exit)) (now (out .exit)) (level + 1) state r (tryLevel (planned (now (job .entry)) plan) (numbersAt numbers) level 0 (state .left) (heldOf (planned (now (job .entry)) plan) (state .found) (now (out .entry)))) ⌝ }
 {
     let mut st = state;
     let mut from = 0;
@@ -80,9 +81,9 @@ fn go_on(
     state: Progress,
 ) -> Progress
     requires { ⌜ Known (now job) plan nofit (now turned) (now strings) ⌝ }
-    requires { ⌜ Ready (content (now job)) (now work) (now out) numbers level level extent state ⌝ }
-    requires { ⌜ Taken (content (now job)) numbers level extent state ⌝ }
-    ensures { λ r. ⌜ Left (content (now (job .entry))) numbers (now (work .entry)) (now (out .entry)) (now (work .exit)) (now (out .exit)) level state r (goOnLevel (content (now (job .entry))) (numbersAt numbers) level (state .left) (heldOf (content (now (job .entry))) (state .found) (now (out .entry)))) ⌝ }
+    requires { ⌜ Ready (planned (now job) plan) (now work) (now out) numbers level level extent state ⌝ }
+    requires { ⌜ Taken (planned (now job) plan) numbers level extent state ⌝ }
+    ensures { λ r. ⌜ Left (planned (now (job .entry)) plan) numbers (now (work .entry)) (now (out .entry)) (now (work .exit)) (now (out .exit)) level state r (goOnLevel (planned (now (job .entry)) plan) (numbersAt numbers) level (state .left) (heldOf (planned (now (job .entry)) plan) (state .found) (now (out .entry)))) ⌝ }
 {
     if level == plan.pieces {
         record_layout(job, plan, numbers, out);

@@ -4,8 +4,10 @@ use crate::geometry::{in_conflict, turned, Turned};
 use crate::job::Job;
 use crate::mutant;
 
+/// A job under a margin.
 pub struct Board<'a> {
     pub job: &'a Job,
+    pub margin: i32,
     /// By type and turn.
     pub turned: Vec<[Turned; 4]>,
     /// By type, the set of candidates.
@@ -23,10 +25,10 @@ pub fn place(job: &Job, number: usize) -> Place {
 }
 
 impl<'a> Board<'a> {
-    pub fn new(job: &'a Job) -> Board<'a> {
+    pub fn new(job: &'a Job, margin: i32) -> Board<'a> {
         let turned: Vec<[Turned; 4]> =
             (0..job.kind_count).map(|k| [0, 1, 2, 3].map(|turn| turned(job, k, turn))).collect();
-        let mut board = Board { job, turned, candidates: vec![vec![0; job.words()]; job.kind_count] };
+        let mut board = Board { job, margin, turned, candidates: vec![vec![0; job.words()]; job.kind_count] };
         for kind in 0..job.kind_count {
             for turn in 0..4 {
                 board.fill_candidates(kind, turn);
@@ -41,15 +43,15 @@ impl<'a> Board<'a> {
             return;
         }
         let (job, step) = (self.job, self.job.step);
+        let along = self.clamps(job.length, ["left_edge_unclamped", "right_edge_unclamped", "right_edge_wraps"]);
+        let across = self.clamps(job.width, ["lower_edge_unclamped", "upper_edge_unclamped", "upper_edge_wraps"]);
         let slack = i32::from(mutant::is("edges_of_board_excluded"));
         for column in 0..job.columns {
-            let x = column as i32 * step;
-            if x + shape.box_x.0 < 0 || x + shape.box_x.1 > job.length - slack {
+            if !between((along.0, along.1 - slack), column as i32 * step, shape.box_x) {
                 continue;
             }
             for row in 0..job.rows {
-                let y = row as i32 * step;
-                if y + shape.box_y.0 >= 0 && y + shape.box_y.1 <= job.width {
+                if between(across, row as i32 * step, shape.box_y) {
                     let n = (column * job.rows + row) * 4 + turn;
                     self.candidates[kind][n / 64] |= 1 << (n % 64);
                 }
@@ -57,19 +59,33 @@ impl<'a> Board<'a> {
         }
     }
 
+    /// Where corners may lie along a side of the board. The mistakes: no clamp at its beginning; none at its end; a
+    /// clamp at its end that would be below 0 taken for one that is far away.
+    fn clamps(&self, side: i32, mistakes: [&str; 3]) -> (i32, i32) {
+        let [no_low, no_high, wraps] = mistakes.map(mutant::is);
+        let part_of_step = if mutant::is("margin_of_whole_steps") { self.margin % self.job.step } else { 0 };
+        let margin = self.margin - part_of_step;
+        let low = if no_low { 0 } else { margin };
+        let high = if no_high { side } else { side - margin };
+        (low, if wraps && high < 0 { i32::MAX } else { high })
+    }
+
     pub fn is_candidate(&self, kind: usize, number: usize) -> bool {
         number < self.job.rows * self.job.columns * 4 && self.candidates[kind][number / 64] >> (number % 64) & 1 == 1
     }
 
-    pub fn end(&self, kind: usize, number: usize) -> i32 {
+    /// The length of a layout of this candidate alone: its largest x, and the margin behind it.
+    pub fn length(&self, kind: usize, number: usize) -> i32 {
         let at = place(self.job, number);
-        at.column as i32 * self.job.step + self.turned[kind][at.turn].box_x.1
+        at.column as i32 * self.job.step + self.turned[kind][at.turn].box_x.1 + self.margin
     }
 
     fn pair_gap(&self, kind: usize, other: usize) -> i32 {
         let (a, b) = (self.job.kinds[kind].gap, self.job.kinds[other].gap);
         if mutant::is("smaller_pair_gap") {
             a.min(b)
+        } else if mutant::is("margin_in_the_gap") {
+            a.max(b) + self.margin
         } else {
             a.max(b)
         }
@@ -104,6 +120,11 @@ impl<'a> Board<'a> {
         }
         tests
     }
+}
+
+/// Whether a piece on a dot lies between the clamps along a side: it reaches so far down and up from the dot.
+fn between(clamps: (i32, i32), dot: i32, reach: (i32, i32)) -> bool {
+    clamps.0 <= dot + reach.0 && dot + reach.1 <= clamps.1
 }
 
 /// Conflict by the offset between two dots, for each pair of types and turns; rows are built from it when

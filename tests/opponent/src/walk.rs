@@ -20,7 +20,7 @@ pub struct Walk<'a, 'r> {
     kind_of: [usize; 12],
     /// Clear candidates by piece, type and word: all but the bound.
     clear: Vec<u64>,
-    /// Candidates whose end is below the best, by type and word.
+    /// Candidates that alone leave the length below the best, by type and word.
     short: Vec<u64>,
     budget: u64,
     out: Outcome,
@@ -56,7 +56,7 @@ impl<'a, 'r> Walk<'a, 'r> {
 
     pub fn run(mut self, budget: u64) -> Outcome {
         self.budget = budget;
-        self.short.fill(u64::MAX);
+        self.first_bound();
         for kind in 0..self.kinds {
             let from = kind * self.words;
             self.clear[from..from + self.words].copy_from_slice(&self.board.candidates[kind]);
@@ -65,6 +65,19 @@ impl<'a, 'r> Walk<'a, 'r> {
             self.try_piece(0, 0);
         }
         self.out
+    }
+
+    /// No bound while there is no best. The mistakes: only lengths below the board's; only lengths, which have the
+    /// margin in them, up to the far clamp.
+    fn first_bound(&mut self) {
+        let length = self.board.job.length;
+        if mutant::is("first_bound_at_the_length") {
+            self.keep_below(length);
+        } else if mutant::is("first_bound_between_clamps") {
+            self.keep_below(length - self.board.margin + 1);
+        } else {
+            self.short.fill(u64::MAX);
+        }
     }
 
     /// `length` is that of the pieces placed so far.
@@ -113,6 +126,7 @@ impl<'a, 'r> Walk<'a, 'r> {
         match self.out.best {
             None => false,
             Some((best, _)) if mutant::is("bound_not_longer") => length > best,
+            Some((best, _)) if mutant::is("bound_of_placed_ends") => length - self.board.margin >= best,
             Some((best, _)) => length >= best,
         }
     }
@@ -120,7 +134,7 @@ impl<'a, 'r> Walk<'a, 'r> {
     fn take(&mut self, piece: usize, kind: usize, number: usize, length: i32) {
         self.out.steps += 1;
         self.placed[piece] = number as u16;
-        let length = length.max(self.board.end(kind, number));
+        let length = length.max(self.board.length(kind, number));
         if piece + 1 == self.pieces {
             self.complete(length);
             return;
@@ -177,13 +191,24 @@ impl<'a, 'r> Walk<'a, 'r> {
 
     fn complete(&mut self, length: i32) {
         let told = if mutant::is("length_of_last_piece") {
-            self.board.end(self.kind_of[self.pieces - 1], self.placed[self.pieces - 1].into())
+            self.board.length(self.kind_of[self.pieces - 1], self.placed[self.pieces - 1].into())
         } else {
             length
         };
         let held = self.out.best.filter(|_| mutant::is("first_completed_held"));
         self.out.best = Some((told, held.map_or(self.placed, |(_, numbers)| numbers)));
-        let slack = i32::from(mutant::is("bound_not_longer"));
+        self.keep_below(length + i32::from(mutant::is("bound_not_longer")));
+    }
+
+    /// Only candidates that alone leave the length below the bound count as short.
+    fn keep_below(&mut self, bound: i32) {
+        let margins = if mutant::is("bound_of_ends") {
+            -self.board.margin
+        } else if mutant::is("bound_with_margin_twice") {
+            self.board.margin
+        } else {
+            0
+        };
         for kind in 0..self.kinds {
             for i in 0..self.words {
                 let mut left = self.board.candidates[kind][i];
@@ -191,7 +216,7 @@ impl<'a, 'r> Walk<'a, 'r> {
                 while left != 0 {
                     let bit = left.trailing_zeros();
                     left &= left - 1;
-                    if self.board.end(kind, i * 64 + bit as usize) < length + slack {
+                    if self.board.length(kind, i * 64 + bit as usize) + margins < bound {
                         short |= 1 << bit;
                     }
                 }

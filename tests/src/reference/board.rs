@@ -1,11 +1,14 @@
-//! Dots, candidates, gaps and conflicts of an accepted job.
+//! Dots of an accepted job; its candidates, gaps and conflicts under a margin.
 
 use std::cell::RefCell;
 
 use super::geometry::{in_conflict, moved, point, turned, Part};
 use super::reader::{read_job, Job, Type};
 
-/// A candidate of some type: a dot and an allowed turn with the whole piece on the board.
+/// The largest margin that a host may pass.
+pub const MOST_MARGIN: u64 = 63;
+
+/// A candidate of some type: a dot and an allowed turn with every corner between the clamps.
 pub struct Candidate {
     pub number: usize,
     pub column: usize,
@@ -18,8 +21,10 @@ pub struct Candidate {
     place: usize,
 }
 
+/// A job under a margin.
 pub struct Board {
     pub job: Job,
+    margin: i64,
     /// For each type, its candidates by rising number.
     pub candidates: Vec<Vec<Candidate>>,
     gaps: Vec<i64>,
@@ -34,41 +39,25 @@ pub struct Piece {
 }
 
 impl Board {
-    pub fn read(bytes: &[u8]) -> Result<Board, u8> {
-        read_job(bytes).map(Board::new)
+    /// The job's own refusals come before the margin's.
+    pub fn read(bytes: &[u8], margin: u64) -> Result<Board, u8> {
+        read_job(bytes).and_then(|job| Board::new(job, margin))
     }
 
-    pub fn new(job: Job) -> Board {
-        let mut candidates: Vec<_> = job.types.iter().map(|t| all_candidates(&job, t)).collect();
+    /// Refused by 13 under a margin that is too large.
+    pub fn new(job: Job, margin: u64) -> Result<Board, u8> {
+        if margin > MOST_MARGIN {
+            return Err(13);
+        }
+        let margin = margin as i64;
+        let mut candidates: Vec<_> = job.types.iter().map(|t| all_candidates(&job, margin, t)).collect();
         let mut places = 0;
         for candidate in candidates.iter_mut().flatten() {
             candidate.place = places;
             places += 1;
         }
         let gaps = job.types.iter().map(|t| gap_of(&job, t)).collect();
-        Board { job, candidates, gaps, remembered: Remembered::new(places) }
-    }
-
-    pub fn rows(&self) -> usize {
-        rows(&self.job)
-    }
-
-    pub fn dots(&self) -> usize {
-        columns(&self.job) * rows(&self.job)
-    }
-
-    /// Words of a set of candidates: ceil(D / 16).
-    pub fn words(&self) -> usize {
-        self.dots().div_ceil(16)
-    }
-
-    /// N, the number of pieces.
-    pub fn pieces(&self) -> usize {
-        self.demands().iter().sum()
-    }
-
-    pub fn demands(&self) -> Vec<usize> {
-        self.job.types.iter().map(|t| t.demand.into()).collect()
+        Ok(Board { job, margin, candidates, gaps, remembered: Remembered::new(places) })
     }
 
     pub fn at(&self, piece: Piece) -> &Candidate {
@@ -86,18 +75,39 @@ impl Board {
         self.remembered.get(a.place, b.place, || in_conflict(&a.parts, &b.parts, gap))
     }
 
-    /// The largest end, 0 for no piece.
+    /// The largest end plus the margin, 0 for no piece.
     pub fn length(&self, layout: &[Piece]) -> i64 {
-        layout.iter().map(|&p| self.at(p).end).max().unwrap_or(0)
+        layout.iter().map(|&p| self.at(p).end + self.margin).max().unwrap_or(0)
     }
 }
 
-pub fn columns(job: &Job) -> usize {
-    (job.length / job.step + 1).into()
-}
+/// What no margin changes.
+impl Job {
+    pub fn columns(&self) -> usize {
+        (self.length / self.step + 1).into()
+    }
 
-pub fn rows(job: &Job) -> usize {
-    (job.width / job.step + 1).into()
+    pub fn rows(&self) -> usize {
+        (self.width / self.step + 1).into()
+    }
+
+    pub fn dots(&self) -> usize {
+        self.columns() * self.rows()
+    }
+
+    /// Words of a set of candidates: ceil(D / 16).
+    pub fn words(&self) -> usize {
+        self.dots().div_ceil(16)
+    }
+
+    pub fn demands(&self) -> Vec<usize> {
+        self.types.iter().map(|t| t.demand.into()).collect()
+    }
+
+    /// N, the number of pieces.
+    pub fn pieces(&self) -> usize {
+        self.demands().iter().sum()
+    }
 }
 
 /// The gap of the class with the smallest rank number, 0 if the type has no class.
@@ -109,13 +119,13 @@ fn gap_of(job: &Job, kind: &Type) -> i64 {
         .map_or(0, |c| c.gap.into())
 }
 
-fn all_candidates(job: &Job, kind: &Type) -> Vec<Candidate> {
+fn all_candidates(job: &Job, margin: i64, kind: &Type) -> Vec<Candidate> {
     let mut found = Vec::new();
-    for column in 0..columns(job) {
-        for row in 0..rows(job) {
+    for column in 0..job.columns() {
+        for row in 0..job.rows() {
             for turn in 0..4 {
                 if kind.turn_mask >> turn & 1 == 1 {
-                    found.extend(candidate(job, kind, column, row, turn));
+                    found.extend(candidate(job, margin, kind, column, row, turn));
                 }
             }
         }
@@ -123,7 +133,7 @@ fn all_candidates(job: &Job, kind: &Type) -> Vec<Candidate> {
     found
 }
 
-fn candidate(job: &Job, kind: &Type, column: usize, row: usize, turn: usize) -> Option<Candidate> {
+fn candidate(job: &Job, margin: i64, kind: &Type, column: usize, row: usize, turn: usize) -> Option<Candidate> {
     let step = i64::from(job.step);
     let dot = point(column as i64 * step, row as i64 * step);
     let parts: Vec<Part> = kind
@@ -131,11 +141,11 @@ fn candidate(job: &Job, kind: &Type, column: usize, row: usize, turn: usize) -> 
         .iter()
         .map(|part| part.iter().map(|&corner| moved(turned(corner, turn), dot)).collect())
         .collect();
-    let on_board = parts.iter().flatten().all(|c| {
-        (0..=i64::from(job.length)).contains(&c.x) && (0..=i64::from(job.width)).contains(&c.y)
-    });
+    let between_clamps = |at: i64, side: u16| (margin..=i64::from(side) - margin).contains(&at);
+    let on_board =
+        parts.iter().flatten().all(|c| between_clamps(c.x, job.length) && between_clamps(c.y, job.width));
     let end = parts.iter().flatten().map(|c| c.x).max()?;
-    let number = (column * rows(job) + row) * 4 + turn;
+    let number = (column * job.rows() + row) * 4 + turn;
     on_board.then_some(Candidate { number, column, row, turn, end, parts, place: 0 })
 }
 

@@ -6,7 +6,7 @@ use super::layout::free_of_conflict;
 /// How many layouts there are to look at, if at most `most`.
 pub fn how_many(board: &Board, most: u64) -> Option<u64> {
     let mut product = 1u64;
-    for (kind, demand) in board.demands().into_iter().enumerate() {
+    for (kind, demand) in board.job.demands().into_iter().enumerate() {
         product = product.checked_mul(choose(board.candidates[kind].len() as u64, demand as u64)?)?;
         if product > most {
             return None;
@@ -28,7 +28,7 @@ pub fn first_of_the_shortest(board: &Board) -> Option<Vec<Piece>> {
     let mut best: Option<Vec<Piece>> = None;
     let mut layout = Vec::new();
     let kinds: Vec<usize> =
-        board.demands().into_iter().enumerate().flat_map(|(kind, demand)| vec![kind; demand]).collect();
+        board.job.demands().into_iter().enumerate().flat_map(|(kind, demand)| vec![kind; demand]).collect();
     each_layout(board, &kinds, &mut layout, &mut |complete| {
         let shorter = best.as_ref().is_none_or(|held| board.length(complete) < board.length(held));
         if shorter && free_of_conflict(board, complete) {

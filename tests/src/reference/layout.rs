@@ -15,7 +15,7 @@ pub fn to_numbers(board: &Board, layout: &[Piece]) -> Vec<u16> {
 
 /// The layout that the numbers list, if it passes.
 pub fn passing(board: &Board, numbers: &[u16]) -> Option<Vec<Piece>> {
-    if numbers.len() != 4 * board.pieces() {
+    if numbers.len() != 4 * board.job.pieces() {
         return None;
     }
     let layout: Option<Vec<Piece>> = numbers.chunks(4).map(|entry| piece(board, entry)).collect();
@@ -37,6 +37,7 @@ fn in_order(layout: &[Piece]) -> bool {
 
 fn has_the_copies(board: &Board, layout: &[Piece]) -> bool {
     board
+        .job
         .demands()
         .iter()
         .enumerate()

@@ -1,5 +1,5 @@
-//! Document 01 in plain Rust, written from that document alone and from none of the engine's code.
-//! It is slow on purpose: each rule stands where it can be read beside its sentence.
+//! Document 01 and the landed requests of document 02 in plain Rust, written from those documents alone and from
+//! none of the engine's code. It is slow on purpose: each rule stands where it can be read beside its sentence.
 
 pub mod board;
 pub mod exhaustive;

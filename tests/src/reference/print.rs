@@ -1,4 +1,4 @@
-//! What the command program prints for a job.
+//! What the command program prints for a job: it passes no margin.
 
 use super::board::Board;
 use super::layout::to_numbers;
@@ -7,7 +7,7 @@ use super::walk::walk;
 pub const BUDGET: u64 = 1_000_000;
 
 pub fn printed(bytes: &[u8]) -> String {
-    let board = match Board::read(bytes) {
+    let board = match Board::read(bytes, 0) {
         Err(number) => return format!("refused {number}\n"),
         Ok(board) => board,
     };

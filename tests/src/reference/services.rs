@@ -1,16 +1,18 @@
-//! The four services: each gives its answer and changes the lent buffers as document 01 says. The job
-//! comes as it was read: a board, or the refusal number.
+//! The four services: each gives its answer and changes the lent buffers as documents 01 and 02 say.
 
 use super::board::{Board, Piece};
 use super::layout::{passing, to_numbers};
+use super::reader::Job;
 use super::walk::walk;
 use crate::answer::{Answer, ENDED, STOPPED_WITH_LAYOUT, STOPPED_WITH_NOTHING};
 
-pub type Reading = Result<Board, u8>;
+/// A job as it was read, or the number that refuses it.
+pub type Reading = Result<Job, u8>;
+/// A job under a margin, or the number that refuses the one or the other.
+pub type Clamped = Result<Board, u8>;
 
 /// The numbers that read writes, in order; a negative coordinate as 65,536 plus it.
-pub fn content(board: &Board) -> Vec<u16> {
-    let job = &board.job;
+pub fn content(job: &Job) -> Vec<u16> {
     let mut out = vec![job.width, job.length, job.step, job.classes.len() as u16];
     for class in &job.classes {
         out.extend([class.id, class.rank, class.gap].map(u16::from));
@@ -23,16 +25,16 @@ pub fn content(board: &Board) -> Vec<u16> {
             out.extend(part.iter().flat_map(|c| [c.x, c.y].map(|n| n.rem_euclid(65_536) as u16)));
         }
     }
-    out.push(board.pieces() as u16);
+    out.push(job.pieces() as u16);
     out
 }
 
 pub fn read(reading: &Reading, answer: &mut [u8]) -> Answer {
-    let board = match reading {
+    let job = match reading {
         Err(number) => return Answer::refused(*number),
-        Ok(board) => board,
+        Ok(job) => job,
     };
-    let numbers = content(board);
+    let numbers = content(job);
     if answer.len() / 2 < numbers.len() {
         return Answer::refused(9);
     }
@@ -40,18 +42,18 @@ pub fn read(reading: &Reading, answer: &mut [u8]) -> Answer {
     Answer::counted(numbers.len())
 }
 
-pub fn row(reading: &Reading, kind: u64, number: u64, other: u64, row: &mut [u8]) -> Answer {
-    let board = match reading {
+pub fn row(clamped: &Clamped, kind: u64, number: u64, other: u64, row: &mut [u8]) -> Answer {
+    let board = match clamped {
         Err(number) => return Answer::refused(*number),
         Ok(board) => board,
     };
     let Some((piece, other)) = row_arguments(board, kind, number, other) else {
         return Answer::refused(12);
     };
-    if row.len() / 8 < board.words() {
+    let mut words = vec![0u64; board.job.words()];
+    if row.len() / 8 < words.len() {
         return Answer::refused(9);
     }
-    let mut words = vec![0u64; board.words()];
     for (index, candidate) in board.candidates[other].iter().enumerate() {
         if board.conflict(piece, Piece { kind: other, index }) {
             words[candidate.number / 64] |= 1 << (candidate.number % 64);
@@ -68,8 +70,8 @@ fn row_arguments(board: &Board, kind: u64, number: u64, other: u64) -> Option<(P
     Some((Piece { kind, index }, other))
 }
 
-pub fn check(reading: &Reading, layout: &[u8]) -> Answer {
-    let board = match reading {
+pub fn check(clamped: &Clamped, layout: &[u8]) -> Answer {
+    let board = match clamped {
         Err(number) => return Answer::refused(*number),
         Ok(board) => board,
     };
@@ -79,16 +81,16 @@ pub fn check(reading: &Reading, layout: &[u8]) -> Answer {
     }
 }
 
-pub fn run(reading: &Reading, budget: u32, work: &mut [u8], answer: &mut [u8]) -> Answer {
-    let board = match reading {
+pub fn run(clamped: &Clamped, budget: u32, work: &mut [u8], answer: &mut [u8]) -> Answer {
+    let board = match clamped {
         Err(number) => return Answer::refused(*number),
         Ok(board) => board,
     };
-    let work_words = work_words(board);
+    let work_words = work_words(&board.job);
     if work.len() / 8 < work_words {
         return Answer::refused(8);
     }
-    if answer.len() / 2 < 4 * board.pieces() {
+    if answer.len() / 2 < 4 * board.job.pieces() {
         return Answer::refused(9);
     }
     let walked = walk(board, budget.into());
@@ -108,8 +110,8 @@ pub fn run(reading: &Reading, budget: u32, work: &mut [u8], answer: &mut [u8]) -
 }
 
 /// T × N × ceil(D / 16).
-pub fn work_words(board: &Board) -> usize {
-    board.job.types.len() * board.pieces() * board.words()
+pub fn work_words(job: &Job) -> usize {
+    job.types.len() * job.pieces() * job.words()
 }
 
 pub fn numbers_of(bytes: &[u8]) -> Vec<u16> {

@@ -19,7 +19,7 @@ struct Walk<'a> {
 }
 
 pub fn walk(board: &Board, budget: u64) -> Walked {
-    let demands = board.demands();
+    let demands = board.job.demands();
     let mut walk = Walk { board, demands, budget, steps: 0, stopped: false, placed: vec![], best: None };
     if walk.look_ahead() {
         walk.try_piece();
@@ -51,7 +51,7 @@ impl Walk<'_> {
     }
 
     fn go_on(&mut self) {
-        if self.placed.len() == self.board.pieces() {
+        if self.placed.len() == self.board.job.pieces() {
             self.best = Some(self.placed.clone());
         } else if self.look_ahead() {
             self.try_piece();
@@ -77,7 +77,7 @@ impl Walk<'_> {
 
     /// The length of all pieces then placed stays below the best so far.
     fn below_best(&self, piece: Piece) -> bool {
-        let length = self.board.length(&self.placed).max(self.board.at(piece).end);
+        let length = self.board.length(&self.placed).max(self.board.length(&[piece]));
         self.best.as_ref().is_none_or(|best| length < self.board.length(best))
     }
 

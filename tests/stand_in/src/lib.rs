@@ -79,12 +79,52 @@ fn spoil_odd_byte(buffer: &mut [u8]) {
     }
 }
 
+/// The job of a service that takes a margin. A mistake: the margin is judged first.
+fn read_under(job: &[u8], margin: u64) -> Result<Job, u8> {
+    if mutant::is("thirteen_before_the_job") && accepted(margin).is_none() {
+        return Err(13);
+    }
+    read(job)
+}
+
+/// The margin, if it is one that a host may pass.
+fn accepted(margin: u64) -> Option<i32> {
+    let cuts = [("margin_of_8_bits", 8), ("margin_of_16_bits", 16), ("margin_of_32_bits", 32)];
+    let bits = cuts.iter().find(|(name, _)| mutant::is(name)).map_or(64, |&(_, bits)| bits);
+    let margin = margin & u64::MAX >> (64 - bits);
+    let most = 63 + u64::from(mutant::is("margin_64_accepted")) - u64::from(mutant::is("margin_63_refused"));
+    let signed = mutant::is("margin_signed") && margin as i64 <= most as i64;
+    (margin <= most || signed).then_some(margin as i32)
+}
+
+/// The refusal of a margin, which comes before all that the service itself refuses. The mistakes: after another cause.
+fn margin_refused(others: &[(&str, bool, u8)]) -> u64 {
+    let first = others.iter().find(|(mistake, cause, _)| *cause && mutant::is(mistake));
+    refused(first.map_or(13, |&(_, _, number)| number))
+}
+
+/// The board under a margin. With the mistake named, its candidates are those of a sheet without clamps.
+fn clamped<'a>(job: &'a Job, margin: i32, mistake: &str) -> Board<'a> {
+    let mut board = Board::new(job, margin);
+    if mutant::is(mistake) {
+        board.candidates = Board::new(job, 0).candidates;
+    }
+    board
+}
+
+/// A length as it is told. The mistakes: without the margin, or with two of them.
+fn told(length: i32, margin: i32, mistakes: [&str; 2]) -> usize {
+    let [without, twice] = mistakes.map(|name| i32::from(mutant::is(name)));
+    (length + (twice - without) * margin) as usize
+}
+
 /// # Safety
 /// Pointers and lengths name the caller's buffers.
 #[no_mangle]
 pub unsafe extern "C" fn nest_row(
     job: *const u8,
     job_len: usize,
+    margin: u64,
     kind: u64,
     number: u64,
     other: u64,
@@ -93,32 +133,37 @@ pub unsafe extern "C" fn nest_row(
 ) -> u64 {
     let job = lent(job, job_len);
     let row = lent_mut(row, row_len);
-    match read(job) {
+    match read_under(job, margin) {
         Err(number) => refused(number),
-        Ok(job) => write_row(&job, kind, number, other, row),
+        Ok(job) => write_row(&job, margin, kind, number, other, row),
     }
 }
 
-fn write_row(job: &Job, kind: u64, number: u64, other: u64, row: &mut [u8]) -> u64 {
+fn write_row(job: &Job, margin: u64, kind: u64, number: u64, other: u64, row: &mut [u8]) -> u64 {
     let words = job.words();
     let short = row.len() / 8 < words;
-    if mutant::is("nine_before_twelve") && short {
-        return refused(9);
-    }
     let narrow = |n: u64| if mutant::is("kind_of_32_bits") { n & 0xFFFF_FFFF } else { n };
     let (kind, other) = (narrow(kind), narrow(other));
     let number = if mutant::is("number_of_16_bits") { number & 0xFFFF } else { number };
     let kinds = job.kind_count as u64;
-    if kind >= kinds || other >= kinds || number >= 4096 {
+    let absent = kind >= kinds || other >= kinds || number >= 4096;
+    let Some(margin) = accepted(margin) else {
+        return margin_refused(&[("thirteen_after_twelve", absent, 12), ("thirteen_after_nine", short, 9)]);
+    };
+    if mutant::is("nine_before_twelve") && short {
+        return refused(9);
+    }
+    if absent {
         return refused(12);
     }
-    let board = Board::new(job);
+    let board = clamped(job, margin, "row_of_unclamped_candidate");
     if !board.is_candidate(kind as usize, number as usize) {
         return refused(12);
     }
     if short {
         return refused(9);
     }
+    let board = clamped(job, margin, "row_against_unclamped_candidates");
     let mut out: Vec<u64> =
         row.chunks_exact(8).take(words).map(|b| u64::from_le_bytes(b.try_into().expect("eight"))).collect();
     if !mutant::is("row_untouched") {
@@ -136,16 +181,35 @@ fn write_row(job: &Job, kind: u64, number: u64, other: u64, row: &mut [u8]) -> u
 /// # Safety
 /// Pointers and lengths name the caller's buffers.
 #[no_mangle]
-pub unsafe extern "C" fn nest_check(job: *const u8, job_len: usize, layout: *const u8, layout_len: usize) -> u64 {
+pub unsafe extern "C" fn nest_check(
+    job: *const u8,
+    job_len: usize,
+    margin: u64,
+    layout: *const u8,
+    layout_len: usize,
+) -> u64 {
     let job = lent(job, job_len);
     let layout = lent(layout, layout_len);
-    match read(job) {
+    match read_under(job, margin) {
         Err(number) => refused(number),
-        Ok(job) => checked(&job, layout).map_or(refused(11), |length| packed(0, 0, length, 0)),
+        Ok(job) => check(&job, margin, layout),
     }
 }
 
-fn checked(job: &Job, layout: &[u8]) -> Option<usize> {
+fn check(job: &Job, margin: u64, layout: &[u8]) -> u64 {
+    let Some(margin) = accepted(margin) else {
+        return margin_refused(&[("thirteen_after_eleven", layout.len() / 2 != 4 * job.pieces, 11)]);
+    };
+    match checked(job, margin, layout) {
+        None => refused(11),
+        Some(length) => {
+            let mistakes = ["check_length_without_margin", "check_length_with_margin_twice"];
+            packed(0, 0, told(length, margin, mistakes), 0)
+        }
+    }
+}
+
+fn checked(job: &Job, margin: i32, layout: &[u8]) -> Option<i32> {
     let numbers: Vec<usize> =
         layout.chunks_exact(2).map(|b| usize::from(u16::from_le_bytes([b[0], b[1]]))).collect();
     if mutant::is("check_passes_nothing") {
@@ -155,7 +219,7 @@ fn checked(job: &Job, layout: &[u8]) -> Option<usize> {
     if numbers.len() != 4 * job.pieces && !longer {
         return None;
     }
-    let board = Board::new(job);
+    let board = clamped(job, margin, "check_unclamped");
     let (mut placed, mut length): (Vec<(usize, usize)>, i32) = (vec![], 0);
     for entry in numbers.chunks_exact(4).take(job.pieces) {
         let (kind, column, row, turn) = (entry[0], entry[1], entry[2], entry[3]);
@@ -170,10 +234,10 @@ fn checked(job: &Job, layout: &[u8]) -> Option<usize> {
             return None;
         }
         placed.push((kind, number));
-        length = length.max(board.end(kind, number));
+        length = length.max(board.length(kind, number));
     }
     let copies = |kind: usize| placed.iter().filter(|p| p.0 == kind).count();
-    (0..job.kind_count).all(|k| copies(k) == job.kinds[k].demand).then_some(length as usize)
+    (0..job.kind_count).all(|k| copies(k) == job.kinds[k].demand).then_some(length)
 }
 
 /// # Safety
@@ -182,6 +246,7 @@ fn checked(job: &Job, layout: &[u8]) -> Option<usize> {
 pub unsafe extern "C" fn nest_run(
     job: *const u8,
     job_len: usize,
+    margin: u64,
     budget: u32,
     work: *mut u8,
     work_len: usize,
@@ -198,31 +263,38 @@ pub unsafe extern "C" fn nest_run(
         // The byte past the lent ones.
         work.as_mut_ptr().add(work_len).write(0xA5);
     }
-    match read(job) {
+    match read_under(job, margin) {
         Err(number) => refused(number),
-        Ok(job) => run(&job, budget, work, answer),
+        Ok(job) => run(&job, margin, budget, work, answer),
     }
 }
 
-fn run(job: &Job, budget: u32, work: &mut [u8], answer: &mut [u8]) -> u64 {
+fn run(job: &Job, margin: u64, budget: u32, work: &mut [u8], answer: &mut [u8]) -> u64 {
     let work_bytes = 8 * job.kind_count * job.pieces * job.words();
+    let work_short = work.len() < work_bytes;
     let answer_short = answer.len() / 2 < 4 * job.pieces;
+    let Some(margin) = accepted(margin) else {
+        if mutant::is("work_cleared_at_thirteen") {
+            work.fill(0);
+        }
+        return margin_refused(&[("thirteen_after_eight", work_short, 8), ("thirteen_after_nine", answer_short, 9)]);
+    };
     if mutant::is("eight_after_nine") && answer_short {
         return refused(9);
     }
-    if work.len() < work_bytes {
+    if work_short {
         return refused(8);
     }
     if answer_short {
         return refused(9);
     }
-    let board = Board::new(job);
+    let board = clamped(job, margin, "run_unclamped");
     let mut rows = Rows::new(&board);
     let out = Walk::new(&board, &mut rows).run(budget.into());
     let none = !out.stopped && out.best.is_none();
     clear_work(work, work_bytes, none);
     if let Some((_, numbers)) = &out.best {
-        write_layout(job, numbers, answer);
+        write_layout(job, margin, numbers, answer);
         if mutant::is("rest_copied") {
             (1..job.pieces).for_each(|piece| answer.copy_within(0..8, 8 * piece));
         }
@@ -233,7 +305,8 @@ fn run(job: &Job, budget: u32, work: &mut [u8], answer: &mut [u8]) -> u64 {
         answer[..8 * job.pieces].fill(0);
     }
     spoil_odd_byte(answer);
-    let length = out.best.map_or(0, |(length, _)| length as usize);
+    let mistakes = ["run_length_without_margin", "run_length_with_margin_twice"];
+    let length = out.best.map_or(0, |(length, _)| told(length, margin, mistakes));
     let mut stopped = out.stopped;
     let mut steps = out.steps;
     if mutant::is("stopped_at_exact_budget") && steps == u64::from(budget) {
@@ -269,12 +342,13 @@ fn clear_work(work: &mut [u8], needed: usize, none: bool) {
     work[..last].fill(0);
 }
 
-fn write_layout(job: &Job, numbers: &[u16; 12], answer: &mut [u8]) {
+fn write_layout(job: &Job, margin: i32, numbers: &[u16; 12], answer: &mut [u8]) {
+    let first_column = if mutant::is("columns_from_the_clamp") { (margin / job.step) as usize } else { 0 };
     let mut piece = 0;
     for kind in 0..job.kind_count {
         for _ in 0..job.kinds[kind].demand {
             let at = place(job, numbers[piece].into());
-            for (i, n) in [kind, at.column, at.row, at.turn].into_iter().enumerate() {
+            for (i, n) in [kind, at.column.wrapping_sub(first_column), at.row, at.turn].into_iter().enumerate() {
                 let from = 8 * piece + 2 * i;
                 answer[from..from + 2].copy_from_slice(&(n as u16).to_le_bytes());
             }

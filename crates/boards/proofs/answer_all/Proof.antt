@@ -8,10 +8,10 @@ use Rattle.boards.proofs.answer_all.Statement.{statement}
 use Rattle.boards.proofs.answer_all.Tie as tie
 
 abbrev Inv-loop : tie.InvT-loop
-Inv-loop text name₀ at₀ name at = (name ≤ length text) × (at ≤ length text + 1)
+Inv-loop text name₀ margin₀ at₀ name margin at = (name ≤ length text) × (at ≤ length text + 1)
 
 abbrev μ-loop : tie.MeasureT-loop
-μ-loop text name₀ at₀ name at = length text + 1 - at
+μ-loop text name₀ margin₀ at₀ name margin at = length text + 1 - at
 
 loop-holds : tie.Need-loop-holds Inv-loop μ-loop
 loop-holds c = search needs
@@ -24,6 +24,12 @@ add-word c = search needs
 
 shared-slice-read-word : tie.Need-shared-slice-read-word Inv-loop μ-loop
 shared-slice-read-word c = search needs
+
+add-margin-at : tie.Need-add-margin-at Inv-loop μ-loop
+add-margin-at c = search needs
+
+margin-at-requires : tie.Need-margin-at-requires Inv-loop μ-loop
+margin-at-requires c κs = search needs
 
 answer-requires : tie.Need-answer-requires Inv-loop μ-loop
 answer-requires c κs = search needs
@@ -40,7 +46,7 @@ loop-less c = search needs
 loop-again : tie.Need-loop-again Inv-loop μ-loop
 loop-again c =
     let named : c .before .match .name ≤ length (c .before .before .before .before .before .before .args .text .now) =
-    ⊎-elim (λ w. omega (arith, w)) (⊎-elim (λ w. omega (arith, w)) (λ w. omega (arith, w))) (c .before .match .came) in
+    ⊎-elim (λ w. omega (arith, w)) (⊎-elim (λ w. omega (arith, w)) (⊎-elim (λ w. omega (arith, w)) (λ w. omega (arith, w)))) (c .before .match .came) in
     (named, omega (arith, c .find .ensures))
 
 returns : tie.Need-returns Inv-loop μ-loop
@@ -56,6 +62,8 @@ answer-all-spec =
     add-loop
     add-word
     shared-slice-read-word
+    add-margin-at
+    margin-at-requires
     answer-requires
     find-requires
     add-at

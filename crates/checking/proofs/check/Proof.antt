@@ -1,25 +1,33 @@
 -- `checking::check` meets its contract. Assumes nothing.
-use mathlib.Core.Path.{refl, sym, ap, _∙_}
+use mathlib.Core.Path.{_≡_, refl, sym, ap, _∙_}
 use denote.Ref.{now}
+use Rattle.model.specs.Format.{content}
+use Rattle.model.specs.Problem.{under}
+use Rattle.model.specs.Services.{refusalUnder, checkContent}
 use Rattle.model.specs.declared.Checked.the-variants as C
+use Rattle.model.proofs.Margin.{accepted-under}
 use Rattle.shapes.specs.Turned.{Viewed}
 use Rattle.layouts.proofs.PassingLaws.{check-refused, check-accepted}
 use borrow.Author.Needs.{needs}
 use Rattle.checking.proofs.check.Statement.{statement}
 use Rattle.checking.proofs.check.Tie as tie
 
-open-requires : tie.Need-open-requires
-open-requires c κs = search needs
+open-under-requires : tie.Need-open-under-requires
+open-under-requires c κs = search needs
 
--- the job is accepted, and this is its view
-viewed : (c : tie.Else1) → Viewed (now (c .before .before .before .before .args .job)) (c .before .«open» .result .view)
-viewed c = record { accepted = sym (c .before .«open» .ensures .0) ∙ c .if1 .left; view = c .before .«open» .ensures .1 (c .if1 .left) }
+-- job and margin are accepted
+accepted : (c : tie.Else1) → refusalUnder (c .before .before .before .before .args .margin) (now (c .before .before .before .before .args .job)) ≡ 0
+accepted c = sym (c .before .open-under .ensures .0) ∙ c .if1 .left
+
+-- this is the job's view
+viewed : (c : tie.Else1) → Viewed (now (c .before .before .before .before .args .job)) (c .before .open-under .result .view)
+viewed c = record { accepted = accepted-under _ _ (accepted c) .0; view = c .before .open-under .ensures .1 (c .if1 .left) .0 }
 
 returns : tie.Need-returns
 returns c =
-    let o = c .before .«open» in
+    let o = c .before .open-under in
     let e = c .before .before .before .before in
-    ap C.Refused (o .ensures .0) ∙ sym (check-refused (now (e .args .job)) (now (e .args .layout)) (λ z. c .if1 .taken (o .ensures .0 ∙ z)))
+    ap C.Refused (o .ensures .0) ∙ sym (check-refused (now (e .args .job)) (e .args .margin) (now (e .args .layout)) (λ z. c .if1 .taken (o .ensures .0 ∙ z)))
 
 slice-aggregate-turn-all : tie.Need-slice-aggregate-turn-all
 slice-aggregate-turn-all c = search needs
@@ -45,13 +53,15 @@ returns-2 : tie.Need-returns-2
 returns-2 c =
     let test = c .before .before .before .before .before .before .before .before in
     let e = test .before .before .before .before in
-    c .judged .ensures ∙ sym (check-accepted (now (e .args .job)) (now (e .args .layout)) (viewed test .accepted))
+    c .judged .ensures
+    ∙ ap (λ m. checkContent (under m (content (now (e .args .job)))) (now (e .args .layout))) (test .before .open-under .ensures .1 (test .if1 .left) .1)
+    ∙ sym (check-accepted (now (e .args .job)) (e .args .margin) (now (e .args .layout)) (accepted test))
 
 pub check-spec : {M : Type 1} → statement M
 check-spec =
     tie.close
     (tie.spec
-    open-requires
+    open-under-requires
     returns
     slice-aggregate-turn-all
     turn-all-requires

@@ -22,7 +22,7 @@ same-length c = search needs
 returns : tie.Need-returns
 returns c =
     let answered = c .before .before .before .before .respond in
-    let same = answered .ensures .1 .1 .1 .0 refl in
+    let same = answered .ensures .1 .1 .1 .0 refl refl in
     (answered .ensures .0 ∙ ap length same, (answered .ensures .1 .0 ∙ ap (λ (t : List ℕ). t ++ drop (answered .result) (c .before .before .before .before .before .before .before .before .before .before .args .text .now)) same, answered .ensures .1 .1 .0))
 
 pub program-spec : {M : Type 1} → statement M

@@ -8,15 +8,15 @@ use native.Mathlib.Nat.{min-comm}
 use borrow.Author.Tests.{ltb-true, ltb-false, lt-ltb, le-ltb}
 use lib.ListN.{length, length-take}
 use lib.Seq.{take-all}
-use Rattle.model.specs.Content.{Job}
 use Rattle.model.specs.Demand3.{Completed, BestOf}
 use Rattle.model.specs.Layout.{Layout, layoutLength}
+use Rattle.model.specs.Problem.{Problem}
 use Rattle.model.specs.Search.{stepsFrom, stepsNeeded, isStopped, stepsTaken, bestAfter, held}
 use Rattle.model.proofs.Search.Completions.{Shorter, NoShorter, shorter-not}
 use Rattle.model.proofs.Accepted.{Sensible}
 use Rattle.model.proofs.Search.Walk.{Laid, held-or-completed, completed-laid, completed-no-shorter, best-of-steps}
 
-module _ (j : Job) (begin : Option Layout) (budget : ℕ) where
+module _ (j : Problem) (begin : Option Layout) (budget : ℕ) where
   -- Stopped exactly if more steps are needed than the budget.
   pub stopped-exactly : (isStopped j begin budget ≡ true) ↔ (budget < stepsNeeded j begin)
   unfolding isStopped
@@ -42,7 +42,7 @@ module _ (j : Job) (begin : Option Layout) (budget : ℕ) where
   unfolding held
   all-held e = ap (bestAfter begin) (all-taken e)
 
-module _ (j : Job) (ok : Sensible j) (budget : ℕ) where
+module _ (j : Problem) (ok : Sensible j) (budget : ℕ) where
   -- What is held under a budget is "the best layout of the steps taken".
   pub held-best : (es : Layout) → held j none budget ≡ some es → BestOf j (stepsTaken j none budget) es
   unfolding held stepsTaken

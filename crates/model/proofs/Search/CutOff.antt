@@ -6,9 +6,9 @@ use mathlib.Core.Option.{Option}
 use mathlib.Core.Path.{_≡_, sym, ap, _∙_, subst}
 use Prim.Native.Nat.{ℕ}
 use native.Mathlib.Omega.{arith}
-use Rattle.model.specs.Content.{Job}
 use Rattle.model.specs.Layout.{Entry, Layout, entryOf, entryNumber, isEntry, layoutLength, Passes}
 use Rattle.model.specs.Lists.{all}
+use Rattle.model.specs.Problem.{Problem}
 use Rattle.model.specs.Search.{candidateTable, beats, live, forwardCheck, lengthOf}
 use Rattle.model.proofs.Lists.{and-left, mem-reverse, all-back}
 use Rattle.model.proofs.Search.Completions.{length-append, length-reverseAux, length-reverse, Shorter, shorter-beats, live-first, Completes, laid}
@@ -17,7 +17,7 @@ use Rattle.model.proofs.Search.Passing.{laid-entries, Leads, Leading, p
 use Rattle.model.proofs.Accepted.{Sensible}
 use Rattle.model.proofs.Search.Pieces.{entry-of-number}
 
-module _ (j : Job) (ok : Sensible j) where
+module _ (j : Problem) (ok : Sensible j) where
   -- In a layout whose entries lead all after them, each of the first lead the others, and these lead all after them.
   leading-back : (front es : Layout) → Leading j (front ++ es) → Leading j es
   leading-back [] es l = l

@@ -4,11 +4,11 @@ use mathlib.Core.List.{List, [], _∷_}
 use mathlib.Core.Option.{Option, none, some}
 use mathlib.Core.Path.{_≡_, refl}
 use Prim.Native.Nat.{ℕ}
-use Rattle.model.specs.Content.{Job}
 use Rattle.model.specs.Layout.{Entry, Layout, entryOf}
+use Rattle.model.specs.Problem.{Problem}
 use Rattle.model.specs.Search.{Searched, step, latest, bestAfter, searched, then, live, forwardCheck, completed, tryCandidates, searchPieces, searchFrom, pieces}
 
-module _ (j : Job) (cs : List (List ℕ)) (next : Layout → Option ℕ → Searched) (t : ℕ) (left : List ℕ) where
+module _ (j : Problem) (cs : List (List ℕ)) (next : Layout → Option ℕ → Searched) (t : ℕ) (left : List ℕ) where
   -- No candidate left: nothing is done.
   pub tries-end : (placed : Layout) (best : Option ℕ) → tryCandidates j cs next t left [] placed best ≡ searched [] best
   unfolding tryCandidates
@@ -38,13 +38,13 @@ module _ (j : Job) (cs : List (List ℕ)) (next : Layout → Option ℕ → Sear
   tries-deep n ns placed best e f = rw (e, f, tryCandidates)
 
 -- Look-ahead before the first step: where it fails, the walk takes no step.
-pub search-back : (j : Job) (cs : List (List ℕ)) (best : Option ℕ) → forwardCheck j cs (pieces j) [] best ≡ false → searchFrom j cs best ≡ searched [] best
+pub search-back : (j : Problem) (cs : List (List ℕ)) (best : Option ℕ) → forwardCheck j cs (pieces (j .kinds)) [] best ≡ false → searchFrom j cs best ≡ searched [] best
 unfolding searchFrom
 search-back j cs best e = rw (e, searchFrom)
 
 -- Where it does not fail, the walk goes over all pieces.
-pub search-walks : (j : Job) (cs : List (List ℕ)) (best : Option ℕ) → forwardCheck j cs (pieces j) [] best ≡ true
-    → searchFrom j cs best ≡ searchPieces j cs (pieces j) [] best
+pub search-walks : (j : Problem) (cs : List (List ℕ)) (best : Option ℕ) → forwardCheck j cs (pieces (j .kinds)) [] best ≡ true
+    → searchFrom j cs best ≡ searchPieces j cs (pieces (j .kinds)) [] best
 unfolding searchFrom
 search-walks j cs best e = rw (e, searchFrom)
 

@@ -10,15 +10,16 @@ use native.Mathlib.Omega.{arith}
 use borrow.Author.Tests.{ltb-true, eqb-true, eq-eqb, lt-ltb, le-ltb, le-leb}
 use lib.Dec.{ltb, eqb}
 use lib.ListN.{getD}
-use Rattle.model.specs.Content.{Job, kindCount}
+use Rattle.model.specs.Content.{kindCount}
 use Rattle.model.specs.Layout.{Entry, Layout, entryOf, entryNumber, layoutLength}
 use Rattle.model.specs.Lists.{countOf}
+use Rattle.model.specs.Problem.{Problem}
 use Rattle.model.specs.Search.{abovePrevious, beats, live, copiesLeft, forwardCheck}
 use Rattle.words.proofs.Cases.{true-or-false}
 use Rattle.model.proofs.Lists.{countOf-mono, countOf-more, below-all, not-both}
 use Rattle.model.proofs.Search.Completions.{length-cons, beats-le, live-parts, live-of, free-tail, live-first, Completes, laid}
 
-module _ (j : Job) where
+module _ (j : Problem) where
   -- A number above a copy that is above the previous one is above that one too.
   pub above-through : (es : Layout) (e f : Entry) → e .kind ≡ f .kind → entryNumber j e < entryNumber j f
       → abovePrevious j es e ≡ true → abovePrevious j es f ≡ true
@@ -102,4 +103,4 @@ module _ (j : Job) where
     pub forward-keeps : (ts : List ℕ) (es : Layout) (ns : List ℕ) → Completes j cs ts es ns → beats (layoutLength j (laid j ts ns es)) b ≡ true
         → forwardCheck j cs ts es b ≡ true
     unfolding forwardCheck
-    forward-keeps ts es ns c l = below-all _ (kindCount j) (λ t h. le-leb _ _ (copies-live ts es ns c l t))
+    forward-keeps ts es ns c l = below-all _ (kindCount (j .kinds)) (λ t h. le-leb _ _ (copies-live ts es ns c l t))

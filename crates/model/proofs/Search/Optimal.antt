@@ -8,8 +8,8 @@ use Prim.Native.Nat.{ℕ, _≤_, _<_}
 use native.Mathlib.Nat.{not-suc-le-zero}
 use native.Mathlib.Omega.{arith}
 use lib.ListN.{length, getD}
-use Rattle.model.specs.Content.{Job}
 use Rattle.model.specs.Layout.{Entry, Layout, entryOf, layoutLength}
+use Rattle.model.specs.Problem.{Problem}
 use Rattle.model.specs.Search.{Step, Searched, step, searched, then, live, forwardCheck, completed, tryCandidates, searchPieces, searchFrom, pieces, lengthOf, latest, bestAfter}
 use Rattle.words.proofs.Cases.{true-or-false, le-or-lt}
 use Rattle.model.proofs.Lists.{not-both}
@@ -26,7 +26,7 @@ unfolding bestAfter
 bestAfter-append h [] rs = refl
 bestAfter-append h (s ∷ ss) rs = bestAfter-append _ ss rs
 
-module _ (j : Job) (G : Layout → Type 0) where
+module _ (j : Problem) (G : Layout → Type 0) where
   -- A layout that a step completes, if it does, has the property G and is shorter than the one held.
   abbrev pub Improves : Option Layout → Option Layout → Type 0
   Improves h none = Unit {0}
@@ -53,15 +53,15 @@ NotAfter (n ∷ ns) [] = ⊥
 NotAfter (n ∷ ns) (m ∷ ms) = (n < m) ⊎ ((n ≡ m) × NotAfter ns ms)
 
 -- The first completion is shorter, or as long and not after the second.
-abbrev pub Wins : Job → (List ℕ → Layout) → List ℕ → List ℕ → Type 0
+abbrev pub Wins : Problem → (List ℕ → Layout) → List ℕ → List ℕ → Type 0
 Wins j lay ns ms = (layoutLength j (lay ns) < layoutLength j (lay ms)) ⊎ ((layoutLength j (lay ns) ≡ layoutLength j (lay ms)) × NotAfter ns ms)
 
 -- What is shorter than a completion that wins is shorter than what that wins against.
-wins-lt : (j : Job) (lay : List ℕ → Layout) (a : ℕ) (ns ms : List ℕ) → a < layoutLength j (lay ns) → Wins j lay ns ms → a < layoutLength j (lay ms)
+wins-lt : (j : Problem) (lay : List ℕ → Layout) (a : ℕ) (ns ms : List ℕ) → a < layoutLength j (lay ns) → Wins j lay ns ms → a < layoutLength j (lay ms)
 wins-lt j lay a ns ms l (inl x) = omega arith
 wins-lt j lay a ns ms l (inr x) = omega arith
 
-module _ (j : Job) (P : List ℕ → Type 0) (lay : List ℕ → Layout) where
+module _ (j : Problem) (P : List ℕ → Type 0) (lay : List ℕ → Layout) where
   -- What a walk over the completions P makes of the layout held: it stays and no completion is shorter, or a shorter completion that wins
   -- against every completion takes its place.
   pub data Found (h h′ : Option Layout) : Type 0 where
@@ -77,25 +77,25 @@ module _ (j : Job) (P : List ℕ → Type 0) (lay : List ℕ → Layout) where
     pub falling : Falling j G h (w .steps)
 
 -- Where no completion is shorter than the layout held, this one stays.
-none-shorter : (j : Job) (P : List ℕ → Type 0) (lay : List ℕ → Layout) (h : Option Layout)
+none-shorter : (j : Problem) (P : List ℕ → Type 0) (lay : List ℕ → Layout) (h : Option Layout)
     → ((ns : List ℕ) → P ns → Shorter j (layoutLength j (lay ns)) h → ⊥) → Found j P lay h h
 none-shorter j P lay h f = stays refl (λ ns p. ⊎-elim (λ s. absurd (f ns p s)) (λ s. s) (shorter-or-not j (layoutLength j (lay ns)) h))
 
 -- ---- One candidate, and then the others
 
 -- A length below that of a layout held that was laid the other way round.
-shorter-laid : (j : Job) (a : ℕ) (h : Option Layout) (es : Layout) → h ≡ some (reverse es) → Shorter j a h → a < layoutLength j es
+shorter-laid : (j : Problem) (a : ℕ) (h : Option Layout) (es : Layout) → h ≡ some (reverse es) → Shorter j a h → a < layoutLength j es
 shorter-laid j a h es e s = rw (length-reverse j es) at (subst (Shorter j a) e s)
 
 -- And a length that is not below its length.
-noShorter-laid : (j : Job) (a : ℕ) (h : Option Layout) (es : Layout) → h ≡ some (reverse es) → NoShorter j a h → layoutLength j es ≤ a
+noShorter-laid : (j : Problem) (a : ℕ) (h : Option Layout) (es : Layout) → h ≡ some (reverse es) → NoShorter j a h → layoutLength j es ≤ a
 noShorter-laid j a h es e s = rw (length-reverse j es) at (subst (NoShorter j a) e s)
 
 -- At most is below or equal.
 lt-or-eq : (a b : ℕ) → a ≤ b → (a < b) ⊎ (a ≡ b)
 lt-or-eq a b l = ⊎-elim (λ h. inr (omega arith)) (λ h. inl h) (le-or-lt b a)
 
-module _ (j : Job) (cs : List (List ℕ)) (t : ℕ) (ts : List ℕ) (es : Layout) where
+module _ (j : Problem) (cs : List (List ℕ)) (t : ℕ) (ts : List ℕ) (es : Layout) where
   -- What holds of the completions that begin with n, and of those that begin with one of ns, holds of those that begin with one of n and ns.
   from-all : (n : ℕ) (ns : List ℕ) (C : List ℕ → Type 0) → ((ms : List ℕ) → CompletesWith j cs t ts es n ms → C (n ∷ ms))
       → ((ms : List ℕ) → CompletesFrom j cs t ts ns es ms → C ms) → (ms : List ℕ) → CompletesFrom j cs t ts (n ∷ ns) es ms → C ms
@@ -153,12 +153,12 @@ module _ (j : Job) (cs : List (List ℕ)) (t : ℕ) (ts : List ℕ) (es : Layout
 -- ---- The induction
 
 -- The same finding, over completions that are no others.
-found-same : (j : Job) (P Q : List ℕ → Type 0) (lay : List ℕ → Layout) (h h′ : Option Layout) → ((ns : List ℕ) → P ns → Q ns) → ((ns : List ℕ) → Q ns → P ns)
+found-same : (j : Problem) (P Q : List ℕ → Type 0) (lay : List ℕ → Layout) (h h′ : Option Layout) → ((ns : List ℕ) → P ns → Q ns) → ((ns : List ℕ) → Q ns → P ns)
     → Found j P lay h h′ → Found j Q lay h h′
 found-same j P Q lay h h′ f g (stays e k) = stays e (λ ns q. k ns (g ns q))
 found-same j P Q lay h h′ f g (finds ks p e s w) = finds ks (f ks p) e s (λ ns q. w ns (g ns q))
 
-module _ (j : Job) (cs : List (List ℕ)) (G : Layout → Type 0) where
+module _ (j : Problem) (cs : List (List ℕ)) (G : Layout → Type 0) where
   -- What is promised of the walk over the pieces ts together with the step that led into it, since that step records the layout that it
   -- completes. G holds of every layout that completes what is placed.
   abbrev Enters : List ℕ → Type 0
@@ -308,23 +308,23 @@ module _ (j : Job) (cs : List (List ℕ)) (G : Layout → Type 0) where
   pieces-ran rise (t ∷ ts) p h g = walks-ran rise t ts (enters rise ts) [] h g
 
   -- The walk over all pieces; there is a piece.
-  pub search-ran : ((t : ℕ) → Rising (getD cs t [])) → 0 < length (pieces j) → (h : Option Layout)
-      → ((ns : List ℕ) → Completes j cs (pieces j) [] ns → G (reverse (laid j (pieces j) ns [])))
-      → Ran j (Completes j cs (pieces j) []) (λ ns. laid j (pieces j) ns []) G h (searchFrom j cs (lengthOf j h))
+  pub search-ran : ((t : ℕ) → Rising (getD cs t [])) → 0 < length (pieces (j .kinds)) → (h : Option Layout)
+      → ((ns : List ℕ) → Completes j cs (pieces (j .kinds)) [] ns → G (reverse (laid j (pieces (j .kinds)) ns [])))
+      → Ran j (Completes j cs (pieces (j .kinds)) []) (λ ns. laid j (pieces (j .kinds)) ns []) G h (searchFrom j cs (lengthOf j h))
   unfolding bestAfter
-  search-ran rise p h g = go (true-or-false (forwardCheck j cs (pieces j) [] (lengthOf j h)))
+  search-ran rise p h g = go (true-or-false (forwardCheck j cs (pieces (j .kinds)) [] (lengthOf j h)))
     where
-      go : (forwardCheck j cs (pieces j) [] (lengthOf j h) ≡ true) ⊎ (forwardCheck j cs (pieces j) [] (lengthOf j h) ≡ false)
-          → Ran j (Completes j cs (pieces j) []) (λ ns. laid j (pieces j) ns []) G h (searchFrom j cs (lengthOf j h))
+      go : (forwardCheck j cs (pieces (j .kinds)) [] (lengthOf j h) ≡ true) ⊎ (forwardCheck j cs (pieces (j .kinds)) [] (lengthOf j h) ≡ false)
+          → Ran j (Completes j cs (pieces (j .kinds)) []) (λ ns. laid j (pieces (j .kinds)) ns []) G h (searchFrom j cs (lengthOf j h))
       go (inl e) =
-          subst (Ran j (Completes j cs (pieces j) []) (λ ns. laid j (pieces j) ns []) G h) (sym (search-walks j cs (lengthOf j h) e))
-          (pieces-ran rise (pieces j) p h g)
+          subst (Ran j (Completes j cs (pieces (j .kinds)) []) (λ ns. laid j (pieces (j .kinds)) ns []) G h) (sym (search-walks j cs (lengthOf j h) e))
+          (pieces-ran rise (pieces (j .kinds)) p h g)
       go (inr e) =
-          subst (Ran j (Completes j cs (pieces j) []) (λ ns. laid j (pieces j) ns []) G h) (sym (search-back j cs (lengthOf j h) e))
+          subst (Ran j (Completes j cs (pieces (j .kinds)) []) (λ ns. laid j (pieces (j .kinds)) ns []) G h) (sym (search-back j cs (lengthOf j h) e))
           (record {
             told = refl;
             found =
-                none-shorter j (Completes j cs (pieces j) []) (λ ns. laid j (pieces j) ns []) h
-                (λ ns c s. not-both (forward-keeps j cs (lengthOf j h) (pieces j) [] ns c (shorter-beats j _ h s)) e);
+                none-shorter j (Completes j cs (pieces (j .kinds)) []) (λ ns. laid j (pieces (j .kinds)) ns []) h
+                (λ ns c s. not-both (forward-keeps j cs (lengthOf j h) (pieces (j .kinds)) [] ns c (shorter-beats j _ h s)) e);
             falling = tt;
           })

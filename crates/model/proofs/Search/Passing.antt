@@ -9,9 +9,10 @@ use native.Mathlib.Omega.{arith}
 use borrow.Author.Tests.{ltb-true, ltb-false, eqb-true, eqb-false, eq-eqb, ne-eqb, lt-ltb, not-true}
 use lib.Dec.{ltb, eqb}
 use lib.ListN.{length, length-map}
-use Rattle.model.specs.Content.{Job, kindAt, kindCount, pieceCount}
+use Rattle.model.specs.Content.{kindAt, kindCount, pieceCount}
 use Rattle.model.specs.Layout.{Entry, Layout, entryAt, entryOf, entryNumber, isEntry, conflict, inOrder, ordered, copies, demandMet, apart, passes, Precedes, Passes, Before}
 use Rattle.model.specs.Lists.{all, any, countOf}
+use Rattle.model.specs.Problem.{Problem}
 use Rattle.model.specs.Search.{pieces, candidateTable, free, abovePrevious}
 use Rattle.words.proofs.Cases.{true-or-false}
 use Rattle.model.proofs.Lists.{and-left, and-right, and-both, and-four, below-all, all-mem, mem-map}
@@ -23,7 +24,7 @@ use Rattle.model.proofs.Accepted.{Sensible}
 use Rattle.model.proofs.Search.Pieces.{length-pieces, pieces-ascend, mem-pieces, count-pieces, mem-table, entry-kind, entry-of-number, table-mem}
 use Rattle.model.proofs.Sorted.{Ascending, ascending-same, eqb-comm, countOf-none}
 
-module _ (j : Job) where
+module _ (j : Problem) where
   -- The entries of these pieces and candidate numbers, in their order.
   abbrev pub entries : List ℕ → List ℕ → Layout
   entries [] ns = []
@@ -105,22 +106,22 @@ module _ (j : Job) where
       and-both (isEntry j (entryOf j t n)) _ (mem-table j t n (c .0)) (offered-entries ts (entryOf j t n ∷ es) ns (c .1 .2))
 
   -- A completion of the empty board passes.
-  pub completion-passes : (ns : List ℕ) → Completes j (candidateTable j) (pieces j) [] ns → Passes j (reverse (laid j (pieces j) ns []))
+  pub completion-passes : (ns : List ℕ) → Completes j (candidateTable j) (pieces (j .kinds)) [] ns → Passes j (reverse (laid j (pieces (j .kinds)) ns []))
   unfolding passes demandMet
   completion-passes ns c =
       let cs : List (List ℕ) = candidateTable j in
-      rw (laid-layout (pieces j) ns)
-      (passes-sound j (entries (pieces j) ns)
+      rw (laid-layout (pieces (j .kinds)) ns)
+      (passes-sound j (entries (pieces (j .kinds)) ns)
       (and-both _ _
       (and-both _ _
-      (and-both _ _ (ordered-entries cs (pieces j) [] ns (pieces-ascend j) c)
-      (below-all _ (kindCount j) (λ t h. eq-eqb _ _ (copies-entries cs (pieces j) [] ns c t ∙ count-pieces j t h))))
-      (offered-entries (pieces j) [] ns c))
-      (apart-entries cs (pieces j) [] ns c)))
+      (and-both _ _ (ordered-entries cs (pieces (j .kinds)) [] ns (pieces-ascend (j .kinds)) c)
+      (below-all _ (kindCount (j .kinds)) (λ t h. eq-eqb _ _ (copies-entries cs (pieces (j .kinds)) [] ns c t ∙ count-pieces (j .kinds) t h))))
+      (offered-entries (pieces (j .kinds)) [] ns c))
+      (apart-entries cs (pieces (j .kinds)) [] ns c)))
 
   -- It has N entries.
-  pub completion-length : (ns : List ℕ) → Completes j (candidateTable j) (pieces j) [] ns → length (reverse (laid j (pieces j) ns [])) ≡ pieceCount j
-  completion-length ns c = rw (laid-layout (pieces j) ns) (length-entries (candidateTable j) (pieces j) [] ns c ∙ length-pieces j)
+  pub completion-length : (ns : List ℕ) → Completes j (candidateTable j) (pieces (j .kinds)) [] ns → length (reverse (laid j (pieces (j .kinds)) ns [])) ≡ pieceCount (j .kinds)
+  completion-length ns c = rw (laid-layout (pieces (j .kinds)) ns) (length-entries (candidateTable j) (pieces (j .kinds)) [] ns c ∙ length-pieces (j .kinds))
 
   -- ---- What passes is a completion
 
@@ -193,7 +194,7 @@ module _ (j : Job) where
   free-of [] e p = refl
   free-of (f ∷ placed) e p = free-cons j f placed e (p f (List·Memᴰ·head refl)) (free-of placed e (λ g d. p g (List·Memᴰ·tail d)))
 
-  module _ (turned : (t : ℕ) → kindAt j t .rotations < 16) where
+  module _ (turned : (t : ℕ) → kindAt (j .kinds) t .rotations < 16) where
     -- Candidates that lead all after them complete what leads them all.
     pub completes-of : (es placed : Layout) → all (isEntry j) es ≡ true → Leading es → ((f : Entry) → List·Memᴰ f placed → Leads f es)
         → Completes j (candidateTable j) (map (λ e. e .kind) es) placed (map (entryNumber j) es)
@@ -235,35 +236,35 @@ module _ (j : Job) where
   count-kinds (e ∷ es) t = rw (eqb-comm (e .kind) t, count-kinds es t)
 
   -- The types of a layout that passes are those of the pieces.
-  kinds-pieces : (es : Layout) → all (isEntry j) es ≡ true → Leading es → ((t : ℕ) → t < kindCount j → copies t es ≡ kindAt j t .demand)
-      → map (λ e. e .kind) es ≡ pieces j
-  kinds-pieces es a l d = ascending-same (map (λ e. e .kind) es) (pieces j) (kinds-ascend es l) (pieces-ascend j) (λ t. go t (true-or-false (ltb t (kindCount j))))
+  kinds-pieces : (es : Layout) → all (isEntry j) es ≡ true → Leading es → ((t : ℕ) → t < kindCount (j .kinds) → copies t es ≡ kindAt (j .kinds) t .demand)
+      → map (λ e. e .kind) es ≡ pieces (j .kinds)
+  kinds-pieces es a l d = ascending-same (map (λ e. e .kind) es) (pieces (j .kinds)) (kinds-ascend es l) (pieces-ascend (j .kinds)) (λ t. go t (true-or-false (ltb t (kindCount (j .kinds)))))
     where
-      none : (t : ℕ) (ns : List ℕ) → kindCount j ≤ t → ((m : ℕ) → List·Memᴰ m ns → m < kindCount j) → countOf (eqb t) ns ≡ 0
-      none t ns h f = countOf-none (eqb t) ns (λ m i. ne-eqb t m (λ q. let k : m < kindCount j = f m i in omega arith))
+      none : (t : ℕ) (ns : List ℕ) → kindCount (j .kinds) ≤ t → ((m : ℕ) → List·Memᴰ m ns → m < kindCount (j .kinds)) → countOf (eqb t) ns ≡ 0
+      none t ns h f = countOf-none (eqb t) ns (λ m i. ne-eqb t m (λ q. let k : m < kindCount (j .kinds) = f m i in omega arith))
 
-      go : (t : ℕ) → (ltb t (kindCount j) ≡ true) ⊎ (ltb t (kindCount j) ≡ false) → countOf (eqb t) (map (λ e. e .kind) es) ≡ countOf (eqb t) (pieces j)
-      go t (inl h) = let k : t < kindCount j = ltb-true _ _ h in count-kinds es t ∙ d t k ∙ sym (count-pieces j t k)
+      go : (t : ℕ) → (ltb t (kindCount (j .kinds)) ≡ true) ⊎ (ltb t (kindCount (j .kinds)) ≡ false) → countOf (eqb t) (map (λ e. e .kind) es) ≡ countOf (eqb t) (pieces (j .kinds))
+      go t (inl h) = let k : t < kindCount (j .kinds) = ltb-true _ _ h in count-kinds es t ∙ d t k ∙ sym (count-pieces (j .kinds) t k)
       go t (inr h) =
-          let k : kindCount j ≤ t = ltb-false _ _ h in
+          let k : kindCount (j .kinds) ≤ t = ltb-false _ _ h in
           none t (map (λ e. e .kind) es) k (λ m i. let x = mem-map (λ e. e .kind) es m i in rw (x .2) (entry-kind j (x .0) (all-mem (isEntry j) es (x .0) a (x .1))))
-          ∙ sym (none t (pieces j) k (mem-pieces j))
+          ∙ sym (none t (pieces (j .kinds)) k (mem-pieces (j .kinds)))
 
   -- A layout that passes has N entries.
-  pub passing-length : (es : Layout) → Passes j es → length es ≡ pieceCount j
+  pub passing-length : (es : Layout) → Passes j es → length es ≡ pieceCount (j .kinds)
   passing-length es p =
       let l = passing-leads es p in
-      sym (length-map es (λ e. e .kind)) ∙ ap length (kinds-pieces es (l .1) (l .0) (p .demanded)) ∙ length-pieces j
+      sym (length-map es (λ e. e .kind)) ∙ ap length (kinds-pieces es (l .1) (l .0) (p .demanded)) ∙ length-pieces (j .kinds)
 
   -- A layout that passes is laid by the completion of its numbers.
   pub passing-completes : Sensible j → (es : Layout) → Passes j es
-      → Completes j (candidateTable j) (pieces j) [] (map (entryNumber j) es) × (reverse (laid j (pieces j) (map (entryNumber j) es) []) ≡ es)
+      → Completes j (candidateTable j) (pieces (j .kinds)) [] (map (entryNumber j) es) × (reverse (laid j (pieces (j .kinds)) (map (entryNumber j) es) []) ≡ es)
   passing-completes ok es p =
       let l = passing-leads es p in
-      let q : map (λ e. e .kind) es ≡ pieces j = kinds-pieces es (l .1) (l .0) (p .demanded) in (
+      let q : map (λ e. e .kind) es ≡ pieces (j .kinds) = kinds-pieces es (l .1) (l .0) (p .demanded) in (
         subst (λ (ts : List ℕ). Completes j (candidateTable j) ts [] (map (entryNumber j) es)) q
             (completes-of (ok .turned) es [] (l .1) (l .0) (λ f d. absurd (List·Memᴰ·not-nil d))),
-        laid-layout (pieces j) (map (entryNumber j) es)
+        laid-layout (pieces (j .kinds)) (map (entryNumber j) es)
             ∙ subst (λ (ts : List ℕ). entries ts (map (entryNumber j) es) ≡ es) q (entries-of (ok .turned) es (l .1)),
       )
 

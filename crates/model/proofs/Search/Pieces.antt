@@ -1,6 +1,6 @@
 -- The pieces and the candidates of a job: which they are, in which order, and how many.
 use mathlib.Core.Bool.{true, false}
-use mathlib.Core.List.{[], map, List·Memᴰ, List·Memᴰ·not-nil}
+use mathlib.Core.List.{List, [], map, List·Memᴰ, List·Memᴰ·not-nil}
 use mathlib.Core.Logic.{_⊎_, inl, inr, ⊎-elim}
 use mathlib.Core.Path.{_≡_, sym, ap, _∙_, subst}
 use Prim.Native.Nat.{ℕ, suc, _≤_, _<_}
@@ -11,10 +11,11 @@ use lib.Dec.{ltb, eqb}
 use lib.ListN.{length, getD, length-map, List·getD-eq-default}
 use Rattle.words.specs.Bits.{testBit}
 use Rattle.model.specs.Candidate.{admitted, isCandidate, candidates, placedVertices, onBoard}
-use Rattle.model.specs.Content.{Kind, Job, kindAt, kindCount, pieceCount, noKind}
+use Rattle.model.specs.Content.{Kind, kindAt, kindCount, pieceCount, noKind}
 use Rattle.model.specs.Grid.{Placement, columns, rows, dots, numberOf, numberLimit}
 use Rattle.model.specs.Layout.{Entry, entryOf, entryNumber, entryKind, isEntry}
 use Rattle.model.specs.Lists.{all, countOf, sum, below}
+use Rattle.model.specs.Problem.{Problem}
 use Rattle.model.specs.Search.{pieces, candidateTable}
 use Rattle.words.proofs.Bit.{testBit-above, testBit-none}
 use Rattle.words.proofs.Cases.{le-or-lt}
@@ -24,43 +25,44 @@ use Rattle.model.proofs.Sorted.{Rising, Ascending, rising-mem, mem-keep
 
 -- ---- Pieces
 
-module _ (j : Job) where
+module _ (ks : List Kind) where
   -- There are N pieces.
-  pub length-pieces : length (pieces j) ≡ pieceCount j
+  pub length-pieces : length (pieces ks) ≡ pieceCount ks
   unfolding pieces below kindAt kindCount pieceCount
-  length-pieces = length-blocks (λ t. kindAt j t .demand) 0 (kindCount j) ∙ ap sum (map-by-index (λ k. k .demand) (j .kinds) noKind)
+  length-pieces = length-blocks (λ t. kindAt ks t .demand) 0 (kindCount ks) ∙ ap sum (map-by-index (λ k. k .demand) ks noKind)
 
   -- "Pieces follow the layout's order": by type.
-  pub pieces-ascend : Ascending (pieces j)
+  pub pieces-ascend : Ascending (pieces ks)
   unfolding pieces below
-  pieces-ascend = blocks-ascend (λ t. kindAt j t .demand) 0 (kindCount j)
+  pieces-ascend = blocks-ascend (λ t. kindAt ks t .demand) 0 (kindCount ks)
 
   -- Each is of one of the types.
-  pub mem-pieces : (t : ℕ) → List·Memᴰ t (pieces j) → t < kindCount j
+  pub mem-pieces : (t : ℕ) → List·Memᴰ t (pieces ks) → t < kindCount ks
   unfolding pieces below
-  mem-pieces t h = let r = mem-blocks (λ t. kindAt j t .demand) 0 (kindCount j) t h in omega arith
+  mem-pieces t h = let r = mem-blocks (λ t. kindAt ks t .demand) 0 (kindCount ks) t h in omega arith
 
   -- Each type as often as it is demanded.
-  pub count-pieces : (t : ℕ) → t < kindCount j → countOf (eqb t) (pieces j) ≡ kindAt j t .demand
+  pub count-pieces : (t : ℕ) → t < kindCount ks → countOf (eqb t) (pieces ks) ≡ kindAt ks t .demand
   unfolding pieces below
-  count-pieces t h = count-blocks (λ t. kindAt j t .demand) 0 (kindCount j) t (omega arith) (omega arith)
+  count-pieces t h = count-blocks (λ t. kindAt ks t .demand) 0 (kindCount ks) t (omega arith) (omega arith)
 
-  -- ---- Candidates
+-- ---- Candidates
 
+module _ (j : Problem) where
   -- The table has the candidates of each type, and of nothing else.
-  pub table-at : (t : ℕ) → t < kindCount j → getD (candidateTable j) t [] ≡ candidates j t
+  pub table-at : (t : ℕ) → t < kindCount (j .kinds) → getD (candidateTable j) t [] ≡ candidates j t
   unfolding candidateTable
-  table-at t h = getD-map-below (candidates j) (kindCount j) t [] h
+  table-at t h = getD-map-below (candidates j) (kindCount (j .kinds)) t [] h
 
   -- It has no candidates of a type that is not there.
-  table-beyond : (t : ℕ) → kindCount j ≤ t → getD (candidateTable j) t [] ≡ []
+  table-beyond : (t : ℕ) → kindCount (j .kinds) ≤ t → getD (candidateTable j) t [] ≡ []
   unfolding candidateTable
   table-beyond t h =
-      List·getD-eq-default (map (candidates j) (below (kindCount j))) [] (rw (length-map (below (kindCount j)) (candidates j), length-below (kindCount j)) h)
+      List·getD-eq-default (map (candidates j) (below (kindCount (j .kinds)))) [] (rw (length-map (below (kindCount (j .kinds))) (candidates j), length-below (kindCount (j .kinds))) h)
 
   -- A type is there or not.
-  in-table : (t : ℕ) → (t < kindCount j) ⊎ (kindCount j ≤ t)
-  in-table t = ⊎-elim (λ l. inl l) (λ l. inr (omega arith)) (le-or-lt (suc t) (kindCount j))
+  in-table : (t : ℕ) → (t < kindCount (j .kinds)) ⊎ (kindCount (j .kinds) ≤ t)
+  in-table t = ⊎-elim (λ l. inl l) (λ l. inr (omega arith)) (le-or-lt (suc t) (kindCount (j .kinds)))
 
   -- "A piece tries its candidates in rising order."
   pub table-rises : (t : ℕ) → Rising (getD (candidateTable j) t [])
@@ -83,7 +85,7 @@ module _ (j : Job) where
   admitted-parts k p e =
       let parts =
       and-four (ltb (p .column) (columns (j .sheet))) (ltb (p .row) (rows (j .sheet))) (testBit (k .rotations) (p .rotation))
-      (all (onBoard (j .sheet)) (placedVertices (j .sheet) k p)) e in
+      (all (onBoard (j .margin) (j .sheet)) (placedVertices (j .sheet) k p)) e in
       (ltb-true _ _ (parts .0), ltb-true _ _ (parts .1), parts .2)
 
   -- A mask of four bits allows no turn but the four.
@@ -91,14 +93,14 @@ module _ (j : Job) where
   few-turns w i h e = ⊎-elim (λ l. absurd (not-both e (testBit-above w 4 i h l))) (λ l. l) (le-or-lt 4 i)
 
   -- Where no type stands nothing is a candidate.
-  pub entry-kind : (e : Entry) → isEntry j e ≡ true → e .kind < kindCount j
+  pub entry-kind : (e : Entry) → isEntry j e ≡ true → e .kind < kindCount (j .kinds)
   unfolding isEntry entryKind kindAt kindCount
   entry-kind e h = ⊎-elim (λ l. l) (λ l. absurd (not-both (admitted-parts (entryKind j e) (e .place) h .2) (none l))) (in-table (e .kind))
     where
-      none : kindCount j ≤ e .kind → testBit (entryKind j e .rotations) (e .place .rotation) ≡ false
+      none : kindCount (j .kinds) ≤ e .kind → testBit (entryKind j e .rotations) (e .place .rotation) ≡ false
       none l = rw (List·getD-eq-default (j .kinds) noKind l) (testBit-none (e .place .rotation))
 
-  module _ (turned : (t : ℕ) → kindAt j t .rotations < 16) where
+  module _ (turned : (t : ℕ) → kindAt (j .kinds) t .rotations < 16) where
     -- A candidate is given by its type and its number.
     pub entry-of-number : (e : Entry) → isEntry j e ≡ true → entryOf j (e .kind) (entryNumber j e) ≡ e
     unfolding isEntry entryKind entryOf entryNumber

@@ -8,9 +8,10 @@ use Prim.Native.Nat.{ℕ, zero, suc, _≤_, _<_}
 use native.Mathlib.Nat.{le-refl}
 use native.Mathlib.Omega.{arith}
 use lib.ListN.{length, take}
-use Rattle.model.specs.Content.{Job, pieceCount}
+use Rattle.model.specs.Content.{pieceCount}
 use Rattle.model.specs.Demand3.{Completed, BestOf}
 use Rattle.model.specs.Layout.{Layout, entryNumber, layoutLength, Passes, Before, FirstOfShortest}
+use Rattle.model.specs.Problem.{Problem}
 use Rattle.model.specs.Search.{Step, Searched, pieces, candidateTable, forwardCheck, searchFrom, stepsFrom, lengthOf, latest, bestAfter}
 use Rattle.model.proofs.Search.Completions.{length-reverse, Shorter, NoShorter, shorter-or-not, shorter-le, shorter-not, shorter-lt, shorter-beats, Completes, laid}
 use Rattle.model.proofs.Lists.{not-both}
@@ -34,7 +35,7 @@ completed-cases s ss es c =
 
 -- ---- Falling lengths
 
-module _ (j : Job) (G : Layout → Type 0) where
+module _ (j : Problem) (G : Layout → Type 0) where
   -- The first of falling steps fall.
   falling-front : (h : Option Layout) (ss rs : List Step) → Falling j G h (ss ++ rs) → Falling j G h ss
   falling-front h [] rs f = tt
@@ -108,14 +109,14 @@ held-or-completed h (s ∷ ss) =
 -- ---- The whole walk
 
 -- A layout that passes, with its N entries.
-abbrev pub Laid : Job → Layout → Type 0
-Laid j es = Passes j es × (length es ≡ pieceCount j)
+abbrev pub Laid : Problem → Layout → Type 0
+Laid j es = Passes j es × (length es ≡ pieceCount (j .kinds))
 
-module _ (j : Job) (ok : Sensible j) where
+module _ (j : Problem) (ok : Sensible j) where
   -- The induction, for the whole walk: completions are the layouts that pass.
-  walk-ran : (h : Option Layout) → Ran j (Completes j (candidateTable j) (pieces j) []) (λ ns. laid j (pieces j) ns []) (Laid j) h (searchFrom j (candidateTable j) (lengthOf j h))
+  walk-ran : (h : Option Layout) → Ran j (Completes j (candidateTable j) (pieces (j .kinds)) []) (λ ns. laid j (pieces (j .kinds)) ns []) (Laid j) h (searchFrom j (candidateTable j) (lengthOf j h))
   walk-ran h =
-      search-ran j (candidateTable j) (Laid j) (table-rises j) (rw (length-pieces j) (ok .pieced)) h
+      search-ran j (candidateTable j) (Laid j) (table-rises j) (rw (length-pieces (j .kinds)) (ok .pieced)) h
       (λ ns c. (completion-passes j ns c, completion-length j ns c))
 
   -- What its steps complete falls in length and passes.
@@ -169,48 +170,48 @@ module _ (j : Job) (ok : Sensible j) where
 
   -- No completion is shorter than the layout held, and so no layout that passes is.
   none-passes : (h : Option Layout)
-      → ((ns : List ℕ) → Completes j (candidateTable j) (pieces j) [] ns → NoShorter j (layoutLength j (laid j (pieces j) ns [])) h)
+      → ((ns : List ℕ) → Completes j (candidateTable j) (pieces (j .kinds)) [] ns → NoShorter j (layoutLength j (laid j (pieces (j .kinds)) ns [])) h)
       → (fs : Layout) → Passes j fs → NoShorter j (layoutLength j fs) h
   none-passes h f fs p =
       let c = passing-completes j ok fs p in
       subst (λ (n : ℕ). NoShorter j n h) (sym (length-reverse j _) ∙ ap (layoutLength j) (c .1)) (f (map (entryNumber j) fs) (c .0))
 
-  module _ (ks : List ℕ) (c : Completes j (candidateTable j) (pieces j) [] ks)
-      (wins : (ns : List ℕ) → Completes j (candidateTable j) (pieces j) [] ns → Wins j (λ ns. laid j (pieces j) ns []) ks ns) where
+  module _ (ks : List ℕ) (c : Completes j (candidateTable j) (pieces (j .kinds)) [] ks)
+      (wins : (ns : List ℕ) → Completes j (candidateTable j) (pieces (j .kinds)) [] ns → Wins j (λ ns. laid j (pieces (j .kinds)) ns []) ks ns) where
     -- A completion that wins against every completion, beside a layout that passes.
     wins-against : (fs : Layout) → Passes j fs
-        → (layoutLength j (reverse (laid j (pieces j) ks [])) < layoutLength j fs)
-        ⊎ ((reverse (laid j (pieces j) ks []) ≡ fs) ⊎ Before j (reverse (laid j (pieces j) ks [])) fs)
-        × (layoutLength j (reverse (laid j (pieces j) ks [])) ≤ layoutLength j fs)
+        → (layoutLength j (reverse (laid j (pieces (j .kinds)) ks [])) < layoutLength j fs)
+        ⊎ ((reverse (laid j (pieces (j .kinds)) ks []) ≡ fs) ⊎ Before j (reverse (laid j (pieces (j .kinds)) ks [])) fs)
+        × (layoutLength j (reverse (laid j (pieces (j .kinds)) ks [])) ≤ layoutLength j fs)
     wins-against fs p = go (wins ns (q .0))
       where
         ns : List ℕ
         ns = map (entryNumber j) fs
 
-        q : Completes j (candidateTable j) (pieces j) [] ns × (reverse (laid j (pieces j) ns []) ≡ fs)
+        q : Completes j (candidateTable j) (pieces (j .kinds)) [] ns × (reverse (laid j (pieces (j .kinds)) ns []) ≡ fs)
         q = passing-completes j ok fs p
 
-        ours : layoutLength j (reverse (laid j (pieces j) ks [])) ≡ layoutLength j (laid j (pieces j) ks [])
-        ours = length-reverse j (laid j (pieces j) ks [])
+        ours : layoutLength j (reverse (laid j (pieces (j .kinds)) ks [])) ≡ layoutLength j (laid j (pieces (j .kinds)) ks [])
+        ours = length-reverse j (laid j (pieces (j .kinds)) ks [])
 
-        theirs : layoutLength j fs ≡ layoutLength j (laid j (pieces j) ns [])
-        theirs = ap (layoutLength j) (sym (q .1)) ∙ length-reverse j (laid j (pieces j) ns [])
+        theirs : layoutLength j fs ≡ layoutLength j (laid j (pieces (j .kinds)) ns [])
+        theirs = ap (layoutLength j) (sym (q .1)) ∙ length-reverse j (laid j (pieces (j .kinds)) ns [])
 
-        go : Wins j (λ ns. laid j (pieces j) ns []) ks ns
-            → (layoutLength j (reverse (laid j (pieces j) ks [])) < layoutLength j fs)
-            ⊎ ((reverse (laid j (pieces j) ks []) ≡ fs) ⊎ Before j (reverse (laid j (pieces j) ks [])) fs)
-            × (layoutLength j (reverse (laid j (pieces j) ks [])) ≤ layoutLength j fs)
+        go : Wins j (λ ns. laid j (pieces (j .kinds)) ns []) ks ns
+            → (layoutLength j (reverse (laid j (pieces (j .kinds)) ks [])) < layoutLength j fs)
+            ⊎ ((reverse (laid j (pieces (j .kinds)) ks []) ≡ fs) ⊎ Before j (reverse (laid j (pieces (j .kinds)) ks [])) fs)
+            × (layoutLength j (reverse (laid j (pieces (j .kinds)) ks [])) ≤ layoutLength j fs)
         go (inl l) = inl (omega (arith, ours, theirs))
         go (inr a) =
             inr (
-              ⊎-elim (λ e. inl (laid-layout j (pieces j) ks ∙ e ∙ sym (laid-layout j (pieces j) ns) ∙ q .1))
-                  (λ b. inr (subst₂ (Before j) (sym (laid-layout j (pieces j) ks)) (sym (laid-layout j (pieces j) ns) ∙ q .1) b))
-                  (not-after-before j (pieces j) ks ns (a .1)),
+              ⊎-elim (λ e. inl (laid-layout j (pieces (j .kinds)) ks ∙ e ∙ sym (laid-layout j (pieces (j .kinds)) ns) ∙ q .1))
+                  (λ b. inr (subst₂ (Before j) (sym (laid-layout j (pieces (j .kinds)) ks)) (sym (laid-layout j (pieces (j .kinds)) ns) ∙ q .1) b))
+                  (not-after-before j (pieces (j .kinds)) ks ns (a .1)),
               omega (arith, ours, theirs, a .0),
             )
 
     -- It lays out the first of the shortest.
-    wins-first : FirstOfShortest j (reverse (laid j (pieces j) ks []))
+    wins-first : FirstOfShortest j (reverse (laid j (pieces (j .kinds)) ks []))
     wins-first =
         record {
           passing = completion-passes j ks c;
@@ -225,11 +226,11 @@ module _ (j : Job) (ok : Sensible j) where
   unfolding stepsFrom
   walk-ends h = go (walk-ran h .found)
     where
-      go : Found j (Completes j (candidateTable j) (pieces j) []) (λ ns. laid j (pieces j) ns []) h (bestAfter h (stepsFrom j h))
+      go : Found j (Completes j (candidateTable j) (pieces (j .kinds)) []) (λ ns. laid j (pieces (j .kinds)) ns []) h (bestAfter h (stepsFrom j h))
           → ((es : Layout) × (bestAfter h (stepsFrom j h) ≡ some es) × FirstOfShortest j es × Shorter j (layoutLength j es) h)
           ⊎ ((bestAfter h (stepsFrom j h) ≡ h) × ((fs : Layout) → Passes j fs → NoShorter j (layoutLength j fs) h))
       go (stays e f) = inr (e, none-passes h f)
-      go (finds ks c e s w) = inl (reverse (laid j (pieces j) ks []), e, wins-first ks c w, rw (length-reverse j (laid j (pieces j) ks [])) s)
+      go (finds ks c e s w) = inl (reverse (laid j (pieces (j .kinds)) ks []), e, wins-first ks c w, rw (length-reverse j (laid j (pieces (j .kinds)) ks [])) s)
 
   -- If some layout passes that is shorter than the best that the walk begins with, the walk completes one, and the last that it completes
   -- is the first of the shortest. While it begins with none, every layout is shorter.
@@ -248,12 +249,12 @@ module _ (j : Job) (ok : Sensible j) where
   )
 
   -- Where look-ahead fails before the first step, the walk takes none, and no passing layout is shorter than the best that it begins with.
-  pub no-first-step : (h : Option Layout) → forwardCheck j (candidateTable j) (pieces j) [] (lengthOf j h) ≡ false
+  pub no-first-step : (h : Option Layout) → forwardCheck j (candidateTable j) (pieces (j .kinds)) [] (lengthOf j h) ≡ false
       → (stepsFrom j h ≡ []) × ((fs : Layout) → Passes j fs → NoShorter j (layoutLength j fs) h)
   unfolding stepsFrom
   no-first-step h e = (
     ap (λ (w : Searched). w .steps) (search-back j (candidateTable j) (lengthOf j h) e),
-    none-passes h (λ ns c. ⊎-elim (λ s. absurd (not-both (forward-keeps j (candidateTable j) (lengthOf j h) (pieces j) [] ns c (shorter-beats j _ h s)) e)) (λ s. s) (shorter-or-not j _ h)),
+    none-passes h (λ ns c. ⊎-elim (λ s. absurd (not-both (forward-keeps j (candidateTable j) (lengthOf j h) (pieces (j .kinds)) [] ns c (shorter-beats j _ h s)) e)) (λ s. s) (shorter-or-not j _ h)),
   )
 
   -- ---- With no best to begin with

@@ -6,7 +6,6 @@ use native.Mathlib.Omega.{arith}
 use denote.Ref.{now}
 use Rattle.words.specs.Bits.{bitsWhere}
 use Rattle.words.specs.Number.{filled}
-use Rattle.model.specs.Format.{content}
 use Rattle.model.specs.Lists.{below}
 use Rattle.model.specs.Services.{withWords, rowBit, rowWords}
 use Rattle.candidates.specs.Conflicts.{Near}
@@ -18,6 +17,7 @@ use Rattle.rows.proofs.RowLaws.{words-are}
 use borrow.Author.Needs.{needs}
 use Rattle.rows.proofs.fill_for.Statement.{statement}
 use Rattle.rows.proofs.fill_for.Tie as tie
+use Rattle.job.specs.View.{problemOf}
 
 piece-of-requires : tie.Need-piece-of-requires
 piece-of-requires c κs = search needs
@@ -92,7 +92,7 @@ returns c =
     (words-are s v (now (e .args .turned)) x (e .pre .0 .0 .turned) (e .args .kind) (e .args .other) (e .pre .0 .1 .kind) (e .pre .0 .1 .other) (first .piece-of .result) (second .piece-of2 .result)
     (first .piece-of .ensures) (second .piece-of2 .ensures) (e .args .boxes) (e .pre .0 .0 .boxes) (gap .pair-gap .result) (e .args .number)
     (gap .pair-gap .ensures ∙ gap-is s v x (e .args .kind) (e .args .other) (e .pre .0 .1 .kind) (e .pre .0 .1 .other)) n
-    ∙ ap (λ m. map (λ w. bitsWhere 64 (λ i. rowBit (content s) (e .args .kind) (e .args .number) (e .args .other) (w * 64 + i))) (below m)) (word-count s v x))
+    ∙ ap (λ m. map (λ w. bitsWhere 64 (λ i. rowBit (problemOf s v) (e .args .kind) (e .args .number) (e .args .other) (w * 64 + i))) (below m)) (word-count s v x))
 
 pub fill-for-spec : {M : Type 1} → statement M
 fill-for-spec =

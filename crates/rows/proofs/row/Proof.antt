@@ -1,25 +1,33 @@
 -- `rows::row` meets its contract. Assumes nothing.
 use mathlib.Core.Path.{_≡_, refl, sym, ap, _∙_}
 use denote.Ref.{now}
+use Rattle.model.specs.Format.{content}
+use Rattle.model.specs.Problem.{under}
+use Rattle.model.specs.Services.{refusalUnder, rowContent}
 use Rattle.model.specs.declared.Written.the-variants as W
+use Rattle.model.proofs.Margin.{accepted-under}
 use Rattle.shapes.specs.Turned.{Viewed}
 use Rattle.rows.proofs.AnswerLaws.{row-refused, row-accepted}
 use borrow.Author.Needs.{needs}
 use Rattle.rows.proofs.row.Statement.{statement}
 use Rattle.rows.proofs.row.Tie as tie
 
-open-requires : tie.Need-open-requires
-open-requires c κs = search needs
+open-under-requires : tie.Need-open-under-requires
+open-under-requires c κs = search needs
 
--- the job is accepted, and this is its view
-viewed : (c : tie.Else1) → Viewed (now (c .before .before .before .before .args .job)) (c .before .«open» .result .view)
-viewed c = record { accepted = sym (c .before .«open» .ensures .0) ∙ c .if1 .left; view = c .before .«open» .ensures .1 (c .if1 .left) }
+-- job and margin are accepted
+accepted : (c : tie.Else1) → refusalUnder (c .before .before .before .before .args .margin) (now (c .before .before .before .before .args .job)) ≡ 0
+accepted c = sym (c .before .open-under .ensures .0) ∙ c .if1 .left
+
+-- this is the job's view
+viewed : (c : tie.Else1) → Viewed (now (c .before .before .before .before .args .job)) (c .before .open-under .result .view)
+viewed c = record { accepted = accepted-under _ _ (accepted c) .0; view = c .before .open-under .ensures .1 (c .if1 .left) .0 }
 
 returns : tie.Need-returns
 returns c =
-    let o = c .before .«open» in
+    let o = c .before .open-under in
     let e = c .before .before .before .before in
-    let q = row-refused (now (e .args .job)) (e .args .kind) (e .args .number) (e .args .other) (now (e .args .row)) (λ z. c .if1 .taken (o .ensures .0 ∙ z)) in
+    let q = row-refused (now (e .args .job)) (e .args .margin) (e .args .kind) (e .args .number) (e .args .other) (now (e .args .row)) (λ z. c .if1 .taken (o .ensures .0 ∙ z)) in
     (ap W.Refused (o .ensures .0) ∙ sym (ap (λ w. w .answer) q), sym (ap (λ w. w .buffer) q))
 
 slice-aggregate-turn-all : tie.Need-slice-aggregate-turn-all
@@ -50,14 +58,15 @@ returns-2 c =
     let call = c .before .before in
     let test = call .before .before .before .before .before .before .before .before .before in
     let e = test .before .before .before .before in
-    let q = row-accepted (now (e .args .job)) (e .args .kind) (e .args .number) (e .args .other) (now (e .args .row)) (viewed test .accepted) in
-    (call .row-content .ensures .0 ∙ sym (ap (λ w. w .answer) q), call .row-content .ensures .1 ∙ sym (ap (λ w. w .buffer) q))
+    let q = row-accepted (now (e .args .job)) (e .args .margin) (e .args .kind) (e .args .number) (e .args .other) (now (e .args .row)) (accepted test) in
+    let m = ap (λ m. rowContent (under m (content (now (e .args .job)))) (e .args .kind) (e .args .number) (e .args .other) (now (e .args .row))) (test .before .open-under .ensures .1 (test .if1 .left) .1) in
+    (call .row-content .ensures .0 ∙ ap (λ w. w .answer) (m ∙ sym q), call .row-content .ensures .1 ∙ ap (λ w. w .buffer) (m ∙ sym q))
 
 pub row-spec : {M : Type 1} → statement M
 row-spec =
     tie.close
     (tie.spec
-    open-requires
+    open-under-requires
     returns
     slice-aggregate-turn-all
     turn-all-requires

@@ -3,7 +3,6 @@ use mathlib.Core.Path.{_≡_, sym, ap, _∙_}
 use native.Mathlib.Omega.{arith}
 use borrow.Author.Tests.{not-true, not-false}
 use denote.Ref.{now}
-use Rattle.model.specs.Format.{content}
 use Rattle.model.specs.declared.Written.the-variants as W
 use Rattle.rows.specs.Rows.{RowAsked}
 use Rattle.rows.proofs.AnswerLaws.{few-dots, word-count, kinds-exist, kind-absent, candidate-absent, all-exist, row-absent, row-short, row-written}
@@ -11,9 +10,10 @@ use Rattle.candidates.proofs.PreparedLaws.{bounded, offered-is}
 use borrow.Author.Needs.{needs}
 use Rattle.rows.proofs.row_content.Statement.{statement}
 use Rattle.rows.proofs.row_content.Tie as tie
+use Rattle.job.specs.View.{problemOf}
 
 -- the candidate and both kinds exist
-asked : (c : tie.Else2) → RowAsked (now (c .before .before .before .before .before .before .before .args .job)) (c .before .before .before .before .before .before .before .args .kind)
+asked : (c : tie.Else2) → RowAsked (now (c .before .before .before .before .before .before .before .args .job)) (c .before .before .before .before .before .before .before .args .view .margin) (c .before .before .before .before .before .before .before .args .kind)
     (c .before .before .before .before .before .before .before .args .number) (c .before .before .before .before .before .before .before .args .other)
 asked c =
     let e = c .before .before .before .before .before .before .before in
@@ -33,7 +33,7 @@ returns c =
     let s = now (e .args .job) in
     let v = e .args .view in
     let x = e .pre .viewed in
-    let q = row-absent (content s) (e .args .kind) (e .args .number) (e .args .other) (now (e .args .row)) (kind-absent s v x (e .args .kind) (e .args .number) (e .args .other) (c .if1 .taken)) in
+    let q = row-absent (problemOf s v) (e .args .kind) (e .args .number) (e .args .other) (now (e .args .row)) (kind-absent s v x (e .args .kind) (e .args .number) (e .args .other) (c .if1 .taken)) in
     (sym (ap (λ o. o .answer) q), sym (ap (λ o. o .buffer) q))
 
 is-candidate-requires : tie.Need-is-candidate-requires
@@ -51,8 +51,8 @@ returns-2 c =
     let v = e .args .view in
     let x = e .pre .viewed in
     let h = kinds-exist s v x (e .args .kind) (e .args .other) (c .before .before .if1 .left) in
-    let q = row-absent (content s) (e .args .kind) (e .args .number) (e .args .other) (now (e .args .row))
-    (candidate-absent (content s) (e .args .kind) (e .args .number) (e .args .other) (sym (offered-is s v (e .args .boxes) x (e .pre .boxes) (e .args .kind) (h .0) (e .args .number)) ∙ sym (c .before .is-candidate .ensures) ∙ not-true _ (c .if2 .taken))) in
+    let q = row-absent (problemOf s v) (e .args .kind) (e .args .number) (e .args .other) (now (e .args .row))
+    (candidate-absent (problemOf s v) (e .args .kind) (e .args .number) (e .args .other) (sym (offered-is s v (e .args .boxes) x (e .pre .boxes) (e .args .kind) (h .0) (e .args .number)) ∙ sym (c .before .is-candidate .ensures) ∙ not-true _ (c .if2 .taken))) in
     (sym (ap (λ o. o .answer) q), sym (ap (λ o. o .buffer) q))
 
 mul-n : tie.Need-mul-n
@@ -71,7 +71,7 @@ returns-3 c =
     let s = now (e .args .job) in
     let v = e .args .view in
     let x = e .pre .viewed in
-    let q = row-short (content s) (e .args .kind) (e .args .number) (e .args .other) (now (e .args .row)) (all-exist s (e .args .kind) (e .args .number) (e .args .other) (asked (c .before .before)))
+    let q = row-short (problemOf s v) (e .args .kind) (e .args .number) (e .args .other) (now (e .args .row)) (all-exist s (v .margin) (e .args .kind) (e .args .number) (e .args .other) (asked (c .before .before)))
     (rw (word-count s v x) at (c .if3 .taken)) in
     (sym (ap (λ o. o .answer) q), sym (ap (λ o. o .buffer) q))
 
@@ -97,7 +97,7 @@ returns-4 c =
     let s = now (e .args .job) in
     let v = e .args .view in
     let x = e .pre .viewed in
-    let q = row-written (content s) (e .args .kind) (e .args .number) (e .args .other) (now (e .args .row)) (all-exist s (e .args .kind) (e .args .number) (e .args .other) (asked (c .before .before .before .before .before .before)))
+    let q = row-written (problemOf s v) (e .args .kind) (e .args .number) (e .args .other) (now (e .args .row)) (all-exist s (v .margin) (e .args .kind) (e .args .number) (e .args .other) (asked (c .before .before .before .before .before .before)))
     (rw (word-count s v x) at (c .before .before .before .before .if3 .left)) in
     (ap W.Count (word-count s v x) ∙ sym (ap (λ o. o .answer) q), c .before .before .fill-for .ensures ∙ sym (ap (λ o. o .buffer) q))
 

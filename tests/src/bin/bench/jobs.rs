@@ -1,10 +1,12 @@
-//! Jobs to measure: from small to the largest that the format allows, heavy and long pieces, and three series that grow one thing.
+//! Jobs to measure: from small to the largest that the format allows, heavy and long pieces, three series that
+//! grow one thing, and two of the jobs again under a margin.
 
 use nest_tests::draft::{encode, Arrangement, Draft};
 
 pub struct BenchJob {
     pub name: String,
     pub bytes: Vec<u8>,
+    pub margin: u8,
 }
 
 const SHAPES: [&[(i8, i8)]; 4] = [
@@ -15,7 +17,7 @@ const SHAPES: [&[(i8, i8)]; 4] = [
 ];
 
 fn named(name: String, draft: Draft) -> BenchJob {
-    BenchJob { name, bytes: encode(&draft, &Arrangement::plain()).bytes }
+    BenchJob { name, bytes: encode(&draft, &Arrangement::plain()).bytes, margin: 0 }
 }
 
 /// A board of so many rows and columns, with so many types and pieces, in all four turns.
@@ -26,6 +28,11 @@ fn grid(name: &str, rows: u16, columns: u16, types: usize, pieces: usize) -> Ben
         draft = draft.with(demand as u8, 15, (kind % 3) as u8, &[SHAPES[kind % SHAPES.len()]]);
     }
     named(format!("{name}: {}d {types}t {pieces}p", rows * columns), draft)
+}
+
+/// Such a board on a sheet that is held by its edges.
+fn clamped(margin: u8, rows: u16, columns: u16, types: usize, pieces: usize) -> BenchJob {
+    BenchJob { margin, ..grid(&format!("margin {margin}"), rows, columns, types, pieces) }
 }
 
 /// Pieces of six parts of eight corners, as many as fit into 1024 bytes.
@@ -67,5 +74,7 @@ pub fn bench_jobs() -> Vec<BenchJob> {
     jobs.extend([24, 32, 64, 128].map(|columns| grid("dots grow", 8, columns, 4, 8)));
     jobs.extend([1, 2, 4, 8].map(|types| grid("types grow", 8, 48, types, 8)));
     jobs.extend([6, 8, 10, 12].map(|pieces| grid("pieces grow", 8, 48, 2, pieces)));
+    // The middle and the largest again.
+    jobs.extend([clamped(2, 16, 16, 4, 8), clamped(2, 32, 32, 8, 12)]);
     jobs
 }

@@ -10,6 +10,7 @@ use std::hint::black_box;
 
 use jobs::{bench_jobs, BenchJob};
 use measure::best_time;
+use nest_tests::answer::Answer;
 use opponent::job::{read, Job};
 use opponent::rows::{Board, Rows};
 use opponent::walk::Walk;
@@ -39,9 +40,9 @@ fn check_agreement(bench: &BenchJob) {
     let budget = 100_000;
     let mut work = vec![0; 49_152];
     let mut answer = vec![0; 96];
-    let got = nest::run(&bench.bytes, budget, &mut work, &mut answer);
+    let got = nested(bench, budget, &mut work, &mut answer);
     let job = read(&bench.bytes).expect("an accepted job");
-    let walked = whole_walk(&job, budget.into());
+    let walked = whole_walk(bench, &job, budget.into());
     let length = walked.best.map_or(0, |(length, _)| length as u16);
     assert_eq!((u64::from(got.steps), got.count), (walked.steps, length), "{}", bench.name);
     let number = |i: usize| {
@@ -53,8 +54,18 @@ fn check_agreement(bench: &BenchJob) {
     }
 }
 
-fn whole_walk(job: &Job, budget: u64) -> opponent::walk::Outcome {
-    let board = Board::new(job);
+/// The proved engine's run, under the margin that belongs to the job.
+fn nested(bench: &BenchJob, budget: u32, work: &mut [u8], answer: &mut [u8]) -> Answer {
+    nest::run(&bench.bytes, bench.margin.into(), budget, work, answer)
+}
+
+/// The other engine's board, under the same margin.
+fn board_of<'a>(bench: &BenchJob, job: &'a Job) -> Board<'a> {
+    Board::new(job, bench.margin.into())
+}
+
+fn whole_walk(bench: &BenchJob, job: &Job, budget: u64) -> opponent::walk::Outcome {
+    let board = board_of(bench, job);
     let mut rows = Rows::new(&board);
     Walk::new(&board, &mut rows).run(budget)
 }
@@ -80,11 +91,12 @@ fn rows(jobs: &[BenchJob]) {
     let mut words = vec![0; 64];
     for bench in jobs {
         let job = read(&bench.bytes).expect("an accepted job");
-        let board = Board::new(&job);
+        let board = board_of(bench, &job);
         let kind = job.kind_count - 1;
         let Some(number) = middle_candidate(&board, kind) else { continue };
         let tests = board.row(kind, number, 0, &mut words) as f64;
-        let proved = best_time(|| nest::row(&bench.bytes, kind as u64, number as u64, 0, &mut bytes));
+        let margin = bench.margin.into();
+        let proved = best_time(|| nest::row(&bench.bytes, margin, kind as u64, number as u64, 0, &mut bytes));
         let plain = best_time(|| board.row(kind, number, 0, &mut words));
         let (fast, slow, ratio) = (tests / plain / 1e6, tests / proved / 1e6, proved / plain);
         println!("{:<28} {tests:>6} {slow:>9.2} {fast:>9.2} {ratio:>7.2}", bench.name);
@@ -130,15 +142,15 @@ fn run(bench: &BenchJob) -> StepCost {
     let mut work = vec![0xA5; 49_152];
     let mut answer = vec![0xA5; 96];
     let budget = affordable_budget(bench, &mut work, &mut answer);
-    let steps = nest::run(&bench.bytes, budget, &mut work, &mut answer).steps.max(1);
-    let proved = best_time(|| nest::run(&bench.bytes, budget, &mut work, &mut answer));
-    let board = Board::new(&job);
+    let steps = nested(bench, budget, &mut work, &mut answer).steps.max(1);
+    let proved = best_time(|| nested(bench, budget, &mut work, &mut answer));
+    let board = board_of(bench, &job);
     let mut rows = Rows::new(&board);
     let set_up = best_time(|| {
-        let board = Board::new(&job);
+        let board = board_of(bench, &job);
         black_box(&Rows::new(&board));
     });
-    let whole = best_time(|| whole_walk(&job, budget.into()).steps);
+    let whole = best_time(|| whole_walk(bench, &job, budget.into()).steps);
     // The first call builds the rows, those that are timed find them.
     let walk = best_time(|| Walk::new(&board, &mut rows).run(budget.into()).steps);
     println!(
@@ -169,8 +181,8 @@ fn budgets(jobs: &[BenchJob]) {
     for bench in jobs {
         print!("{:<28}", bench.name);
         for budget in growing {
-            let steps = nest::run(&bench.bytes, budget, &mut work, &mut answer).steps;
-            let time = best_time(|| nest::run(&bench.bytes, budget, &mut work, &mut answer));
+            let steps = nested(bench, budget, &mut work, &mut answer).steps;
+            let time = best_time(|| nested(bench, budget, &mut work, &mut answer));
             print!(" {:>9.2}", time / f64::from(steps.max(1)) * 1e6);
             if steps < budget {
                 break;
@@ -185,7 +197,7 @@ fn affordable_budget(bench: &BenchJob, work: &mut [u8], answer: &mut [u8]) -> u3
     let mut budget = 16;
     while budget < 1 << 20 {
         let start = std::time::Instant::now();
-        let got = nest::run(&bench.bytes, budget, work, answer);
+        let got = nested(bench, budget, work, answer);
         if got.steps < budget || start.elapsed().as_secs_f64() > 0.25 {
             break;
         }

@@ -10,12 +10,15 @@ use crate::report::Report;
 
 /// Null, and two places where no byte can be read: the second, and the last of all.
 const PLACES: [usize; 3] = [0, 1, usize::MAX];
+/// None, one under which the job has no candidate, and the first that is refused.
+const MARGINS: [u64; 3] = [0, 1, 64];
 
 struct Service {
     name: &'static str,
     /// The bytes of each buffer of the call.
     buffers: Vec<Vec<u8>>,
-    call: fn(&[Given]) -> Answer,
+    /// The service on these buffers, under this margin if it takes one.
+    call: fn(&[Given], u64) -> Answer,
 }
 
 /// The services on the job that document 01 prints, each with buffers that are long enough.
@@ -23,25 +26,29 @@ fn services(noise: &mut Noise) -> [Service; 4] {
     let job = PRINTED.to_vec();
     let layout = vec![0, 0, 0, 0, 0, 0, 0, 0, 0, 0, 2, 0, 0, 0, 0, 0];
     let (numbers, words, answer) = (noise.bytes(100), noise.bytes(64), noise.bytes(16));
-    // SAFETY of the calls: `agrees` gives places in buffers of its own, or a length of 0.
+    // SAFETY of the calls: `asked` gives places in buffers of its own, or a length of 0.
     [
-        Service { name: "read", buffers: vec![job.clone(), numbers], call: |b| unsafe { read_at(b[0], b[1]) } },
+        Service { name: "read", buffers: vec![job.clone(), numbers], call: |b, _| unsafe { read_at(b[0], b[1]) } },
         Service {
             name: "row",
             buffers: vec![job.clone(), words.clone()],
-            call: |b| unsafe { row_at(b[0], 0, 0, 0, b[1]) },
+            call: |b, margin| unsafe { row_at(b[0], margin, 0, 0, 0, b[1]) },
         },
-        Service { name: "check", buffers: vec![job.clone(), layout], call: |b| unsafe { check_at(b[0], b[1]) } },
+        Service {
+            name: "check",
+            buffers: vec![job.clone(), layout],
+            call: |b, margin| unsafe { check_at(b[0], margin, b[1]) },
+        },
         Service {
             name: "run",
             buffers: vec![job, words, answer],
-            call: |b| unsafe { run_at(b[0], 1_000_000, b[1], b[2]) },
+            call: |b, margin| unsafe { run_at(b[0], margin, 1_000_000, b[1], b[2]) },
         },
     ]
 }
 
 /// What a call answers, and the buffers after it: those named by a bit of `empty` are given with length 0, at this place if there is one.
-fn asked(service: &Service, empty: usize, place: Option<usize>) -> (Answer, Vec<Vec<u8>>) {
+fn asked(service: &Service, margin: u64, empty: usize, place: Option<usize>) -> (Answer, Vec<Vec<u8>>) {
     let mut buffers = service.buffers.clone();
     let given: Vec<Given> = buffers
         .iter_mut()
@@ -52,24 +59,30 @@ fn asked(service: &Service, empty: usize, place: Option<usize>) -> (Answer, Vec<
             (_, Some(place)) => (place as *mut u8, 0),
         })
         .collect();
-    ((service.call)(&given), buffers)
+    ((service.call)(&given, margin), buffers)
 }
 
-/// Every service, with every choice of buffers that are empty, at every place.
+/// Every service, under every margin, with every choice of buffers that are empty.
 pub fn empty_buffers(noise: &mut Noise, report: &mut Report) {
     report.origin = "empty buffers".to_string();
     for service in services(noise) {
-        for empty in 1..1 << service.buffers.len() {
-            let (expected, left) = asked(&service, empty, None);
-            for place in PLACES {
-                report.note("calls with an empty buffer at null or where no byte can be read");
-                let (got, now) = asked(&service, empty, Some(place));
-                if got != expected || now != left {
-                    let name = service.name;
-                    let what = format!("{name}, buffers {empty:b} empty at {place:#x}: {got:?}, expected {expected:?}");
-                    report.mismatch(&what, &PRINTED);
-                }
+        for margin in MARGINS {
+            for empty in 1..1 << service.buffers.len() {
+                at_every_place(&service, margin, empty, report);
             }
+        }
+    }
+}
+
+fn at_every_place(service: &Service, margin: u64, empty: usize, report: &mut Report) {
+    let (expected, left) = asked(service, margin, empty, None);
+    for place in PLACES {
+        report.note("calls with an empty buffer at null or where no byte can be read");
+        let (got, now) = asked(service, margin, empty, Some(place));
+        if got != expected || now != left {
+            let name = service.name;
+            let what = format!("{name}, buffers {empty:b} empty at {place:#x}: {got:?}, expected {expected:?}");
+            report.mismatch(&what, &PRINTED, margin);
         }
     }
 }

@@ -1,47 +1,20 @@
-//! Calls each service on a job with buffers of many sizes and compares answers and every byte lent with
-//! what the reference gives.
+//! Calls each service on a job and a margin with buffers of many sizes and compares answers and every byte lent
+//! with what the reference gives.
 
 use nest_tests::answer::Answer;
 use nest_tests::noise::Noise;
 use nest_tests::reference::board::{Board, Piece};
+use nest_tests::reference::exhaustive;
 use nest_tests::reference::layout::to_numbers;
-use nest_tests::reference::services::{self, bytes_of, content, work_words, Reading};
-use nest_tests::reference::{exhaustive, walk};
+use nest_tests::reference::services::{self, bytes_of, content, work_words};
 
+use crate::case::Case;
 use crate::lent::{awkward_lengths, Lent};
 use crate::nest;
 use crate::report::{hexadecimal, Report};
 
 /// Boards with at most this many layouts are also searched exhaustively.
 const LAYOUTS_AT_MOST: u64 = 4000;
-/// Walks are followed to their end up to this many steps.
-const STEPS_AT_MOST: u64 = 2000;
-
-pub struct Case {
-    pub bytes: Vec<u8>,
-    pub reading: Reading,
-    /// The same job with its classes in another order.
-    pub reordered: Option<Vec<u8>>,
-    /// The walk to its end, where it is short enough.
-    walked: Option<walk::Walked>,
-}
-
-impl Case {
-    pub fn new(bytes: Vec<u8>, reordered: Option<Vec<u8>>) -> Case {
-        let reading = Board::read(&bytes);
-        let walked = reading.as_ref().ok().map(|board| walk::walk(board, step_limit(board)));
-        Case { bytes, reading, reordered, walked }
-    }
-}
-
-/// On boards with many candidates a step of the plain walk is slow.
-fn step_limit(board: &Board) -> u64 {
-    let candidates: usize = board.candidates.iter().map(Vec::len).sum();
-    match candidates {
-        0..=1500 => STEPS_AT_MOST,
-        _ => 30,
-    }
-}
 
 pub struct Harness<'a> {
     pub noise: &'a mut Noise,
@@ -55,20 +28,27 @@ impl Harness<'_> {
         self.checks(case);
         self.runs(case);
         self.exhaustive_search(case);
+        self.other_margins(case);
+        self.refused_margins(case);
+    }
+
+    fn mismatch(&mut self, case: &Case, what: &str) {
+        self.report.mismatch(what, &case.bytes, case.margin);
     }
 
     fn judge(&mut self, service: &'static str, case: &Case, call: &str, got: Answer, expected: Answer) {
         self.report.call(service, expected);
+        if expected.number == 0 && service != "read" && case.margin > 0 {
+            self.report.note("answers that are no refusals under a margin above 0");
+        }
         if got != expected {
-            let what = format!("{service} {call}: got {got:?}, expected {expected:?}");
-            self.report.mismatch(&what, &case.bytes);
+            self.mismatch(case, &format!("{service} {call}: got {got:?}, expected {expected:?}"));
         }
     }
 
     fn compare_bytes(&mut self, service: &str, case: &Case, call: &str, buffer: &str, got: &Lent, expected: &Lent) {
         if let Some(difference) = got.difference(expected) {
-            let what = format!("{service} {call}: {buffer}: {difference}");
-            self.report.mismatch(&what, &case.bytes);
+            self.mismatch(case, &format!("{service} {call}: {buffer}: {difference}"));
         }
     }
 
@@ -90,8 +70,8 @@ impl Harness<'_> {
                 let length = self.any_length();
                 self.read(case, length);
             }
-            Ok(board) => {
-                let needed = 2 * content(board).len();
+            Ok(job) => {
+                let needed = 2 * content(job).len();
                 for length in awkward_lengths(needed, 2) {
                     self.read(case, length);
                 }
@@ -128,20 +108,19 @@ impl Harness<'_> {
         self.report.note("calls with the classes reordered");
         let same_bytes = buffers.iter().all(|(one, other)| one.difference(other).is_none());
         if answers.0 != answers.1 || !same_bytes {
-            let what = format!("{service} {call}: another result with the classes in another order");
-            self.report.mismatch(&what, &case.bytes);
+            self.mismatch(case, &format!("{service} {call}: another result with the classes in another order"));
         }
     }
 
     // Row.
 
     fn rows(&mut self, case: &Case) {
-        let Ok(board) = &case.reading else {
+        let Ok(board) = &case.clamped else {
             let length = self.any_length();
             let (kind, number, other) = (self.noise.next() % 9, self.noise.next() % 4097, self.noise.next() % 9);
             return self.row(case, kind, number, other, length);
         };
-        let needed = 8 * board.words();
+        let needed = 8 * board.job.words();
         for _ in 0..3 {
             let Some((kind, number, other)) = self.good_row(board) else { break };
             let short = awkward_lengths(needed, 8);
@@ -156,7 +135,7 @@ impl Harness<'_> {
         }
     }
 
-    fn good_row(&mut self, board: &Board) -> Option<(u64, u64, u64)> {
+    pub fn good_row(&mut self, board: &Board) -> Option<(u64, u64, u64)> {
         let kinds = board.job.types.len();
         let kind = self.noise.below(kinds);
         let list = &board.candidates[kind];
@@ -172,7 +151,7 @@ impl Harness<'_> {
         let kinds = board.job.types.len() as u64;
         let (mut kind, mut number, mut other) = self.good_row(board).unwrap_or((0, 0, 0));
         let past = self.noise.pick(&[kinds, kinds + 1, 8, 255, 256, 1 << 16, 1 << 32, 1 << 63, u64::MAX]);
-        let all = 4 * board.dots() as u64;
+        let all = 4 * board.job.dots() as u64;
         match self.noise.below(6) {
             0 => kind = past.max(kinds),
             1 => other = past.max(kinds),
@@ -184,20 +163,26 @@ impl Harness<'_> {
         (kind, number, other)
     }
 
-    fn row(&mut self, case: &Case, kind: u64, number: u64, other: u64, length: usize) {
+    /// Arguments that name a candidate, or do not.
+    pub fn any_row(&mut self, board: &Board) -> (u64, u64, u64) {
+        let good = self.good_row(board).filter(|_| self.noise.one_in(2));
+        good.unwrap_or_else(|| self.bad_row(board))
+    }
+
+    pub fn row(&mut self, case: &Case, kind: u64, number: u64, other: u64, length: usize) {
         let call = format!("of type {kind} number {number} against {other} with {length} row bytes");
         let lent = Lent::noisy(self.noise, length);
         let job = Lent::holding(self.noise, &case.bytes);
         let kept_job = job.clone();
         let (mut got_bytes, mut expected_bytes) = (lent.clone(), lent.clone());
-        let expected = services::row(&case.reading, kind, number, other, expected_bytes.bytes_mut());
-        let got = nest::row(job.bytes(), kind, number, other, got_bytes.bytes_mut());
+        let expected = services::row(&case.clamped, kind, number, other, expected_bytes.bytes_mut());
+        let got = nest::row(job.bytes(), case.margin, kind, number, other, got_bytes.bytes_mut());
         self.judge("row", case, &call, got, expected);
         self.compare_bytes("row", case, &call, "row", &got_bytes, &expected_bytes);
         self.compare_read_only("row", case, &call, &job, &kept_job);
         if let Some(job) = &case.reordered {
             let mut other_bytes = lent;
-            let other_answer = nest::row(job, kind, number, other, other_bytes.bytes_mut());
+            let other_answer = nest::row(job, case.margin, kind, number, other, other_bytes.bytes_mut());
             self.same_for_reordered("row", case, &call, (got, other_answer), &[(&got_bytes, &other_bytes)]);
         }
     }
@@ -205,20 +190,16 @@ impl Harness<'_> {
     // Check.
 
     fn checks(&mut self, case: &Case) {
-        let Ok(board) = &case.reading else {
+        let Ok(board) = &case.clamped else {
             let length = self.any_length();
             let layout = self.noise.bytes(length);
             return self.check(case, &layout);
         };
-        let best = case.walked.as_ref().and_then(|w| w.best.clone());
-        let mut layouts: Vec<Vec<Piece>> = best.into_iter().collect();
-        layouts.extend((0..3).filter_map(|_| self.random_layout(board)));
-        for layout in layouts {
-            let numbers = to_numbers(board, &layout);
+        for numbers in self.layouts(case, board) {
             self.check(case, &bytes_of(&numbers));
             self.spoilt_checks(case, board, &numbers);
         }
-        let needed = 8 * board.pieces();
+        let needed = 8 * board.job.pieces();
         for length in awkward_lengths(needed, 2) {
             let layout = self.noise.bytes(length);
             self.check(case, &layout);
@@ -226,10 +207,28 @@ impl Harness<'_> {
         self.check_within_job(case, board);
     }
 
+    /// The best layout of the walk, if there is one, and some at random, as numbers.
+    pub fn layouts(&mut self, case: &Case, board: &Board) -> Vec<Vec<u16>> {
+        let mut layouts: Vec<Vec<Piece>> = case.best().map(<[Piece]>::to_vec).into_iter().collect();
+        layouts.extend((0..3).filter_map(|_| self.random_layout(board)));
+        layouts.iter().map(|layout| to_numbers(board, layout)).collect()
+    }
+
+    /// The bytes of the best layout, or noise in their place.
+    pub fn any_layout(&mut self, case: &Case, board: &Board) -> Vec<u8> {
+        match case.best().filter(|_| self.noise.one_in(2)) {
+            Some(best) => bytes_of(&to_numbers(board, best)),
+            None => {
+                let length = self.noise.pick(&awkward_lengths(8 * board.job.pieces(), 2));
+                self.noise.bytes(length)
+            }
+        }
+    }
+
     /// Candidates at random, mostly clear of those before, in order.
     fn random_layout(&mut self, board: &Board) -> Option<Vec<Piece>> {
         let mut layout: Vec<Piece> = Vec::new();
-        for (kind, demand) in board.demands().into_iter().enumerate() {
+        for (kind, demand) in board.job.demands().into_iter().enumerate() {
             for _ in 0..demand {
                 let list = &board.candidates[kind];
                 if list.is_empty() {
@@ -263,7 +262,7 @@ impl Harness<'_> {
                 3 => {
                     // Another column and row with the same candidate number.
                     other[entry + 1] = other[entry + 1].wrapping_sub(1);
-                    other[entry + 2] = other[entry + 2].wrapping_add(board.rows() as u16);
+                    other[entry + 2] = other[entry + 2].wrapping_add(board.job.rows() as u16);
                 }
                 4 => {
                     // Another row and turn with the same candidate number.
@@ -292,18 +291,18 @@ impl Harness<'_> {
         self.check(case, &bytes);
     }
 
-    fn check(&mut self, case: &Case, layout: &[u8]) {
+    pub fn check(&mut self, case: &Case, layout: &[u8]) {
         let call = format!("of layout {}", hexadecimal(layout));
         let layout = Lent::holding(self.noise, layout);
         let job = Lent::holding(self.noise, &case.bytes);
-        let expected = services::check(&case.reading, layout.bytes());
+        let expected = services::check(&case.clamped, layout.bytes());
         let (kept_job, kept_layout) = (job.clone(), layout.clone());
-        let got = nest::check(job.bytes(), layout.bytes());
+        let got = nest::check(job.bytes(), case.margin, layout.bytes());
         self.judge("check", case, &call, got, expected);
         self.compare_read_only("check", case, &call, &job, &kept_job);
         self.compare_read_only("check", case, &call, &layout, &kept_layout);
         if let Some(other) = &case.reordered {
-            let other_answer = nest::check(other, layout.bytes());
+            let other_answer = nest::check(other, case.margin, layout.bytes());
             self.same_for_reordered("check", case, &call, (got, other_answer), &[]);
         }
     }
@@ -311,25 +310,24 @@ impl Harness<'_> {
     /// Check changes no buffer, so the layout may lie among the job's own bytes: here in front of it all,
     /// in bytes of no section.
     fn check_within_job(&mut self, case: &Case, board: &Board) {
-        let Some(best) = case.walked.as_ref().and_then(|w| w.best.as_ref()) else { return };
+        let Some(best) = case.best() else { return };
         let layout = bytes_of(&to_numbers(board, best));
         let Some(bytes) = put_in_front(&case.bytes, &layout) else { return };
-        let reading = Board::read(&bytes);
-        let expected = services::check(&reading, &layout);
-        let job = Lent::holding(self.noise, &bytes);
-        let got = nest::check(job.bytes(), &job.bytes()[..layout.len()]);
-        let held = Case { bytes, reading, reordered: None, walked: None };
+        let held = Case::new(bytes, case.margin, None);
+        let expected = services::check(&held.clamped, &layout);
+        let job = Lent::holding(self.noise, &held.bytes);
+        let got = nest::check(job.bytes(), held.margin, &job.bytes()[..layout.len()]);
         self.judge("check", &held, "of a layout within the job", got, expected);
     }
 
     // Run.
 
     fn runs(&mut self, case: &Case) {
-        let Ok(board) = &case.reading else {
+        let Ok(board) = &case.clamped else {
             let (work, answer, budget) = (self.any_length(), self.any_length(), self.noise.next() as u32);
             return self.run(case, budget, work, answer);
         };
-        let (work, answer) = (8 * work_words(board), 8 * board.pieces());
+        let (work, answer) = (8 * work_words(&board.job), 8 * board.job.pieces());
         for budget in self.budgets(case) {
             let work_length = work + self.noise.pick(&[0, 0, 1, 7, 8, 100]);
             let answer_length = answer + self.noise.pick(&[0, 0, 1, 2, 100]);
@@ -349,7 +347,7 @@ impl Harness<'_> {
 
     /// None, one, the needed steps and their neighbours, as many as there can be, and some on the way.
     fn budgets(&mut self, case: &Case) -> Vec<u32> {
-        let walked = case.walked.as_ref().expect("an accepted job was walked");
+        let walked = case.walked().expect("nothing is refused");
         let taken = walked.steps as u32;
         let mut budgets = vec![0, 1];
         for _ in 0..2 {
@@ -363,7 +361,7 @@ impl Harness<'_> {
         budgets
     }
 
-    fn run(&mut self, case: &Case, budget: u32, work_length: usize, answer_length: usize) {
+    pub fn run(&mut self, case: &Case, budget: u32, work_length: usize, answer_length: usize) {
         let call = format!("with budget {budget}, {work_length} work bytes, {answer_length} answer bytes");
         let (work, answer) = (Lent::noisy(self.noise, work_length), Lent::noisy(self.noise, answer_length));
         let job = Lent::holding(self.noise, &case.bytes);
@@ -371,15 +369,15 @@ impl Harness<'_> {
         let (mut got_work, mut got_answer) = (work.clone(), answer.clone());
         let (mut expected_work, mut expected_answer) = (work.clone(), answer.clone());
         let expected =
-            services::run(&case.reading, budget, expected_work.bytes_mut(), expected_answer.bytes_mut());
-        let got = nest::run(job.bytes(), budget, got_work.bytes_mut(), got_answer.bytes_mut());
+            services::run(&case.clamped, budget, expected_work.bytes_mut(), expected_answer.bytes_mut());
+        let got = nest::run(job.bytes(), case.margin, budget, got_work.bytes_mut(), got_answer.bytes_mut());
         self.judge("run", case, &call, got, expected);
         self.compare_bytes("run", case, &call, "work", &got_work, &expected_work);
         self.compare_bytes("run", case, &call, "answer", &got_answer, &expected_answer);
         self.compare_read_only("run", case, &call, &job, &kept_job);
         if let Some(other) = &case.reordered {
             let (mut other_work, mut other_answer) = (work, answer);
-            let result = nest::run(other, budget, other_work.bytes_mut(), other_answer.bytes_mut());
+            let result = nest::run(other, case.margin, budget, other_work.bytes_mut(), other_answer.bytes_mut());
             let buffers = [(&got_work, &other_work), (&got_answer, &other_answer)];
             self.same_for_reordered("run", case, &call, (got, result), &buffers);
         }
@@ -387,16 +385,16 @@ impl Harness<'_> {
 
     /// On a board with few enough layouts, the engine's own answer against a search of all of them.
     fn exhaustive_search(&mut self, case: &Case) {
-        let Ok(board) = &case.reading else { return };
-        let walk_ends = case.walked.as_ref().is_some_and(|w| !w.stopped);
+        let Ok(board) = &case.clamped else { return };
+        let walk_ends = case.walked().is_some_and(|w| !w.stopped);
         if !walk_ends || exhaustive::how_many(board, LAYOUTS_AT_MOST).is_none() {
             return;
         }
         let best = exhaustive::first_of_the_shortest(board);
-        let mut work = Lent::noisy(self.noise, 8 * work_words(board));
-        let mut answer = Lent::noisy(self.noise, 8 * board.pieces());
+        let mut work = Lent::noisy(self.noise, 8 * work_words(&board.job));
+        let mut answer = Lent::noisy(self.noise, 8 * board.job.pieces());
         let untouched = answer.clone();
-        let got = nest::run(&case.bytes, u32::MAX, work.bytes_mut(), answer.bytes_mut());
+        let got = nest::run(&case.bytes, case.margin, u32::MAX, work.bytes_mut(), answer.bytes_mut());
         self.report.note("boards searched exhaustively");
         let agrees = match &best {
             None => got.number == 10 && answer.difference(&untouched).is_none(),
@@ -409,7 +407,7 @@ impl Harness<'_> {
             let expected = best.map_or("none".to_string(), |b| format!("{:?}", to_numbers(board, &b)));
             let held = hexadecimal(answer.bytes());
             let what = format!("run against all layouts: got {got:?} holding {held}, expected {expected}");
-            self.report.mismatch(&what, &case.bytes);
+            self.mismatch(case, &what);
         }
     }
 }

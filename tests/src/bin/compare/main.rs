@@ -2,9 +2,11 @@
 //! Case number i of a run has the seed SEED + i, so `compare 1 --seed S` sees the case S alone again.
 //! With `--first` it gives up at the first mismatch.
 
+mod case;
 mod empties;
 mod harness;
 mod lent;
+mod margins;
 #[path = "../../nest.rs"]
 mod nest;
 mod paper;
@@ -12,7 +14,8 @@ mod report;
 
 use std::process::exit;
 
-use harness::{Case, Harness};
+use case::Case;
+use harness::Harness;
 use nest_tests::generator::make;
 use nest_tests::noise::Noise;
 use report::Report;
@@ -34,9 +37,9 @@ fn main() {
     for case_seed in seed..seed + count {
         random_case(case_seed, &mut report);
     }
-    println!("{count} random jobs from seed {seed}, and the small boards of document 01");
+    println!("{count} random jobs from seed {seed}, and the small boards");
     report.print();
-    let missed: Vec<u8> = (1..=12).filter(|&n| report.seen(n) < SEEN_AT_LEAST).collect();
+    let missed: Vec<u8> = (1..=13).filter(|&n| report.seen(n) < SEEN_AT_LEAST).collect();
     if count >= DEFAULT_COUNT && !missed.is_empty() {
         println!("refusals seen fewer than {SEEN_AT_LEAST} times: {missed:?}");
         exit(1);
@@ -69,12 +72,12 @@ fn random_case(seed: u64, report: &mut Report) {
     report.origin = format!("seed {seed}");
     let mut noise = Noise::new(seed);
     let made = make(&mut noise);
-    let case = Case::new(made.bytes, made.reordered);
+    let case = Case::new(made.bytes, made.margin, made.reordered);
     let number = case.reading.as_ref().err().copied().unwrap_or(0);
     if made.intended.is_some_and(|intended| intended != number) {
         // A fault of the generator or of the reference, not of the library; no less a fault.
         let what = format!("made to be refused by {:?}, the reference says {number}", made.intended);
-        report.mismatch(&what, &case.bytes);
+        report.mismatch(&what, &case.bytes, case.margin);
     }
     Harness { noise: &mut noise, report }.every_service(&case);
 }

@@ -1,50 +1,76 @@
-//! What document 01 says of its small boards, put to the library.
+//! What is known of the small boards, put to the library.
+
+use std::fmt::Debug;
 
 use nest_tests::answer::{Answer, STOPPED_WITH_LAYOUT, STOPPED_WITH_NOTHING};
-use nest_tests::reference::board::Board;
-use nest_tests::reference::services::{numbers_of, work_words};
+use nest_tests::reference::reader::read_job;
+use nest_tests::reference::services::{bytes_of, numbers_of};
 use nest_tests::small_boards::{small_boards, Claim, SmallBoard};
 
-use crate::harness::{Case, Harness};
+use crate::case::Case;
+use crate::harness::Harness;
 use crate::nest;
+
+/// Enough for every job.
+const WORK_BYTES: usize = 49_152;
+const ANSWER_BYTES: usize = 96;
 
 pub fn small_board_cases(harness: &mut Harness) {
     for board in small_boards() {
         harness.report.origin = format!("small board \"{}\"", board.name);
         for claim in &board.claims {
-            harness.report.note("claims of document 01's small boards");
+            harness.report.note("claims about the small boards");
             if let Err(what) = holds(&board, claim) {
-                harness.report.mismatch(&what, &board.bytes);
+                harness.report.mismatch(&what, &board.bytes, claim.margin());
             }
         }
-        harness.every_service(&Case::new(board.bytes, None));
+        for margin in margins(&board) {
+            harness.every_service(&Case::new(board.bytes.clone(), margin, None));
+        }
     }
+}
+
+/// None, and those that the claims speak of.
+fn margins(board: &SmallBoard) -> Vec<u64> {
+    let mut margins: Vec<u64> = board.claims.iter().map(Claim::margin).chain([0]).collect();
+    margins.sort_unstable();
+    margins.dedup();
+    margins
 }
 
 fn holds(board: &SmallBoard, claim: &Claim) -> Result<(), String> {
-    match claim {
-        Claim::Run { budget, printed } => same(&printed_by_run(&board.bytes, *budget), printed),
-        Claim::Reads(number) => {
-            let got = nest::read(&board.bytes, &mut [0; 4096]);
-            same(&got.number.to_string(), &number.to_string())
-        }
-        Claim::Conflict { one, other, holds } => same(&conflict(&board.bytes, *one, *other), &holds.to_string()),
+    let job = &board.bytes;
+    match *claim {
+        Claim::Run { margin, budget, printed } => same(printed_by_run(job, margin, budget).as_str(), printed),
+        Claim::Reads(number) => same(nest::read(job, &mut [0; 4096]).number, number),
+        Claim::Conflict { margin, one, other, holds } => same(conflict(job, margin, one, other), holds),
+        Claim::Check { margin, layout, length } => same(checked(job, margin, layout), length),
     }
 }
 
-fn same(got: &str, expected: &str) -> Result<(), String> {
+fn same<T: PartialEq + Debug>(got: T, expected: T) -> Result<(), String> {
     if got == expected {
         return Ok(());
     }
-    Err(format!("got {got:?}, document 01 says {expected:?}"))
+    Err(format!("got {got:?}, expected {expected:?}"))
+}
+
+/// The count of an answer, or its refusal.
+fn counted(answer: Answer) -> Result<u16, u8> {
+    match answer.number {
+        0 => Ok(answer.count),
+        number => Err(number),
+    }
+}
+
+fn checked(job: &[u8], margin: u64, layout: &[u16]) -> Result<u16, u8> {
+    counted(nest::check(job, margin, &bytes_of(layout)))
 }
 
 /// The run's answer in the command program's words.
-fn printed_by_run(job: &[u8], budget: u32) -> String {
-    let board = Board::read(job).expect("an accepted board");
-    let mut work = vec![0xFF; 8 * work_words(&board)];
-    let mut answer = vec![0xFF; 8 * board.pieces()];
-    let Answer { number, verdict, count, steps } = nest::run(job, budget, &mut work, &mut answer);
+fn printed_by_run(job: &[u8], margin: u64, budget: u32) -> String {
+    let (mut work, mut answer) = (vec![0xFF; WORK_BYTES], vec![0xFF; ANSWER_BYTES]);
+    let Answer { number, verdict, count, steps } = nest::run(job, margin, budget, &mut work, &mut answer);
     let mut out = match (number, verdict) {
         (10, _) => return format!("none {steps}\n"),
         (0, STOPPED_WITH_NOTHING) => return format!("stopped - {steps}\n"),
@@ -52,20 +78,18 @@ fn printed_by_run(job: &[u8], budget: u32) -> String {
         (0, _) => format!("shortest {count} {steps}\n"),
         _ => return format!("refused {number}\n"),
     };
-    for e in numbers_of(&answer).chunks(4) {
+    let pieces = read_job(job).map_or(0, |job| job.pieces());
+    for e in numbers_of(&answer).chunks(4).take(pieces) {
         out += &format!("{} {} {} {}\n", e[0], e[1], e[2], e[3]);
     }
     out
 }
 
-fn conflict(job: &[u8], one: (usize, usize), other: (usize, usize)) -> String {
-    let board = Board::read(job).expect("an accepted board");
-    let number = |(column, row): (usize, usize)| (column * board.rows() + row) * 4;
-    let mut row = vec![0xFF; 8 * board.words()];
-    let answer = nest::row(job, 0, number(one) as u64, 0, &mut row);
-    if answer.number != 0 {
-        return format!("refused {}", answer.number);
-    }
+fn conflict(bytes: &[u8], margin: u64, one: (usize, usize), other: (usize, usize)) -> Result<bool, u8> {
+    let job = read_job(bytes)?;
+    let number = |(column, row): (usize, usize)| (column * job.rows() + row) * 4;
+    let mut row = vec![0xFF; 8 * job.words()];
+    counted(nest::row(bytes, margin, 0, number(one) as u64, 0, &mut row))?;
     let at = number(other);
-    (row[at / 8] >> (at % 8) & 1 == 1).to_string()
+    Ok(row[at / 8] >> (at % 8) & 1 == 1)
 }

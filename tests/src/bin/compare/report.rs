@@ -33,11 +33,11 @@ impl Report {
         *self.notes.entry(what).or_default() += 1;
     }
 
-    pub fn mismatch(&mut self, what: &str, job: &[u8]) {
+    pub fn mismatch(&mut self, what: &str, job: &[u8], margin: u64) {
         self.mismatches += 1;
         if self.shown < SHOWN_AT_MOST {
             self.shown += 1;
-            println!("MISMATCH {}\n  {what}\n  job {}", self.origin, hexadecimal(job));
+            println!("MISMATCH {}\n  {what}\n  margin {margin}, job {}", self.origin, hexadecimal(job));
         }
         if self.first_only {
             std::process::exit(1);

@@ -6,7 +6,6 @@ use native.Mathlib.Omega.{arith}
 use lib.ListN.{length}
 use Rattle.words.specs.Bytes.{AreBytes}
 use Rattle.words.specs.Sets.{member}
-use Rattle.model.specs.Format.{content}
 use Rattle.live_sets.specs.Narrowing.{Filled}
 use Rattle.live_sets.proofs.Filling.{filled-begin}
 use Rattle.bounding.specs.Trimmed.{endsBelow}
@@ -14,11 +13,12 @@ use Rattle.bounding.proofs.Bounds.{word-admitted, word-trimmed}
 use borrow.Author.Needs.{needs}
 use Rattle.bounding.proofs.trimming.trim_set.Statement.{statement}
 use Rattle.bounding.proofs.trimming.trim_set.Tie as tie
+use Rattle.plans.specs.Planned.{planned}
 
 abbrev Inv-loop : tie.InvT-loop
 Inv-loop job plan u bound work₀ at words k₀ work k =
     ((k ≤ words) × (length work ≡ length work₀) × ((at + words) * 8 < 2 ^ 64)) × AreBytes work
-    × Filled at k (λ m. member work₀ (at * 64 + m) && endsBelow (content job) bound u m) work₀ work
+    × Filled at k (λ m. member work₀ (at * 64 + m) && endsBelow (planned job plan) bound u m) work₀ work
 
 abbrev μ-loop : tie.MeasureT-loop
 μ-loop job plan u bound work₀ at words k₀ work k = words - k
@@ -48,7 +48,7 @@ trim-word-requires : tie.Need-trim-word-requires Inv-loop μ-loop
 trim-word-requires c κs = (
   c .before .before .before .before .before .before .before .pre .0,
   omega (arith, c .before .before .before .before .before .before .before .pre .1 .few, c .before .before .before .before .loop .inv .0),
-  word-admitted (content (c .before .before .before .before .before .before .before .args .job .now)) (c .before .before .before .before .before .before .before .args .bound) (c .before .before .before .before .before .before .before .args .u) (c .before .before .before .before .before .before .before .args .at) (c .before .before .before .before .before .before .before .args .words) (c .before .before .before .before .before .before .before .args .work .now) (c .before .before .before .before .loop .work) (c .before .before .before .before .before .before .before .pre .1) (c .before .before .before .before .loop .k) (c .before .before .before .loop-test .taken) (c .before .before .before .before .loop .inv .2) (c .before .get-u64 .result) (c .before .get-u64 .ensures) (c .before .before .before .before .loop .inv .1),
+  word-admitted (planned (c .before .before .before .before .before .before .before .args .job .now) (c .before .before .before .before .before .before .before .args .plan)) (c .before .before .before .before .before .before .before .args .bound) (c .before .before .before .before .before .before .before .args .u) (c .before .before .before .before .before .before .before .args .at) (c .before .before .before .before .before .before .before .args .words) (c .before .before .before .before .before .before .before .args .work .now) (c .before .before .before .before .loop .work) (c .before .before .before .before .before .before .before .pre .1) (c .before .before .before .before .loop .k) (c .before .before .before .loop-test .taken) (c .before .before .before .before .loop .inv .2) (c .before .get-u64 .result) (c .before .get-u64 .ensures) (c .before .before .before .before .loop .inv .1),
 )
 
 put-u64-requires : tie.Need-put-u64-requires Inv-loop μ-loop
@@ -64,8 +64,8 @@ loop-again : tie.Need-loop-again Inv-loop μ-loop
 loop-again c = (
   (omega arith, c .before .before .put-u64 .kept .0 ∙ c .before .before .before .before .before .before .before .before .loop .inv .0 .1, c .before .before .before .before .before .before .before .before .loop .inv .0 .2),
   (λ i. c .slice-known2 .given i .fits),
-  subst (Filled (c .before .before .before .before .before .before .before .before .before .before .before .args .at) (c .before .before .before .before .before .before .before .before .loop .k + 1) (λ m. member (c .before .before .before .before .before .before .before .before .before .before .before .args .work .now) (c .before .before .before .before .before .before .before .before .before .before .before .args .at * 64 + m) && endsBelow (content (c .before .before .before .before .before .before .before .before .before .before .before .args .job .now)) (c .before .before .before .before .before .before .before .before .before .before .before .args .bound) (c .before .before .before .before .before .before .before .before .before .before .before .args .u) m) (c .before .before .before .before .before .before .before .before .before .before .before .args .work .now)) (sym (c .before .before .put-u64 .ensures))
-      (word-trimmed (content (c .before .before .before .before .before .before .before .before .before .before .before .args .job .now)) (c .before .before .before .before .before .before .before .before .before .before .before .args .bound) (c .before .before .before .before .before .before .before .before .before .before .before .args .u) (c .before .before .before .before .before .before .before .before .before .before .before .args .at) (c .before .before .before .before .before .before .before .before .before .before .before .args .words) (c .before .before .before .before .before .before .before .before .before .before .before .args .work .now) (c .before .before .before .before .before .before .before .before .loop .work) (c .before .before .before .before .before .before .before .before .before .before .before .pre .1) (c .before .before .before .before .before .before .before .before .loop .k) (c .before .before .before .before .before .before .before .loop-test .taken) (c .before .before .before .before .before .before .before .before .loop .inv .2) (c .before .before .before .before .before .get-u64 .result) (c .before .before .before .before .before .get-u64 .ensures) (c .before .before .before .trim-word .result) (c .before .before .before .trim-word .ensures) (search needs) (c .before .before .before .before .before .before .before .before .loop .inv .0 .1)),
+  subst (Filled (c .before .before .before .before .before .before .before .before .before .before .before .args .at) (c .before .before .before .before .before .before .before .before .loop .k + 1) (λ m. member (c .before .before .before .before .before .before .before .before .before .before .before .args .work .now) (c .before .before .before .before .before .before .before .before .before .before .before .args .at * 64 + m) && endsBelow (planned (c .before .before .before .before .before .before .before .before .before .before .before .args .job .now) (c .before .before .before .before .before .before .before .before .before .before .before .args .plan)) (c .before .before .before .before .before .before .before .before .before .before .before .args .bound) (c .before .before .before .before .before .before .before .before .before .before .before .args .u) m) (c .before .before .before .before .before .before .before .before .before .before .before .args .work .now)) (sym (c .before .before .put-u64 .ensures))
+      (word-trimmed (planned (c .before .before .before .before .before .before .before .before .before .before .before .args .job .now) (c .before .before .before .before .before .before .before .before .before .before .before .args .plan)) (c .before .before .before .before .before .before .before .before .before .before .before .args .bound) (c .before .before .before .before .before .before .before .before .before .before .before .args .u) (c .before .before .before .before .before .before .before .before .before .before .before .args .at) (c .before .before .before .before .before .before .before .before .before .before .before .args .words) (c .before .before .before .before .before .before .before .before .before .before .before .args .work .now) (c .before .before .before .before .before .before .before .before .loop .work) (c .before .before .before .before .before .before .before .before .before .before .before .pre .1) (c .before .before .before .before .before .before .before .before .loop .k) (c .before .before .before .before .before .before .before .loop-test .taken) (c .before .before .before .before .before .before .before .before .loop .inv .2) (c .before .before .before .before .before .get-u64 .result) (c .before .before .before .before .before .get-u64 .ensures) (c .before .before .before .trim-word .result) (c .before .before .before .trim-word .ensures) (search needs) (c .before .before .before .before .before .before .before .before .loop .inv .0 .1)),
 )
 
 same-length : tie.Need-same-length Inv-loop μ-loop
@@ -74,7 +74,7 @@ same-length c = c .before .loop .inv .0 .1
 returns : tie.Need-returns Inv-loop μ-loop
 returns c =
     let e : c .before .loop .k ≡ c .before .before .before .before .args .words = omega arith in
-    subst (λ (k : ℕ). Filled (c .before .before .before .before .args .at) k (λ m. member (c .before .before .before .before .args .work .now) (c .before .before .before .before .args .at * 64 + m) && endsBelow (content (c .before .before .before .before .args .job .now)) (c .before .before .before .before .args .bound) (c .before .before .before .before .args .u) m) (c .before .before .before .before .args .work .now) (c .before .loop .work)) e (c .before .loop .inv .2)
+    subst (λ (k : ℕ). Filled (c .before .before .before .before .args .at) k (λ m. member (c .before .before .before .before .args .work .now) (c .before .before .before .before .args .at * 64 + m) && endsBelow (planned (c .before .before .before .before .args .job .now) (c .before .before .before .before .args .plan)) (c .before .before .before .before .args .bound) (c .before .before .before .before .args .u) m) (c .before .before .before .before .args .work .now) (c .before .loop .work)) e (c .before .loop .inv .2)
 
 pub trim-set-spec : {M : Type 1} → statement M
 trim-set-spec =

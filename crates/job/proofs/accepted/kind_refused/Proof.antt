@@ -13,7 +13,7 @@ use Rattle.job.proofs.accepted.kind_refused.Statement.{statement}
 use Rattle.job.proofs.accepted.kind_refused.Tie as tie
 
 abbrev Inv-loop : tie.InvT-loop
-Inv-loop job t view n refused₀ i₀ refused i = ((i ≤ n) × (n ≤ 6)) × ((n ≡ length (kindAt (content job) t .parts)) × (refused ≡ any badPart (take i (kindAt (content job) t .parts))))
+Inv-loop job t view n refused₀ i₀ refused i = ((i ≤ n) × (n ≤ 6)) × ((n ≡ length (kindAt (content job .kinds) t .parts)) × (refused ≡ any badPart (take i (kindAt (content job .kinds) t .parts))))
 
 abbrev μ-loop : tie.MeasureT-loop
 μ-loop job t view n refused₀ i₀ refused i = n - i
@@ -33,7 +33,7 @@ loop-holds c =
     let k = c .before .before .pre .0 .0 .kind (c .before .before .args .t) (c .before .before .pre .1) in
     let e = k .parts in
     let f = k .fewParts in
-    (omega arith, (e, any-none _ (kindAt (content (c .before .before .args .job .now)) (c .before .before .args .t) .parts)))
+    (omega arith, (e, any-none _ (kindAt (content (c .before .before .args .job .now) .kinds) (c .before .before .args .t) .parts)))
 
 mul-part-refused : tie.Need-mul-part-refused Inv-loop μ-loop
 mul-part-refused c = omega (arith, place (c .before .before .before .before .pre .1) (c .before .before .before .before .pre .0 .1) (c .loop-test .taken) (c .before .loop .inv .0 .1))
@@ -58,14 +58,14 @@ loop-less c = search needs
 
 loop-again : tie.Need-loop-again Inv-loop μ-loop
 loop-again c =
-    let parts = kindAt (content (c .before .before .before .before .before .before .args .job .now)) (c .before .before .before .before .before .before .args .t) .parts in
+    let parts = kindAt (content (c .before .before .before .before .before .before .args .job .now) .kinds) (c .before .before .before .before .before .before .args .t) .parts in
     let h : c .before .before .before .loop .i < length parts = omega arith in
     let k = c .before .before .before .before .before .before .pre .0 .0 .kind (c .before .before .before .before .before .before .args .t) (c .before .before .before .before .before .before .pre .1) in
     let m = parts-more (c .before .before .before .before .before .before .args .job .now) parts _ (c .before .before .before .loop .i) h (k .part (c .before .before .before .loop .i) h) in
     (omega arith, (c .before .before .before .loop .inv .1 .0, ap₂ _||_ (c .before .before .before .loop .inv .1 .1) (c .part-refused .ensures) ∙ sym m))
 
 returns : tie.Need-returns Inv-loop μ-loop
-returns c = c .before .loop .inv .1 .1 ∙ parts-all (kindAt (content (c .before .before .before .before .args .job .now)) (c .before .before .before .before .args .t)) (c .before .loop .i) (omega arith)
+returns c = c .before .loop .inv .1 .1 ∙ parts-all (kindAt (content (c .before .before .before .before .args .job .now) .kinds) (c .before .before .before .before .args .t)) (c .before .loop .i) (omega arith)
 
 pub kind-refused-spec : {M : Type 1} → statement M
 kind-refused-spec =

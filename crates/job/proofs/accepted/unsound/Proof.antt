@@ -13,7 +13,7 @@ use Rattle.job.proofs.accepted.unsound.Statement.{statement}
 use Rattle.job.proofs.accepted.unsound.Tie as tie
 
 abbrev Inv-loop : tie.InvT-loop
-Inv-loop job view n refused₀ t₀ refused t = ((t ≤ n) × (n ≡ kindCount (content job))) × (refused ≡ any badKind (take t (content job .kinds)))
+Inv-loop job view n refused₀ t₀ refused t = ((t ≤ n) × (n ≡ kindCount (content job .kinds))) × (refused ≡ any badKind (take t (content job .kinds)))
 
 abbrev μ-loop : tie.MeasureT-loop
 μ-loop job view n refused₀ t₀ refused t = n - t

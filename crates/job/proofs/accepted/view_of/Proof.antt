@@ -42,7 +42,7 @@ returns c =
     let s = c .before .before .before .before .before .before .before .before .before .before .before .before .before .args .job .now in
     let t = c .before .before .before .before .before .before .before .before .before .before .before .read-trailer .ensures in
     let b = board-read s _ _ (t .board) (c .before .before .before .before .before .before .before .before .before .before .read-board .ensures) in
-    view-is s (c .before .before .before .before .before .before .before .before .before .before .before .before .before .pre) _ _ _ (t .kinds) (t .kindsLength) (t .kindCount) _ _ _ (t .classes) (t .classCount) (c .before .before .before .before .before .before .before .read-kinds .ensures) (b .0) (b .1) (b .2) (c .before .multiples .ensures .0) (c .multiples2 .ensures .0) refl
+    view-is s (c .before .before .before .before .before .before .before .before .before .before .before .before .before .pre) _ _ _ (t .kinds) (t .kindsLength) (t .kindCount) _ _ _ (t .classes) (t .classCount) (c .before .before .before .before .before .before .before .read-kinds .ensures) (b .0) (b .1) (b .2) (c .before .multiples .ensures .0) (c .multiples2 .ensures .0) (omega arith) refl
 
 pub view-of-spec : {M : Type 1} → statement M
 view-of-spec =

@@ -4,15 +4,15 @@ use Prim.Native.Nat.{ℕ, _-_, _≤_}
 use native.Mathlib.Omega.{arith}
 use borrow.Author.Needs.{needs}
 use denote.Ref.{now}
-use Rattle.model.specs.Format.{content}
 use Rattle.model.specs.Layout.{apart}
 use Rattle.layouts.specs.Entries.{entriesIn}
 use Rattle.layouts.proofs.ClearanceLaws.{apart-none, apart-next}
 use Rattle.layouts.proofs.clearance.all_apart.Statement.{statement}
 use Rattle.layouts.proofs.clearance.all_apart.Tie as tie
+use Rattle.job.specs.View.{problemOf}
 
 abbrev Inv-loop : tie.InvT-loop
-Inv-loop job view turned layout n ok₀ k₀ ok k = (k ≤ n) × (ok ≡ apart (content job) (entriesIn layout k))
+Inv-loop job view turned layout n ok₀ k₀ ok k = (k ≤ n) × (ok ≡ apart (problemOf job view) (entriesIn layout k))
 
 abbrev μ-loop : tie.MeasureT-loop
 μ-loop job view turned layout n ok₀ k₀ ok k = n - k
@@ -35,14 +35,14 @@ loop-again : tie.Need-loop-again Inv-loop μ-loop
 loop-again c =
     let at = c .before .before in
     let e = at .before .before .before in
-    (omega arith, apart-next (content (now (e .args .job))) (now (e .args .layout)) (at .loop .k) _ _ (at .loop .inv .1) (c .clear-of-earlier .ensures))
+    (omega arith, apart-next (problemOf (now (e .args .job)) (e .args .view)) (now (e .args .layout)) (at .loop .k) _ _ (at .loop .inv .1) (c .clear-of-earlier .ensures))
 
 returns : tie.Need-returns Inv-loop μ-loop
 returns c =
     let at = c .before in
     let e = at .before .before .before in
     let n : at .loop .k ≡ e .args .n = omega arith in
-    at .loop .inv .1 ∙ ap (λ (m : ℕ). apart (content (now (e .args .job))) (entriesIn (now (e .args .layout)) m)) n
+    at .loop .inv .1 ∙ ap (λ (m : ℕ). apart (problemOf (now (e .args .job)) (e .args .view)) (entriesIn (now (e .args .layout)) m)) n
 
 pub all-apart-spec : {M : Type 1} → statement M
 all-apart-spec =

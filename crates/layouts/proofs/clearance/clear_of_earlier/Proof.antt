@@ -5,7 +5,6 @@ use Prim.Native.Nat.{ℕ, _-_, _≤_}
 use native.Mathlib.Omega.{arith}
 use borrow.Author.Needs.{needs}
 use denote.Ref.{now}
-use Rattle.model.specs.Format.{content}
 use Rattle.model.specs.Layout.{Entry, conflict, isEntry}
 use Rattle.model.specs.Lists.{all}
 use Rattle.model.specs.Services.{entryIn}
@@ -13,9 +12,10 @@ use Rattle.layouts.specs.Entries.{entriesIn}
 use Rattle.layouts.proofs.EntryLaws.{all-entries-none, all-entries-next}
 use Rattle.layouts.proofs.clearance.clear_of_earlier.Statement.{statement}
 use Rattle.layouts.proofs.clearance.clear_of_earlier.Tie as tie
+use Rattle.job.specs.View.{problemOf}
 
 abbrev Inv-loop : tie.InvT-loop
-Inv-loop job view turned layout k f ok₀ i₀ ok i = (i ≤ k) × (ok ≡ all (λ e. not (conflict (content job) e (entryIn layout k))) (entriesIn layout i))
+Inv-loop job view turned layout k f ok₀ i₀ ok i = (i ≤ k) × (ok ≡ all (λ e. not (conflict (problemOf job view) e (entryIn layout k))) (entriesIn layout i))
 
 abbrev μ-loop : tie.MeasureT-loop
 μ-loop job view turned layout k f ok₀ i₀ ok i = k - i
@@ -33,7 +33,7 @@ in-conflict-requires : tie.Need-in-conflict-requires Inv-loop μ-loop
 in-conflict-requires c κs =
     let at = c .before .before in
     let e = at .before .before .before .before in
-    let j = content (now (e .args .job)) in (
+    let j = problemOf (now (e .args .job)) (e .args .view) in (
       e .pre .0,
       (
         ap (isEntry j) (c .entry-at2 .ensures .same) ∙ e .pre .1 .each (at .loop .i) (omega arith),
@@ -51,7 +51,7 @@ loop-again : tie.Need-loop-again Inv-loop μ-loop
 loop-again c =
     let at = c .before .before .before in
     let e = at .before .before .before .before in
-    let j = content (now (e .args .job)) in
+    let j = problemOf (now (e .args .job)) (e .args .view) in
     let layout = now (e .args .layout) in (
       omega arith,
       all-entries-next (λ (f : Entry). not (conflict j f (entryIn layout (e .args .k)))) layout (at .loop .i) _ _ (at .loop .inv .1)
@@ -62,7 +62,7 @@ returns : tie.Need-returns Inv-loop μ-loop
 returns c =
     let at = c .before in
     let e = at .before .before .before .before in
-    let j = content (now (e .args .job)) in
+    let j = problemOf (now (e .args .job)) (e .args .view) in
     let layout = now (e .args .layout) in
     let k : at .loop .i ≡ e .args .k = omega arith in
     at .loop .inv .1 ∙ ap (λ (m : ℕ). all (λ (f : Entry). not (conflict j f (entryIn layout (e .args .k)))) (entriesIn layout m)) k

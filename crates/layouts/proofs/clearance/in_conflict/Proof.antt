@@ -74,7 +74,7 @@ returns c =
     c .conflict-between .ensures
     ∙ ap₂ (λ y z. conflictBetween t (v .step) p y q z (gap .pair-gap .result)) (place .place-of .ensures) (place2 .place-of2 .ensures)
     ∙ ap (conflictBetween t (v .step) p (placed (a .column) (a .row) (a .rotation)) q (placed (b .column) (b .row) (b .rotation))) (gap .pair-gap .ensures ∙ gap-is s v x (a .kind) (b .kind) ka kb)
-    ∙ conflict-is s v t x (e .pre .0 .1) (a .kind) (b .kind) ka kb p q (first .piece-of .ensures) (second .piece-of2 .ensures) (placed (a .column) (a .row) (a .rotation)) (placed (b .column) (b .row) (b .rotation))
+    ∙ conflict-is s v t x (e .pre .0 .1) (a .kind) (b .kind) ka kb p q (first .piece-of .ensures) (second .piece-of2 .ensures) (v .margin) (placed (a .column) (a .row) (a .rotation)) (placed (b .column) (b .row) (b .rotation))
     (turned-once s v x (asEntry a) (e .pre .1 .0)) (turned-once s v x (asEntry b) (e .pre .1 .1))
 
 pub in-conflict-spec : {M : Type 1} → statement M

@@ -1,7 +1,7 @@
 -- `layouts::extents::length_of` meets its contract. Assumes nothing.
 use mathlib.Core.List.{map}
 use mathlib.Core.Path.{_≡_, ap, _∙_}
-use Prim.Native.Nat.{ℕ, _-_, _≤_}
+use Prim.Native.Nat.{ℕ, _+_, _-_, _≤_}
 use native.Mathlib.Omega.{arith}
 use borrow.Author.Needs.{needs}
 use denote.Ref.{now}
@@ -51,12 +51,17 @@ loop-again c =
           (c .before .extent-of .ensures .0 ∙ ap (extentBy (e .args .view) (e .args .boxes)) (c .before .before .entry-at .ensures .same)) (c .larger .ensures),
     )
 
+add-result : tie.Need-add-result Inv-loop μ-loop
+add-result c =
+    let at = c .before .before in
+    omega (arith, at .loop .inv .0 .1, at .before .before .pre .0 .0 .0 .margin)
+
 returns : tie.Need-returns Inv-loop μ-loop
 returns c =
-    let at = c .before in
+    let at = c .before .before in
     let e = at .before .before in
     let n : at .loop .i ≡ e .args .n = omega arith in
-    (at .loop .inv .1 ∙ ap (λ (m : ℕ). largest (map (extentBy (e .args .view) (e .args .boxes)) (entriesIn (now (e .args .layout)) m))) n, at .loop .inv .0 .1)
+    (ap (λ (k : ℕ). k + e .args .view .margin) (at .loop .inv .1 ∙ ap (λ (m : ℕ). largest (map (extentBy (e .args .view) (e .args .boxes)) (entriesIn (now (e .args .layout)) m))) n), omega (arith, at .loop .inv .0 .1, e .pre .0 .0 .0 .margin))
 
 pub length-of-spec : {M : Type 1} → statement M
 length-of-spec =
@@ -71,4 +76,5 @@ length-of-spec =
     add-i
     loop-less
     loop-again
+    add-result
     returns)

@@ -4,7 +4,6 @@ use mathlib.Core.Path.{_≡_, sym, ap, _∙_}
 use native.Mathlib.Omega.{arith}
 use borrow.Author.Tests.{not-true, not-false}
 use denote.Ref.{now}
-use Rattle.model.specs.Format.{content}
 use Rattle.model.specs.Layout.{passes, layoutLength}
 use Rattle.candidates.proofs.PreparedLaws.{bounded}
 use Rattle.layouts.specs.Entries.{entriesIn}
@@ -12,6 +11,7 @@ use Rattle.layouts.proofs.PassingLaws.{few-pieces, all-admitted-is, len
 use borrow.Author.Needs.{needs}
 use Rattle.layouts.proofs.passing.judged.Statement.{statement}
 use Rattle.layouts.proofs.passing.judged.Tie as tie
+use Rattle.job.specs.View.{problemOf}
 
 mul-wanted : tie.Need-mul-wanted
 mul-wanted c =
@@ -27,7 +27,7 @@ returns c =
     let x = e .pre .viewed in
     let s = now (e .args .job) in
     let v = e .args .view in
-    wrong-count (content s) (now (e .args .layout)) (v .pieces) (x .view .pieces) (c .if1 .taken)
+    wrong-count (problemOf s v) (now (e .args .layout)) (v .pieces) (x .view .pieces) (c .if1 .taken)
 
 passes-requires : tie.Need-passes-requires
 passes-requires c κs = search needs
@@ -38,15 +38,15 @@ returns-2 c =
     let x = e .pre .viewed in
     let s = now (e .args .job) in
     let v = e .args .view in
-    not-passed (content s) (now (e .args .layout)) (v .pieces) (x .view .pieces) (c .before .before .if1 .left) (sym (c .before .passes .ensures) ∙ not-true _ (c .if2 .taken))
+    not-passed (problemOf s v) (now (e .args .layout)) (v .pieces) (x .view .pieces) (c .before .before .if1 .left) (sym (c .before .passes .ensures) ∙ not-true _ (c .if2 .taken))
 
 -- the layout passes
 passing : (c : tie.Else2) →
     let e = c .before .before .before .before .before in
-    passes (content (now (e .args .job))) (entriesIn (now (e .args .layout)) (e .args .view .pieces)) ≡ true
+    passes (problemOf (now (e .args .job)) (e .args .view)) (entriesIn (now (e .args .layout)) (e .args .view .pieces)) ≡ true
 passing c =
     let e = c .before .before .before .before .before in
-    let j = content (now (e .args .job)) in
+    let j = problemOf (now (e .args .job)) (e .args .view) in
     ap (passes j) (layout-is j (now (e .args .layout)) (e .args .view .pieces) (e .pre .viewed .view .pieces)) ∙ sym (c .before .passes .ensures) ∙ not-false _ (c .if2 .left)
 
 length-of-requires : tie.Need-length-of-requires
@@ -57,7 +57,7 @@ length-of-requires c κs =
     let v = e .args .view in
     let layout = now (e .args .layout) in (
       ((bounded s v x, omega (arith, few-pieces s (x .accepted), x .view .pieces)), omega (arith, c .before .before .if1 .left)),
-      all-admitted-is s v x (e .args .boxes) (e .pre .boxes) (entriesIn layout (v .pieces)) ∙ passed-entries (content s) (entriesIn layout (v .pieces)) (passing c),
+      all-admitted-is s v x (e .args .boxes) (e .pre .boxes) (entriesIn layout (v .pieces)) ∙ passed-entries (problemOf s v) (entriesIn layout (v .pieces)) (passing c),
     )
 
 cast-t12 : tie.Need-cast-t12
@@ -71,7 +71,7 @@ returns-3 c =
     let s = now (e .args .job) in
     let v = e .args .view in
     let layout = now (e .args .layout) in
-    let j = content s in
+    let j = problemOf s v in
     let es = entriesIn layout (v .pieces) in
     let same = layout-is j layout (v .pieces) (x .view .pieces) in
     passed j layout (v .pieces) (x .view .pieces) (test .before .before .if1 .left) _ (sym (ap (passes j) same) ∙ passing test)

@@ -4,7 +4,6 @@ use mathlib.Core.Path.{_≡_, sym, ap, ap₂, _∙_}
 use native.Mathlib.Omega.{arith}
 use borrow.Author.Tests.{not-true, not-false}
 use denote.Ref.{now}
-use Rattle.model.specs.Format.{content}
 use Rattle.model.specs.Layout.{isEntry, passes}
 use Rattle.candidates.proofs.PreparedLaws.{bounded}
 use Rattle.layouts.specs.Entries.{entriesIn}
@@ -12,6 +11,7 @@ use Rattle.layouts.proofs.AdmissionLaws.{entries-at}
 use Rattle.layouts.proofs.PassingLaws.{few-pieces, order-is, demand-is, all-admitted-is, layout-is, stated, stated-entries, misstated, passes-if-apart}
 use Rattle.layouts.proofs.passing.passes.Statement.{statement}
 use Rattle.layouts.proofs.passing.passes.Tie as tie
+use Rattle.job.specs.View.{problemOf}
 
 entries-in-order-requires : tie.Need-entries-in-order-requires
 entries-in-order-requires c κs =
@@ -41,7 +41,7 @@ all-admitted-requires c κs =
 tests : (c : tie.After-all-admitted) →
     let e = c .before .before .before .before .before in
     (c .before .before .entries-in-order .result && c .before .demand-met .result && c .all-admitted .result)
-    ≡ stated (content (now (e .args .job))) (entriesIn (now (e .args .layout)) (e .args .n))
+    ≡ stated (problemOf (now (e .args .job)) (e .args .view)) (entriesIn (now (e .args .layout)) (e .args .n))
 tests c =
     let e = c .before .before .before .before .before in
     let x = e .pre .0 .viewed in
@@ -50,13 +50,13 @@ tests c =
     let layout = now (e .args .layout) in
     let n = e .args .n in
     ap₂ _&&_
-    (ap₂ _&&_ (c .before .before .entries-in-order .ensures ∙ order-is (content s) (v .rows) layout n (x .view .rows)) (c .before .demand-met .ensures ∙ demand-is s v x layout n))
+    (ap₂ _&&_ (c .before .before .entries-in-order .ensures ∙ order-is (problemOf s v) (v .rows) layout n (x .view .rows)) (c .before .demand-met .ensures ∙ demand-is s v x layout n))
     (c .all-admitted .ensures ∙ all-admitted-is s v x (e .args .boxes) (e .pre .0 .boxes) (entriesIn layout n))
 
 returns : tie.Need-returns
 returns c =
     let e = c .before .before .before .before .before .before in
-    let j = content (now (e .args .job)) in
+    let j = problemOf (now (e .args .job)) (e .args .view) in
     misstated j (entriesIn (now (e .args .layout)) (e .args .n)) (sym (tests (c .before)) ∙ not-true _ (c .if1 .taken))
     ∙ ap (passes j) (layout-is j (now (e .args .layout)) (e .args .n) (e .pre .1 .count))
 
@@ -70,14 +70,14 @@ all-apart-requires c κs =
       record {
         few = omega (arith, few-pieces s (x .accepted), e .pre .1 .count);
         whole = e .pre .1 .whole;
-        each = λ i l. entries-at (isEntry (content s)) (now (e .args .layout)) (e .args .n) i (stated-entries (content s) (entriesIn (now (e .args .layout)) (e .args .n)) (sym (tests (c .before)) ∙ not-false _ (c .if1 .left))) l;
+        each = λ i l. entries-at (isEntry (problemOf s v)) (now (e .args .layout)) (e .args .n) i (stated-entries (problemOf s v) (entriesIn (now (e .args .layout)) (e .args .n)) (sym (tests (c .before)) ∙ not-false _ (c .if1 .left))) l;
       },
     )
 
 returns-2 : tie.Need-returns-2
 returns-2 c =
     let e = c .before .before .before .before .before .before .before in
-    let j = content (now (e .args .job)) in
+    let j = problemOf (now (e .args .job)) (e .args .view) in
     passes-if-apart j (entriesIn (now (e .args .layout)) (e .args .n)) _ (sym (tests (c .before .before)) ∙ not-false _ (c .before .if1 .left)) (c .all-apart .ensures)
     ∙ ap (passes j) (layout-is j (now (e .args .layout)) (e .args .n) (e .pre .1 .count))
 

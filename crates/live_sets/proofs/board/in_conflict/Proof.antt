@@ -9,13 +9,14 @@ use Rattle.plans.proofs.PlanLaws.{candidate-kind, near}
 use Rattle.live_sets.proofs.Meeting.{corners-conflict}
 use Rattle.live_sets.proofs.board.in_conflict.Statement.{statement}
 use Rattle.live_sets.proofs.board.in_conflict.Tie as tie
+use Rattle.plans.specs.Planned.{planned}
 
 -- Both kinds exist.
-first : (c : tie.Start) → c .args .t < kindCount (content (c .args .job .now))
-first c = candidate-kind (content (c .args .job .now)) (c .args .t) (c .args .n) (c .pre .1 .0 .0)
+first : (c : tie.Start) → c .args .t < kindCount (content (c .args .job .now) .kinds)
+first c = candidate-kind (planned (c .args .job .now) (c .args .plan)) (c .args .t) (c .args .n) (c .pre .1 .0 .0)
 
-second : (c : tie.Start) → c .args .u < kindCount (content (c .args .job .now))
-second c = candidate-kind (content (c .args .job .now)) (c .args .u) (c .args .m) (c .pre .1 .0 .1)
+second : (c : tie.Start) → c .args .u < kindCount (content (c .args .job .now) .kinds)
+second c = candidate-kind (planned (c .args .job .now) (c .args .plan)) (c .args .u) (c .args .m) (c .pre .1 .0 .1)
 
 -- Both places are near.
 from-near : (c : tie.Start) → Near (c .args .plan .step) (c .args .from)

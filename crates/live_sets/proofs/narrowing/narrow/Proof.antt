@@ -6,17 +6,17 @@ use native.Mathlib.Omega.{arith}
 use lib.ListN.{length}
 use Rattle.words.specs.Bytes.{AreBytes}
 use Rattle.words.specs.Sets.{member}
-use Rattle.model.specs.Format.{content}
 use Rattle.live_sets.specs.Narrowing.{stays, Filled}
 use Rattle.live_sets.proofs.Filling.{filled-begin, word-admitted, word-narrowed}
 use borrow.Author.Needs.{needs}
 use Rattle.live_sets.proofs.narrowing.narrow.Statement.{statement}
 use Rattle.live_sets.proofs.narrowing.narrow.Tie as tie
+use Rattle.plans.specs.Planned.{planned}
 
 abbrev Inv-loop : tie.InvT-loop
 Inv-loop job plan nofit turned strings t n place u work₀ from to words k₀ work k =
     ((k ≤ words) × (length work ≡ length work₀) × ((to + words) * 8 < 2 ^ 64)) × AreBytes work
-    × Filled to k (λ m. member work₀ (from * 64 + m) && stays (content job) t n u m) work₀ work
+    × Filled to k (λ m. member work₀ (from * 64 + m) && stays (planned job plan) t n u m) work₀ work
 
 abbrev μ-loop : tie.MeasureT-loop
 μ-loop job plan nofit turned strings t n place u work₀ from to words k₀ work k = words - k
@@ -41,7 +41,7 @@ narrow-word-requires c κs = (
   c .before .before .before .before .before .before .before .pre .0,
   (
     (c .before .before .before .before .before .before .before .pre .1 .placed, omega (arith, c .before .before .before .before .before .before .before .pre .1 .within, c .before .before .before .loop .inv .0)),
-    word-admitted (content (c .before .before .before .before .before .before .before .args .job .now)) (c .before .before .before .before .before .before .before .args .t) (c .before .before .before .before .before .before .before .args .n) (c .before .before .before .before .before .before .before .args .u) (c .before .before .before .before .before .before .before .args .from) (c .before .before .before .before .before .before .before .args .to) (c .before .before .before .before .before .before .before .args .words) (c .before .before .before .before .before .before .before .args .work .now) (c .before .before .before .loop .work) (c .before .before .before .before .before .before .before .pre .1) (c .before .before .before .loop .k) (c .before .before .loop-test .taken) (c .before .before .before .loop .inv .2) (c .get-u64 .result) (c .get-u64 .ensures) (c .before .before .before .loop .inv .1),
+    word-admitted (planned (c .before .before .before .before .before .before .before .args .job .now) (c .before .before .before .before .before .before .before .args .plan)) (c .before .before .before .before .before .before .before .args .t) (c .before .before .before .before .before .before .before .args .n) (c .before .before .before .before .before .before .before .args .u) (c .before .before .before .before .before .before .before .args .from) (c .before .before .before .before .before .before .before .args .to) (c .before .before .before .before .before .before .before .args .words) (c .before .before .before .before .before .before .before .args .work .now) (c .before .before .before .loop .work) (c .before .before .before .before .before .before .before .pre .1) (c .before .before .before .loop .k) (c .before .before .loop-test .taken) (c .before .before .before .loop .inv .2) (c .get-u64 .result) (c .get-u64 .ensures) (c .before .before .before .loop .inv .1),
   ),
 )
 
@@ -64,8 +64,8 @@ loop-again : tie.Need-loop-again Inv-loop μ-loop
 loop-again c = (
   (omega arith, c .before .before .put-u64 .kept .0 ∙ c .before .before .before .before .before .before .before .before .loop .inv .0 .1, c .before .before .before .before .before .before .before .before .loop .inv .0 .2),
   (λ i. c .slice-known2 .given i .fits),
-  subst (Filled (c .before .before .before .before .before .before .before .before .before .before .before .before .args .to) (c .before .before .before .before .before .before .before .before .loop .k + 1) (λ m. member (c .before .before .before .before .before .before .before .before .before .before .before .before .args .work .now) (c .before .before .before .before .before .before .before .before .before .before .before .before .args .from * 64 + m) && stays (content (c .before .before .before .before .before .before .before .before .before .before .before .before .args .job .now)) (c .before .before .before .before .before .before .before .before .before .before .before .before .args .t) (c .before .before .before .before .before .before .before .before .before .before .before .before .args .n) (c .before .before .before .before .before .before .before .before .before .before .before .before .args .u) m) (c .before .before .before .before .before .before .before .before .before .before .before .before .args .work .now)) (sym (c .before .before .put-u64 .ensures))
-      (word-narrowed (content (c .before .before .before .before .before .before .before .before .before .before .before .before .args .job .now)) (c .before .before .before .before .before .before .before .before .before .before .before .before .args .t) (c .before .before .before .before .before .before .before .before .before .before .before .before .args .n) (c .before .before .before .before .before .before .before .before .before .before .before .before .args .u) (c .before .before .before .before .before .before .before .before .before .before .before .before .args .from) (c .before .before .before .before .before .before .before .before .before .before .before .before .args .to) (c .before .before .before .before .before .before .before .before .before .before .before .before .args .words) (c .before .before .before .before .before .before .before .before .before .before .before .before .args .work .now) (c .before .before .before .before .before .before .before .before .loop .work) (c .before .before .before .before .before .before .before .before .before .before .before .before .pre .1) (c .before .before .before .before .before .before .before .before .loop .k) (c .before .before .before .before .before .before .before .loop-test .taken) (c .before .before .before .before .before .before .before .before .loop .inv .2) (c .before .before .before .before .before .get-u64 .result) (c .before .before .before .before .before .get-u64 .ensures) (c .before .before .before .before .narrow-word .result) (c .before .before .before .before .narrow-word .ensures) (search needs) (c .before .before .before .before .before .before .before .before .loop .inv .0 .1)),
+  subst (Filled (c .before .before .before .before .before .before .before .before .before .before .before .before .args .to) (c .before .before .before .before .before .before .before .before .loop .k + 1) (λ m. member (c .before .before .before .before .before .before .before .before .before .before .before .before .args .work .now) (c .before .before .before .before .before .before .before .before .before .before .before .before .args .from * 64 + m) && stays (planned (c .before .before .before .before .before .before .before .before .before .before .before .before .args .job .now) (c .before .before .before .before .before .before .before .before .before .before .before .before .args .plan)) (c .before .before .before .before .before .before .before .before .before .before .before .before .args .t) (c .before .before .before .before .before .before .before .before .before .before .before .before .args .n) (c .before .before .before .before .before .before .before .before .before .before .before .before .args .u) m) (c .before .before .before .before .before .before .before .before .before .before .before .before .args .work .now)) (sym (c .before .before .put-u64 .ensures))
+      (word-narrowed (planned (c .before .before .before .before .before .before .before .before .before .before .before .before .args .job .now) (c .before .before .before .before .before .before .before .before .before .before .before .before .args .plan)) (c .before .before .before .before .before .before .before .before .before .before .before .before .args .t) (c .before .before .before .before .before .before .before .before .before .before .before .before .args .n) (c .before .before .before .before .before .before .before .before .before .before .before .before .args .u) (c .before .before .before .before .before .before .before .before .before .before .before .before .args .from) (c .before .before .before .before .before .before .before .before .before .before .before .before .args .to) (c .before .before .before .before .before .before .before .before .before .before .before .before .args .words) (c .before .before .before .before .before .before .before .before .before .before .before .before .args .work .now) (c .before .before .before .before .before .before .before .before .loop .work) (c .before .before .before .before .before .before .before .before .before .before .before .before .pre .1) (c .before .before .before .before .before .before .before .before .loop .k) (c .before .before .before .before .before .before .before .loop-test .taken) (c .before .before .before .before .before .before .before .before .loop .inv .2) (c .before .before .before .before .before .get-u64 .result) (c .before .before .before .before .before .get-u64 .ensures) (c .before .before .before .before .narrow-word .result) (c .before .before .before .before .narrow-word .ensures) (search needs) (c .before .before .before .before .before .before .before .before .loop .inv .0 .1)),
 )
 
 same-length : tie.Need-same-length Inv-loop μ-loop
@@ -74,7 +74,7 @@ same-length c = c .before .loop .inv .0 .1
 returns : tie.Need-returns Inv-loop μ-loop
 returns c =
     let e : c .before .loop .k ≡ c .before .before .before .before .before .args .words = omega arith in
-    subst (λ (k : ℕ). Filled (c .before .before .before .before .before .args .to) k (λ m. member (c .before .before .before .before .before .args .work .now) (c .before .before .before .before .before .args .from * 64 + m) && stays (content (c .before .before .before .before .before .args .job .now)) (c .before .before .before .before .before .args .t) (c .before .before .before .before .before .args .n) (c .before .before .before .before .before .args .u) m) (c .before .before .before .before .before .args .work .now) (c .before .loop .work)) e (c .before .loop .inv .2)
+    subst (λ (k : ℕ). Filled (c .before .before .before .before .before .args .to) k (λ m. member (c .before .before .before .before .before .args .work .now) (c .before .before .before .before .before .args .from * 64 + m) && stays (planned (c .before .before .before .before .before .args .job .now) (c .before .before .before .before .before .args .plan)) (c .before .before .before .before .before .args .t) (c .before .before .before .before .before .args .n) (c .before .before .before .before .before .args .u) m) (c .before .before .before .before .before .args .work .now) (c .before .loop .work)) e (c .before .loop .inv .2)
 
 pub narrow-spec : {M : Type 1} → statement M
 narrow-spec =

@@ -49,7 +49,7 @@ returns-2 c =
     let f = c .before .before .before .before .before .pre .0 .0 in
     let x = c .before .before .pair-of .result in
     let o = c .before .before .pair-of .ensures in
-    let k : x .kind < kindCount (content s) = omega (arith, o .ordered, o .exists, f .measures .kinds) in
+    let k : x .kind < kindCount (content s .kinds) = omega (arith, o .ordered, o .exists, f .measures .kinds) in
     let m = kind-in s (c .before .before .before .before .before .args .view) (f .viewed) (x .kind) k .rotations in (
       c .before .before .before .before .before .pre .1 .0,
       string-skipped (content s) w (f .measures .kinds) i x o (now (c .before .before .before .before .before .args .bits)) (c .before .before .before .before .before .pre .1 .1)

@@ -5,16 +5,16 @@ use native.Mathlib.Omega.{arith}
 use lib.IntN.{pos, _+ℤ_}
 use lib.ListN.{getD}
 use Rattle.model.specs.Candidate.{natural}
-use Rattle.model.specs.Format.{content}
 use Rattle.candidates.specs.declared.conflicts.Placed.{Placed}
 use Rattle.plans.proofs.PlanLaws.{candidate-kind, kinds-few, near, end-is}
 use borrow.Author.Needs.{needs}
 use Rattle.plans.proofs.lookup.end_at.Statement.{statement}
 use Rattle.plans.proofs.lookup.end_at.Tie as tie
+use Rattle.plans.specs.Planned.{planned}
 
 -- The kind is one of eight, the rotation one of four, and the column near.
 kind : (c : tie.Start) → c .args .u < 8
-kind c = omega (arith, candidate-kind (content (c .args .job .now)) (c .args .u) (c .args .m) (c .pre .1), kinds-few (c .args .job .now) (c .args .plan) (c .pre .0))
+kind c = omega (arith, candidate-kind (planned (c .args .job .now) (c .args .plan)) (c .args .u) (c .args .m) (c .pre .1), kinds-few (c .args .job .now) (c .args .plan) (c .pre .0))
 
 turn : (c : tie.Start) → c .args .place .rotation < 4
 turn c = subst (λ (a : Placed). a .rotation < 4) (sym (c .pre .2)) (omega arith)

@@ -12,7 +12,7 @@ use Rattle.plans.proofs.lookup.pair_gap.Statement.{statement}
 use Rattle.plans.proofs.lookup.pair_gap.Tie as tie
 
 -- The gaps of the plan are those of the kinds.
-gap-is : (c : tie.Start) → max (getD (c .args .plan .gaps) (c .args .t) 0) (getD (c .args .plan .gaps) (c .args .u) 0) ≡ pairGap (content (c .args .job .now)) (kindAt (content (c .args .job .now)) (c .args .t)) (kindAt (content (c .args .job .now)) (c .args .u))
+gap-is : (c : tie.Start) → max (getD (c .args .plan .gaps) (c .args .t) 0) (getD (c .args .plan .gaps) (c .args .u) 0) ≡ pairGap (content (c .args .job .now) .classes) (kindAt (content (c .args .job .now) .kinds) (c .args .t)) (kindAt (content (c .args .job .now) .kinds) (c .args .u))
 unfolding pairGap
 gap-is c = rw (c .pre .0 .gaps (c .args .t) (c .pre .1), c .pre .0 .gaps (c .args .u) (c .pre .2))
 

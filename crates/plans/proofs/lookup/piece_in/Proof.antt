@@ -17,8 +17,8 @@ use Rattle.plans.proofs.lookup.piece_in.Tie as tie
 
 abbrev Inv-loop : tie.InvT-loop
 Inv-loop job kind all n sizes₀ i₀ sizes i =
-    ((kind < 8) × (n ≤ 6) × (i ≤ n)) × (n ≡ length (kindAt (content job) kind .parts)) × (length sizes ≡ 6)
-    × ((j : ℕ) → j < i → getD sizes j 0 ≡ length (getD (kindAt (content job) kind .parts) j []))
+    ((kind < 8) × (n ≤ 6) × (i ≤ n)) × (n ≡ length (kindAt (content job .kinds) kind .parts)) × (length sizes ≡ 6)
+    × ((j : ℕ) → j < i → getD sizes j 0 ≡ length (getD (kindAt (content job .kinds) kind .parts) j []))
 
 abbrev μ-loop : tie.MeasureT-loop
 μ-loop job kind all n sizes₀ i₀ sizes i = n - i
@@ -28,11 +28,11 @@ seen : (c : tie.Start Inv-loop μ-loop) → Viewed (c .args .job .now) (c .pre .
 seen c = plan-viewed (c .args .job .now) (c .args .plan) (c .pre .0)
 
 -- The kind in that view, and one of its parts.
-kind : (c : tie.Start Inv-loop μ-loop) → KindIn (c .args .job .now) (c .pre .0 .view) (c .args .kind) (kindAt (content (c .args .job .now)) (c .args .kind))
+kind : (c : tie.Start Inv-loop μ-loop) → KindIn (c .args .job .now) (c .pre .0 .view) (c .args .kind) (kindAt (content (c .args .job .now) .kinds) (c .args .kind))
 kind c = kind-in (c .args .job .now) (c .pre .0 .view) (seen c) (c .args .kind) (c .pre .1)
 
-part : (c : tie.Start Inv-loop μ-loop) (i : ℕ) → i < length (kindAt (content (c .args .job .now)) (c .args .kind) .parts)
-    → PartAt (c .args .job .now) (getD (c .pre .0 .view .«part_at») (c .args .kind * 6 + i) 0) (getD (kindAt (content (c .args .job .now)) (c .args .kind) .parts) i [])
+part : (c : tie.Start Inv-loop μ-loop) (i : ℕ) → i < length (kindAt (content (c .args .job .now) .kinds) (c .args .kind) .parts)
+    → PartAt (c .args .job .now) (getD (c .pre .0 .view .«part_at») (c .args .kind * 6 + i) 0) (getD (kindAt (content (c .args .job .now) .kinds) (c .args .kind) .parts) i [])
 part c = part-in (c .args .job .now) (c .pre .0 .view) (seen c) (c .args .kind) (c .pre .1)
 
 -- There are few kinds.
@@ -40,7 +40,7 @@ low : (c : tie.Start Inv-loop μ-loop) → c .args .kind < 8
 low c = omega (arith, c .pre .1, few-kinds (c .args .job .now) (c .pre .0 .view) (seen c))
 
 -- How many parts the plan tells.
-told : (c : tie.Start Inv-loop μ-loop) → getD (c .args .plan .parts) (c .args .kind) 0 ≡ length (kindAt (content (c .args .job .now)) (c .args .kind) .parts)
+told : (c : tie.Start Inv-loop μ-loop) → getD (c .args .plan .parts) (c .args .kind) 0 ≡ length (kindAt (content (c .args .job .now) .kinds) (c .args .kind) .parts)
 told c = c .pre .0 .parts (c .args .kind) (c .pre .1)
 
 array-read-n : tie.Need-array-read-n Inv-loop μ-loop
@@ -65,7 +65,7 @@ array-read-sizes c = omega arith
 
 -- The size of the part of this turn, as the plan tells it.
 here : (c : tie.In-loop Inv-loop μ-loop) → getD (c .before .before .before .before .args .plan .sizes) (c .before .before .before .before .args .kind * 6 + c .before .loop .i) 0
-    ≡ length (getD (kindAt (content (c .before .before .before .before .args .job .now)) (c .before .before .before .before .args .kind) .parts) (c .before .loop .i) [])
+    ≡ length (getD (kindAt (content (c .before .before .before .before .args .job .now) .kinds) (c .before .before .before .before .args .kind) .parts) (c .before .loop .i) [])
 here c =
     let start = c .before .before .before .before in
     start .pre .0 .sizes (start .args .kind) (c .before .loop .i) (start .pre .1) (omega arith)

@@ -3,13 +3,13 @@ use mathlib.Core.Path.{_≡_}
 use Prim.Native.Nat.{_+_, _*_, _≤_}
 use native.Mathlib.Nat.{mul-le-mul}
 use native.Mathlib.Omega.{arith}
-use Rattle.model.specs.Format.{content}
 use Rattle.model.proofs.Accepted.{accepted-kinds}
 use Rattle.stepping.specs.Slots.{setStart}
 use Rattle.stepping.proofs.Limits.{few-pieces, few-words}
 use Rattle.stepping.proofs.Slots.{start-fits}
 use Rattle.plans.proofs.lookup.set_start.Statement.{statement}
 use Rattle.plans.proofs.lookup.set_start.Tie as tie
+use Rattle.plans.specs.Planned.{planned}
 
 -- The kinds and the words of a set are few.
 few-kinds : (c : tie.Start) → c .args .plan .types ≤ 8
@@ -43,8 +43,8 @@ returns c =
     let s = c .before .before .args .job .now in
     let k = c .before .before .pre .0 .types in
     let w = c .before .before .pre .0 .words in
-    let e : (c .before .before .args .l * c .before .before .args .plan .types + c .before .before .args .u) * c .before .before .args .plan .words ≡ setStart (content s) (c .before .before .args .l) (c .before .before .args .u) = rw (k, w) in
-    record { place = e; within = rw e (start-fits (content s) (c .before .before .args .l) (c .before .before .args .u) (c .before .before .pre .1) (c .before .before .pre .2)); few = start-few (c .before .before) }
+    let e : (c .before .before .args .l * c .before .before .args .plan .types + c .before .before .args .u) * c .before .before .args .plan .words ≡ setStart (planned s (c .before .before .args .plan)) (c .before .before .args .l) (c .before .before .args .u) = rw (k, w) in
+    record { place = e; within = rw e (start-fits (planned s (c .before .before .args .plan)) (c .before .before .args .l) (c .before .before .args .u) (c .before .before .pre .1) (c .before .before .pre .2)); few = start-few (c .before .before) }
 
 pub set-start-spec : {M : Type 1} → statement M
 set-start-spec = tie.close (tie.spec mul-result add-result mul-result-2 returns)

@@ -15,8 +15,8 @@ use Rattle.plans.proofs.plan.copies_table.Tie as tie
 
 abbrev Inv-loop : tie.InvT-loop
 Inv-loop job view kinds pieces copies₀ x₀ copies x =
-    ((x ≤ pieces * 8) × (pieces ≡ pieceCount (content job)) × (pieces ≤ 12) × (length copies ≡ 96))
-    × ((i : ℕ) → i < x → getD copies i 0 ≡ copiesLeft (i % 8) (piecesFrom (content job) (i / 8)))
+    ((x ≤ pieces * 8) × (pieces ≡ pieceCount (content job .kinds)) × (pieces ≤ 12) × (length copies ≡ 96))
+    × ((i : ℕ) → i < x → getD copies i 0 ≡ copiesLeft (i % 8) (piecesFrom (content job .kinds) (i / 8)))
 
 abbrev μ-loop : tie.MeasureT-loop
 μ-loop job view kinds pieces copies₀ x₀ copies x = pieces * 8 - x
@@ -44,7 +44,7 @@ loop-less c = search needs
 loop-again : tie.Need-loop-again Inv-loop μ-loop
 loop-again c = (
   (omega (arith, c .before .before .loop .inv), c .before .before .loop .inv .0 .1, c .before .before .loop .inv .0 .2, simp length-set (c .before .before .loop .inv .0 .3)),
-  written-more 0 (c .before .before .loop .copies) (c .before .before .loop .x) (c .count-copies .result) (λ i. copiesLeft (i % 8) (piecesFrom (content (c .before .before .before .before .args .job .now)) (i / 8))) (omega (arith, c .before .before .loop .inv)) (c .before .before .loop .inv .1) (c .count-copies .ensures),
+  written-more 0 (c .before .before .loop .copies) (c .before .before .loop .x) (c .count-copies .result) (λ i. copiesLeft (i % 8) (piecesFrom (content (c .before .before .before .before .args .job .now) .kinds) (i / 8))) (omega (arith, c .before .before .loop .inv)) (c .before .before .loop .inv .1) (c .count-copies .ensures),
 )
 
 returns : tie.Need-returns Inv-loop μ-loop

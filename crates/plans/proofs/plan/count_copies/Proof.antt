@@ -15,7 +15,7 @@ use Rattle.plans.proofs.plan.count_copies.Tie as tie
 
 abbrev Inv-loop : tie.InvT-loop
 Inv-loop job l u kinds pieces count₀ i₀ count i =
-    ((pieces ≡ pieceCount (content job)) × (pieces ≤ 12)) × (i ≤ pieces) × (count ≤ i) × (count + copiesLeft u (piecesFrom (content job) i) ≡ copiesLeft u (piecesFrom (content job) l))
+    ((pieces ≡ pieceCount (content job .kinds)) × (pieces ≤ 12)) × (i ≤ pieces) × (count ≤ i) × (count + copiesLeft u (piecesFrom (content job .kinds) i) ≡ copiesLeft u (piecesFrom (content job .kinds) l))
 
 abbrev μ-loop : tie.MeasureT-loop
 μ-loop job l u kinds pieces count₀ i₀ count i = pieces - i
@@ -45,17 +45,17 @@ loop-again c =
     let j = content (c .before .before .before .args .job .now) in
     let i = c .before .before .loop .i in
     let k = c .before .before .before .pre .1 i (omega (arith, c .before .before .loop .inv)) in
-    let h : i < pieceCount j = omega (arith, c .before .before .loop .inv) in
+    let h : i < pieceCount (j .kinds) = omega (arith, c .before .before .loop .inv) in
     ⊎-elim
-    (λ w. (omega (arith, c .before .before .loop .inv), omega (arith, c .before .before .loop .inv), omega (arith, c .before .before .loop .inv, w), omega (arith, c .before .before .loop .inv, w, copies-hit j (c .before .before .before .args .u) i h (sym k ∙ w .0 .taken))))
-    (λ w. (omega (arith, c .before .before .loop .inv), omega (arith, c .before .before .loop .inv), omega (arith, c .before .before .loop .inv, w), omega (arith, c .before .before .loop .inv, w, copies-miss j (c .before .before .before .args .u) i h (λ q. w .0 .left (k ∙ q)))))
+    (λ w. (omega (arith, c .before .before .loop .inv), omega (arith, c .before .before .loop .inv), omega (arith, c .before .before .loop .inv, w), omega (arith, c .before .before .loop .inv, w, copies-hit (j .kinds) (c .before .before .before .args .u) i h (sym k ∙ w .0 .taken))))
+    (λ w. (omega (arith, c .before .before .loop .inv), omega (arith, c .before .before .loop .inv), omega (arith, c .before .before .loop .inv, w), omega (arith, c .before .before .loop .inv, w, copies-miss (j .kinds) (c .before .before .before .args .u) i h (λ q. w .0 .left (k ∙ q)))))
     (c .if1 .came)
 
 returns : tie.Need-returns Inv-loop μ-loop
 returns c =
     let j = content (c .before .before .args .job .now) in
-    let e : c .before .loop .i ≡ pieceCount j = omega (arith, c .before .loop .inv) in
-    let q : copiesLeft (c .before .before .args .u) (piecesFrom j (c .before .loop .i)) ≡ 0 = ap (λ (i : ℕ). copiesLeft (c .before .before .args .u) (piecesFrom j i)) e ∙ copies-end j (c .before .before .args .u) in
+    let e : c .before .loop .i ≡ pieceCount (j .kinds) = omega (arith, c .before .loop .inv) in
+    let q : copiesLeft (c .before .before .args .u) (piecesFrom (j .kinds) (c .before .loop .i)) ≡ 0 = ap (λ (i : ℕ). copiesLeft (c .before .before .args .u) (piecesFrom (j .kinds) i)) e ∙ copies-end (j .kinds) (c .before .before .args .u) in
     omega (arith, c .before .loop .inv, q)
 
 pub count-copies-spec : {M : Type 1} → statement M

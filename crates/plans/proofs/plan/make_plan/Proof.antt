@@ -27,7 +27,7 @@ bounds : (c : tie.Start) → Bounded (c .args .view)
 bounds c = bounded (c .args .job .now) (c .args .view) (c .pre .0)
 
 -- A kind of the view.
-kind : (c : tie.Start) (t : ℕ) → t < kindCount (content (c .args .job .now)) → KindIn (c .args .job .now) (c .args .view) t (kindAt (content (c .args .job .now)) t)
+kind : (c : tie.Start) (t : ℕ) → t < kindCount (content (c .args .job .now) .kinds) → KindIn (c .args .job .now) (c .args .view) t (kindAt (content (c .args .job .now) .kinds) t)
 kind c = kind-in (c .args .job .now) (c .args .view) (c .pre .0)
 
 piece-kinds-requires : tie.Need-piece-kinds-requires
@@ -65,25 +65,27 @@ sizes-of-requires c κs = c .before .before .before .before .before .before .bef
 returns : tie.Need-returns
 unfolding setWords
 returns c =
-    let start = c .before .before .before .before .before .before .before .before .before .before in
-    record {
-      accepted = start .pre .0 .accepted;
-      view = start .args .view;
-      viewed = start .pre .0 .view;
-      boxes = start .args .boxes;
-      boxed = start .pre .1;
-      rows = refl;
-      step = refl;
-      types = start .pre .0 .view .kinds;
-      pieces = start .pre .0 .view .pieces;
-      words = ap (λ (d : ℕ). (d + 15) / 16) (all-dots start);
-      kinds = c .before .before .before .before .before .before .before .before .piece-kinds .ensures;
-      copies = c .before .before .before .before .copies-table .ensures;
-      ends = c .before .before .before .ends-of .ensures;
-      gaps = λ t h. c .before .before .bytes-of .ensures t (omega (arith, start .pre .0 .view .kinds)) ∙ kind start t h .gap;
-      parts = λ t h. c .before .bytes-of2 .ensures t (omega (arith, start .pre .0 .view .kinds)) ∙ kind start t h .parts;
-      sizes = c .sizes-of .ensures;
-    }
+    let start = c .before .before .before .before .before .before .before .before .before .before in (
+      record {
+        accepted = start .pre .0 .accepted;
+        view = start .args .view;
+        viewed = start .pre .0 .view;
+        boxes = start .args .boxes;
+        boxed = start .pre .1;
+        rows = refl;
+        step = refl;
+        types = start .pre .0 .view .kinds;
+        pieces = start .pre .0 .view .pieces;
+        words = ap (λ (d : ℕ). (d + 15) / 16) (all-dots start);
+        kinds = c .before .before .before .before .before .before .before .before .piece-kinds .ensures;
+        copies = c .before .before .before .before .copies-table .ensures;
+        ends = c .before .before .before .ends-of .ensures;
+        gaps = λ t h. c .before .before .bytes-of .ensures t (omega (arith, start .pre .0 .view .kinds)) ∙ kind start t h .gap;
+        parts = λ t h. c .before .bytes-of2 .ensures t (omega (arith, start .pre .0 .view .kinds)) ∙ kind start t h .parts;
+        sizes = c .sizes-of .ensures;
+      },
+      refl,
+    )
 
 pub make-plan-spec : {M : Type 1} → statement M
 make-plan-spec =

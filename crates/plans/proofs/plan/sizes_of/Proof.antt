@@ -14,8 +14,8 @@ use Rattle.plans.proofs.plan.sizes_of.Tie as tie
 
 abbrev Inv-loop : tie.InvT-loop
 Inv-loop job view kinds sizes₀ x₀ sizes x =
-    ((kinds ≡ kindCount (content job)) × (kinds ≤ 8) × (x ≤ kinds * 6) × (length sizes ≡ 48))
-    × ((i : ℕ) → i < x → i % 6 < length (kindAt (content job) (i / 6) .parts) → getD sizes i 0 ≡ length (getD (kindAt (content job) (i / 6) .parts) (i % 6) []))
+    ((kinds ≡ kindCount (content job .kinds)) × (kinds ≤ 8) × (x ≤ kinds * 6) × (length sizes ≡ 48))
+    × ((i : ℕ) → i < x → i % 6 < length (kindAt (content job .kinds) (i / 6) .parts) → getD sizes i 0 ≡ length (getD (kindAt (content job .kinds) (i / 6) .parts) (i % 6) []))
 
 abbrev μ-loop : tie.MeasureT-loop
 μ-loop job view kinds sizes₀ x₀ sizes x = kinds * 6 - x

@@ -3,13 +3,13 @@ use mathlib.Core.Path.{_≡_}
 use Prim.Native.Nat.{_+_, _*_, _/_, _≤_}
 use native.Mathlib.Nat.{mul-le-mul}
 use native.Mathlib.Omega.{arith}
-use Rattle.model.specs.Format.{content}
 use Rattle.model.specs.Grid.{dots, setWords}
 use Rattle.model.specs.Services.{workWords}
 use Rattle.model.proofs.Accepted.{accepted-kinds, accepted-dots}
 use Rattle.stepping.proofs.Limits.{few-pieces, few-work}
 use Rattle.plans.proofs.plan.work_words.Statement.{statement}
 use Rattle.plans.proofs.plan.work_words.Tie as tie
+use Rattle.job.specs.View.{problemOf}
 
 -- The dots are few, and the sets.
 few-dots : (c : tie.Start) → c .args .view .columns * c .args .view .rows ≤ 1024
@@ -22,12 +22,12 @@ few-sets c =
     (mul-le-mul (accepted-kinds (c .args .job .now) (c .pre .accepted) .few-kinds) (few-pieces (c .args .job .now) (c .pre .accepted)))
 
 all-words : (c : tie.Start)
-    → c .args .view .kinds * c .args .view .pieces * ((c .args .view .columns * c .args .view .rows + 15) / 16) ≡ workWords (content (c .args .job .now))
+    → c .args .view .kinds * c .args .view .pieces * ((c .args .view .columns * c .args .view .rows + 15) / 16) ≡ workWords (problemOf (c .args .job .now) (c .args .view))
 unfolding workWords setWords dots
 all-words c = rw (c .pre .view .kinds, c .pre .view .pieces, c .pre .view .columns, c .pre .view .rows)
 
 few-words : (c : tie.Start) → c .args .view .kinds * c .args .view .pieces * ((c .args .view .columns * c .args .view .rows + 15) / 16) ≤ 6144
-few-words c = rw (all-words c) (few-work (c .args .job .now) (c .pre .accepted))
+few-words c = rw (all-words c) (few-work (c .args .job .now) (c .pre .accepted) (c .args .view .margin))
 
 mul-result : tie.Need-mul-result
 mul-result c = omega (arith, few-sets (c .before))

@@ -6,14 +6,15 @@ use lib.ListN.{length}
 use Rattle.words.specs.Number.{count, withNumber}
 use Rattle.model.specs.Content.{pieceCount}
 use Rattle.model.specs.Format.{content}
-use Rattle.model.specs.Grid.{rows}
-use Rattle.model.specs.Layout.{entryOf}
+use Rattle.model.specs.Grid.{rows, placementOf}
+use Rattle.model.specs.Layout.{entry, entryOf}
 use Rattle.model.specs.Services.{numbersIn, withLayout}
 use Rattle.model.proofs.Accepted.{accepted-kinds}
 use Rattle.model.proofs.Numbers.{rows-positive}
 use Rattle.stepping.specs.Levels.{pieceKind, numbersAt}
 use Rattle.stepping.proofs.Levels.{piece-kind}
 use Rattle.stepping.proofs.Limits.{few-pieces}
+use Rattle.plans.specs.Planned.{planned}
 use Rattle.plans.specs.Recording.{layoutOf}
 use Rattle.plans.proofs.Writing.{written, written-none, entry-written}
 use Rattle.plans.proofs.recording.record_layout.Statement.{statement}
@@ -21,8 +22,8 @@ use Rattle.plans.proofs.recording.record_layout.Tie as tie
 
 abbrev Inv-loop : tie.InvT-loop
 Inv-loop job out₀ candidates rows pieces kinds i₀ out i =
-    ((i ≤ pieces) × (pieces ≡ pieceCount (content job)) × (pieces ≤ 12)) × ((length out ≡ length out₀) × (pieces * 8 ≤ length out))
-    × (out ≡ written (λ l. entryOf (content job) (pieceKind (content job) l) (numbersAt candidates l)) i out₀)
+    ((i ≤ pieces) × (pieces ≡ pieceCount (content job .kinds)) × (pieces ≤ 12)) × ((length out ≡ length out₀) × (pieces * 8 ≤ length out))
+    × (out ≡ written (λ l. entry (pieceKind (content job .kinds) l) (placementOf (content job .sheet) (numbersAt candidates l))) i out₀)
 
 abbrev μ-loop : tie.MeasureT-loop
 μ-loop job out₀ candidates rows pieces kinds i₀ out i = pieces - i
@@ -32,11 +33,11 @@ rows-are : (c : tie.Start Inv-loop μ-loop) → c .args .plan .rows ≡ rows (co
 rows-are c = c .pre .0 .rows ∙ c .pre .0 .viewed .rows
 
 -- The kind of a piece is one of eight.
-kind-small : (c : tie.Start Inv-loop μ-loop) (i : ℕ) → i < pieceCount (content (c .args .job .now)) → pieceKind (content (c .args .job .now)) i < 8
-kind-small c i h = omega (arith, piece-kind (content (c .args .job .now)) i h, accepted-kinds (c .args .job .now) (c .pre .0 .accepted) .few-kinds)
+kind-small : (c : tie.Start Inv-loop μ-loop) (i : ℕ) → i < pieceCount (content (c .args .job .now) .kinds) → pieceKind (content (c .args .job .now) .kinds) i < 8
+kind-small c i h = omega (arith, piece-kind (content (c .args .job .now) .kinds) i h, accepted-kinds (c .args .job .now) (c .pre .0 .accepted) .few-kinds)
 
 -- This piece is one.
-inside : (c : tie.In-loop Inv-loop μ-loop) → c .before .loop .i < pieceCount (content (c .before .before .before .before .before .args .job .now))
+inside : (c : tie.In-loop Inv-loop μ-loop) → c .before .loop .i < pieceCount (content (c .before .before .before .before .before .args .job .now) .kinds)
 inside c = omega (arith, c .before .loop .inv .0)
 
 loop-holds : tie.Need-loop-holds Inv-loop μ-loop
@@ -71,12 +72,13 @@ loop-less : tie.Need-loop-less Inv-loop μ-loop
 loop-less c = omega (arith, c .before .before .before .before .before .before .loop .inv .0)
 
 loop-again : tie.Need-loop-again Inv-loop μ-loop
+unfolding entryOf
 loop-again c =
     let k : length (c .before .before .put-u64 .last .0) ≡ length (c .before .before .before .before .before .before .loop .out) = c .before .before .put-u64 .kept .0 in (
       (omega (arith, c .before .before .before .before .before .before .loop .inv .0), c .before .before .before .before .before .before .loop .inv .0 .1, c .before .before .before .before .before .before .loop .inv .0 .2),
       (k ∙ c .before .before .before .before .before .before .loop .inv .1 .0, omega (arith, k, c .before .before .before .before .before .before .loop .inv .1)),
       c .before .before .put-u64 .ensures ∙ ap (withNumber 8 (c .before .before .before .before .before .before .loop .out) (c .before .before .before .before .before .before .loop .i * 8)) (c .before .before .before .entry-word .ensures)
-          ∙ entry-written (content (c .before .before .before .before .before .before .before .before .before .before .args .job .now)) (c .before .before .before .before .before .before .before .before .before .before .args .t3) (c .before .before .before .before .before .before .before .before .before .before .args .out .now) (c .before .before .before .before .before .before .loop .out) (c .before .before .before .before .before .before .loop .i) _ _ _
+          ∙ entry-written (planned (c .before .before .before .before .before .before .before .before .before .before .args .job .now) (c .before .before .before .before .before .before .before .before .before .before .args .plan)) (c .before .before .before .before .before .before .before .before .before .before .args .t3) (c .before .before .before .before .before .before .before .before .before .before .args .out .now) (c .before .before .before .before .before .before .loop .out) (c .before .before .before .before .before .before .loop .i) _ _ _
           (kind-small (c .before .before .before .before .before .before .before .before .before .before) (c .before .before .before .before .before .before .loop .i) (inside (c .before .before .before .before .before))) (c .before .before .before .before .before .before .before .before .before .before .pre .1 .small (c .before .before .before .before .before .before .loop .i) (inside (c .before .before .before .before .before))) (c .before .before .before .before .before .before .before .before .before .before .pre .0 .kinds (c .before .before .before .before .before .before .loop .i) (inside (c .before .before .before .before .before))) refl (rows-are (c .before .before .before .before .before .before .before .before .before .before)) (c .before .before .before .before .before .before .loop .inv .2),
     )
 
@@ -84,10 +86,10 @@ same-length : tie.Need-same-length Inv-loop μ-loop
 same-length c = c .before .loop .inv .1 .0
 
 returns : tie.Need-returns Inv-loop μ-loop
-unfolding withLayout layoutOf
+unfolding withLayout layoutOf entryOf
 returns c =
-    let e : c .before .loop .i ≡ pieceCount (content (c .before .before .before .before .before .args .job .now)) = omega (arith, c .before .loop .inv .0) in
-    c .before .loop .inv .2 ∙ ap (λ (i : ℕ). written (λ l. entryOf (content (c .before .before .before .before .before .args .job .now)) (pieceKind (content (c .before .before .before .before .before .args .job .now)) l) (numbersAt (c .before .before .before .before .before .args .t3) l)) i (c .before .before .before .before .before .args .out .now)) e
+    let e : c .before .loop .i ≡ pieceCount (content (c .before .before .before .before .before .args .job .now) .kinds) = omega (arith, c .before .loop .inv .0) in
+    c .before .loop .inv .2 ∙ ap (λ (i : ℕ). written (λ l. entry (pieceKind (content (c .before .before .before .before .before .args .job .now) .kinds) l) (placementOf (content (c .before .before .before .before .before .args .job .now) .sheet) (numbersAt (c .before .before .before .before .before .args .t3) l))) i (c .before .before .before .before .before .args .out .now)) e
 
 pub record-layout-spec : {M : Type 1} → statement M
 record-layout-spec =

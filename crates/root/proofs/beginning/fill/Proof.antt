@@ -4,16 +4,16 @@ use Prim.Native.Nat.{_+_, _-_, _*_, _^_, _≤_, _<_}
 use native.Mathlib.Omega.{arith}
 use lib.ListN.{length}
 use Rattle.model.specs.Candidate.{isCandidate}
-use Rattle.model.specs.Format.{content}
 use Rattle.live_sets.specs.Narrowing.{Filled}
 use Rattle.live_sets.proofs.Filling.{filled-begin, filled-next, bits-where}
 use borrow.Author.Needs.{needs}
 use Rattle.root.proofs.beginning.fill.Statement.{statement}
 use Rattle.root.proofs.beginning.fill.Tie as tie
+use Rattle.job.specs.View.{problemOf}
 
 abbrev Inv-loop : tie.InvT-loop
 Inv-loop job view boxes u work₀ to words k₀ work k =
-    (k ≤ words) × ((length work ≡ length work₀) × ((to + words) * 8 < 2 ^ 64)) × Filled to k (isCandidate (content job) u) work₀ work
+    (k ≤ words) × ((length work ≡ length work₀) × ((to + words) * 8 < 2 ^ 64)) × Filled to k (isCandidate (problemOf job view) u) work₀ work
 
 abbrev μ-loop : tie.MeasureT-loop
 μ-loop job view boxes u work₀ to words k₀ work k = words - k
@@ -46,8 +46,8 @@ loop-again : tie.Need-loop-again Inv-loop μ-loop
 loop-again c = (
   omega arith,
   search needs,
-  rw (c .before .before .put-u64 .ensures) (filled-next (c .before .before .before .before .before .before .before .before .before .args .to) (c .before .before .before .before .before .before .loop .k) (isCandidate (content (c .before .before .before .before .before .before .before .before .before .args .job .now)) (c .before .before .before .before .before .before .before .before .before .args .u)) (c .before .before .before .before .before .before .before .before .before .args .work .now) (c .before .before .before .before .before .before .loop .work) (c .before .before .before .before .fill-word .result) (c .before .before .before .before .before .before .loop .inv .2) (omega arith) (search needs)
-      (bits-where (isCandidate (content (c .before .before .before .before .before .before .before .before .before .args .job .now)) (c .before .before .before .before .before .before .before .before .before .args .u)) (c .before .before .before .before .before .before .loop .k * 64) (c .before .before .before .before .fill-word .result) (c .before .before .before .before .fill-word .ensures))),
+  rw (c .before .before .put-u64 .ensures) (filled-next (c .before .before .before .before .before .before .before .before .before .args .to) (c .before .before .before .before .before .before .loop .k) (isCandidate (problemOf (c .before .before .before .before .before .before .before .before .before .args .job .now) (c .before .before .before .before .before .before .before .before .before .args .view)) (c .before .before .before .before .before .before .before .before .before .args .u)) (c .before .before .before .before .before .before .before .before .before .args .work .now) (c .before .before .before .before .before .before .loop .work) (c .before .before .before .before .fill-word .result) (c .before .before .before .before .before .before .loop .inv .2) (omega arith) (search needs)
+      (bits-where (isCandidate (problemOf (c .before .before .before .before .before .before .before .before .before .args .job .now) (c .before .before .before .before .before .before .before .before .before .args .view)) (c .before .before .before .before .before .before .before .before .before .args .u)) (c .before .before .before .before .before .before .loop .k * 64) (c .before .before .before .before .fill-word .result) (c .before .before .before .before .fill-word .ensures))),
 )
 
 same-length : tie.Need-same-length Inv-loop μ-loop

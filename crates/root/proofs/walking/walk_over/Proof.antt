@@ -12,7 +12,7 @@ make-nofit-requires c κs = ((c .before .before .before .before .before .pre .0 
 
 try-piece-requires : tie.Need-try-piece-requires
 try-piece-requires c κs =
-    ((record { plan = c .before .before .before .before .before .before .before .before .before .before .before .pre .0 .plan; table = c .before .before .before .before .before .before .before .before .before .before .before .pre .0 .table; nofit = c .before .before .before .before .before .make-nofit .ensures }, accepted-sensible (c .before .before .before .before .before .before .before .before .before .before .before .args .job .now) (c .before .before .before .before .before .before .before .before .before .before .before .pre .0 .viewed .accepted) .pieced), c .before .before .before .before .before .before .before .before .before .before .before .pre .1 .1)
+    ((record { plan = c .before .before .before .before .before .before .before .before .before .before .before .pre .0 .plan; table = c .before .before .before .before .before .before .before .before .before .before .before .pre .0 .table; nofit = c .before .before .before .before .before .make-nofit .ensures }, accepted-sensible (c .before .before .before .before .before .before .before .before .before .before .before .args .job .now) (c .before .before .before .before .before .before .before .before .before .before .before .args .plan .margin) (c .before .before .before .before .before .before .before .before .before .before .before .pre .0 .viewed .accepted) .pieced), c .before .before .before .before .before .before .before .before .before .before .before .pre .1 .1)
 
 same-length : tie.Need-same-length
 same-length c = search needs

@@ -17,8 +17,8 @@ use Rattle.shapes.proofs.pieces.piece_of.Tie as tie
 
 abbrev Inv-loop : tie.InvT-loop
 Inv-loop job kind places n sizes₀ i₀ sizes i =
-    ((kind < 8) × (n ≤ 6) × (i ≤ n)) × (n ≡ length (kindAt (content job) kind .parts)) × (length sizes ≡ 6)
-    × ((j : ℕ) → j < i → getD sizes j 0 ≡ length (getD (kindAt (content job) kind .parts) j []))
+    ((kind < 8) × (n ≤ 6) × (i ≤ n)) × (n ≡ length (kindAt (content job .kinds) kind .parts)) × (length sizes ≡ 6)
+    × ((j : ℕ) → j < i → getD sizes j 0 ≡ length (getD (kindAt (content job .kinds) kind .parts) j []))
 
 abbrev μ-loop : tie.MeasureT-loop
 μ-loop job kind places n sizes₀ i₀ sizes i = n - i
@@ -26,7 +26,7 @@ abbrev μ-loop : tie.MeasureT-loop
 -- the part of this turn of the loop
 here : (c : tie.In-loop Inv-loop μ-loop) → PartAt (now (c .before .before .before .before .before .args .job))
     (getD (c .before .before .before .before .before .args .view .«part_at») (c .before .before .before .before .before .args .kind * 6 + c .before .loop .i) 0)
-    (getD (kindAt (content (now (c .before .before .before .before .before .args .job))) (c .before .before .before .before .before .args .kind) .parts) (c .before .loop .i) [])
+    (getD (kindAt (content (now (c .before .before .before .before .before .args .job)) .kinds) (c .before .before .before .before .before .args .kind) .parts) (c .before .loop .i) [])
 here c =
     let start = c .before .before .before .before .before in
     part-in (start .args .job .now) (start .args .view) (start .pre .0) (start .args .kind) (start .pre .1) (c .before .loop .i) (omega arith)

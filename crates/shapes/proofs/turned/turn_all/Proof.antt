@@ -12,7 +12,7 @@ use Rattle.shapes.proofs.turned.turn_all.Statement.{statement}
 use Rattle.shapes.proofs.turned.turn_all.Tie as tie
 
 abbrev Inv-loop : tie.InvT-loop
-Inv-loop job view turned₀ kind₀ turned kind = (kind ≤ kindCount (content job)) × (length turned ≡ 4096) × KindsTurned job turned kind
+Inv-loop job view turned₀ kind₀ turned kind = (kind ≤ kindCount (content job .kinds)) × (length turned ≡ 4096) × KindsTurned job turned kind
 
 abbrev μ-loop : tie.MeasureT-loop
 μ-loop job view turned₀ kind₀ turned kind = view .kinds - kind
@@ -39,7 +39,7 @@ loop-again c =
     let start = at .before .before in
     let s = start .args .job .now in
     let v = start .args .view in
-    let h : at .loop .kind < kindCount (content s) = rw (start .pre .0 .view .kinds) at (turn .if1 .taken) in (
+    let h : at .loop .kind < kindCount (content s .kinds) = rw (start .pre .0 .view .kinds) at (turn .if1 .taken) in (
       omega arith,
       search needs,
       kinds-more s (at .loop .turned) _ (at .loop .kind) (λ t l. kind-in s v (start .pre .0) t (omega arith) .fewParts)

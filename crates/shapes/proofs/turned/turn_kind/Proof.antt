@@ -15,7 +15,7 @@ use Rattle.shapes.proofs.turned.turn_kind.Statement.{statement}
 use Rattle.shapes.proofs.turned.turn_kind.Tie as tie
 
 abbrev Inv-loop : tie.InvT-loop
-Inv-loop job kind turned₀ places n i₀ turned i = ((kind < 8) × (n ≤ 6) × (i ≤ n)) × (n ≡ length (kindAt (content job) kind .parts)) × (length turned ≡ 4096) × KindTurnedTo job kind turned₀ turned i
+Inv-loop job kind turned₀ places n i₀ turned i = ((kind < 8) × (n ≤ 6) × (i ≤ n)) × (n ≡ length (kindAt (content job .kinds) kind .parts)) × (length turned ≡ 4096) × KindTurnedTo job kind turned₀ turned i
 
 abbrev μ-loop : tie.MeasureT-loop
 μ-loop job kind turned₀ places n i₀ turned i = n - i
@@ -23,7 +23,7 @@ abbrev μ-loop : tie.MeasureT-loop
 -- the part of this turn of the loop
 here : (c : tie.In-loop Inv-loop μ-loop) → PartAt (now (c .before .before .before .before .before .args .job))
     (getD (c .before .before .before .before .before .args .view .«part_at») (c .before .before .before .before .before .args .kind * 6 + c .before .loop .i) 0)
-    (getD (kindAt (content (now (c .before .before .before .before .before .args .job))) (c .before .before .before .before .before .args .kind) .parts) (c .before .loop .i) [])
+    (getD (kindAt (content (now (c .before .before .before .before .before .args .job)) .kinds) (c .before .before .before .before .before .args .kind) .parts) (c .before .loop .i) [])
 here c =
     let start = c .before .before .before .before .before in
     part-in (start .args .job .now) (start .args .view) (start .pre .0 .0) (start .args .kind) (start .pre .0 .1) (c .before .loop .i) (omega arith)
@@ -67,7 +67,7 @@ add-turn-part-2 c = omega arith
 turn-part-requires : tie.Need-turn-part-requires Inv-loop μ-loop
 turn-part-requires c κs =
     let p = here (c .before .before) in
-    let e : c .before .byte .result ≡ length (getD (kindAt (content (now (c .before .before .before .before .before .before .before .args .job))) (c .before .before .before .before .before .before .before .args .kind) .parts) (c .before .before .before .loop .i) []) = c .before .byte .ensures ∙ p .stated in
+    let e : c .before .byte .result ≡ length (getD (kindAt (content (now (c .before .before .before .before .before .before .before .args .job)) .kinds) (c .before .before .before .before .before .before .before .args .kind) .parts) (c .before .before .before .loop .i) []) = c .before .byte .ensures ∙ p .stated in
     ((omega (arith, p .most), omega arith), (omega (arith, p .inside), c .before .before .before .loop .inv .2))
 
 add-i : tie.Need-add-i Inv-loop μ-loop

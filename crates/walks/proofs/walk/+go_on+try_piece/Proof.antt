@@ -30,6 +30,7 @@ use Rattle.walks.proofs.walk.try_piece.Kinds as try-piece-kinds
 use Rattle.walks.proofs.walk.+go_on+try_piece.Lts-try_piece as try-piece-lts
 use Rattle.walks.proofs.walk.+go_on+try_piece.{statement}
 use Rattle.walks.proofs.walk.+go_on+try_piece.Tie.{close}
+use Rattle.plans.specs.Planned.{planned}
 
 abbrev μ-go-on : Measures 5 go-on-kinds.ps ℕ
 μ-go-on κs a = (a .1 .0 .pieces - a .1 .1 .1 .1 .1 .1 .1 .1 .0) + (a .1 .0 .pieces - a .1 .1 .1 .1 .1 .1 .1 .1 .0) + 1
@@ -63,7 +64,7 @@ positive n f = omega arith
 few-dots : (t : ℕ) (c : go-on-lts.Start (record-layout-reads.Asked, record-layout-reads.Learnt, lower-reads.Asked, lower-reads.Learnt, complete-reads.Asked, complete-reads.Learnt, settle-reads.Asked, settle-reads.Learnt, try-piece-below t, try-piece.Post) (go-on-at t) go-on.Post) → dots (content (c .args .job .now) .sheet) ≤ 1024
 few-dots t c = accepted-dots (c .args .job .now) (c .pre .1 .0 .plan .accepted)
 
-few-kinds : (t : ℕ) (c : go-on-lts.Start (record-layout-reads.Asked, record-layout-reads.Learnt, lower-reads.Asked, lower-reads.Learnt, complete-reads.Asked, complete-reads.Learnt, settle-reads.Asked, settle-reads.Learnt, try-piece-below t, try-piece.Post) (go-on-at t) go-on.Post) → kindCount (content (c .args .job .now)) ≤ 8
+few-kinds : (t : ℕ) (c : go-on-lts.Start (record-layout-reads.Asked, record-layout-reads.Learnt, lower-reads.Asked, lower-reads.Learnt, complete-reads.Asked, complete-reads.Learnt, settle-reads.Asked, settle-reads.Learnt, try-piece-below t, try-piece.Post) (go-on-at t) go-on.Post) → kindCount (content (c .args .job .now) .kinds) ≤ 8
 few-kinds t c = accepted-kinds (c .args .job .now) (c .pre .1 .0 .plan .accepted) .few-kinds
 
 go-on-record-layout-requires : (t : ℕ) → go-on-lts.Need-record-layout-requires (record-layout-reads.Asked, record-layout-reads.Learnt, lower-reads.Asked, lower-reads.Learnt, complete-reads.Asked, complete-reads.Learnt, settle-reads.Asked, settle-reads.Learnt, try-piece-below t, try-piece.Post) (go-on-at t) go-on.Post
@@ -85,7 +86,7 @@ go-on-returns : (t : ℕ) → go-on-lts.Need-returns (record-layout-reads.Asked,
 go-on-returns t c = go-last _ _ _ _ _ _ _ (c .before .before .before .before .before .before .before .before .before .before .before .before .before .before .before .pre .1 .1 .0) (c .before .before .before .before .before .before .before .before .before .before .before .before .before .before .before .pre .1 .1 .1 .below) _ _ (c .before .before .before .lower .result) (c .complete .result) (c .complete .ensures) (few-dots t (c .before .before .before .before .before .before .before .before .before .before .before .before .before .before .before)) (few-kinds t (c .before .before .before .before .before .before .before .before .before .before .before .before .before .before .before)) (demanded (c .before .before .before .before .before .before .before .before .before .before .before .before .before .before .before .args .job .now) (c .before .before .before .before .before .before .before .before .before .before .before .before .before .before .before .pre .1 .0 .plan .accepted)) (c .before .before .before .before .before .before .before .before .before .before .before .before .before .before .before .pre .1 .1 .1 .some) (c .before .before .before .before .before .before .before .before .before .if1 .taken ∙ c .before .before .before .before .before .before .before .before .before .before .before .before .before .before .before .pre .1 .0 .plan .pieces) (c .before .before .before .before .before .before .before .record-layout .ensures) (c .before .before .before .lower .ensures)
 
 -- A piece is left.
-unplaced : (t : ℕ) (c : go-on-lts.Else1 (record-layout-reads.Asked, record-layout-reads.Learnt, lower-reads.Asked, lower-reads.Learnt, complete-reads.Asked, complete-reads.Learnt, settle-reads.Asked, settle-reads.Learnt, try-piece-below t, try-piece.Post) (go-on-at t) go-on.Post) → c .before .before .before .before .before .before .args .level < pieceCount (content (c .before .before .before .before .before .before .args .job .now))
+unplaced : (t : ℕ) (c : go-on-lts.Else1 (record-layout-reads.Asked, record-layout-reads.Learnt, lower-reads.Asked, lower-reads.Learnt, complete-reads.Asked, complete-reads.Learnt, settle-reads.Asked, settle-reads.Learnt, try-piece-below t, try-piece.Post) (go-on-at t) go-on.Post) → c .before .before .before .before .before .before .args .level < pieceCount (content (c .before .before .before .before .before .before .args .job .now) .kinds)
 unplaced t c = unfinished (c .before .before .before .before .before .before .args .level) _ _ (c .before .before .before .before .before .before .pre .1 .1 .1 .within) (c .before .before .before .before .before .before .pre .1 .0 .plan .pieces) (c .if1 .left)
 
 go-on-settle-requires : (t : ℕ) → go-on-lts.Need-settle-requires (record-layout-reads.Asked, record-layout-reads.Learnt, lower-reads.Asked, lower-reads.Learnt, complete-reads.Asked, complete-reads.Learnt, settle-reads.Asked, settle-reads.Learnt, try-piece-below t, try-piece.Post) (go-on-at t) go-on.Post
@@ -113,7 +114,7 @@ go-on-returns-3 t c = go-back _ _ _ _ _ _ _ (c .before .before .before .before .
 
 abbrev try-piece-Inv-loop : try-piece-lts.InvT-loop
 try-piece-Inv-loop job plan nofit turned strings work₀ out₀ numbers level extent st₀ from₀ work out st from =
-    ((length work ≡ length work₀) × (length out ≡ length out₀)) × Trying (content job) numbers level extent work₀ out₀ work out st₀ st from
+    ((length work ≡ length work₀) × (length out ≡ length out₀)) × Trying (planned job plan) numbers level extent work₀ out₀ work out st₀ st from
 
 abbrev try-piece-μ-loop : try-piece-lts.MeasureT-loop
 try-piece-μ-loop job plan nofit turned strings work₀ out₀ numbers level extent st₀ from₀ work out st from = setWords (content job .sheet) * 64 - from

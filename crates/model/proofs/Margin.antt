@@ -1,0 +1,138 @@
+-- Document 02, "1/13 Clamp margin": what is refused under a margin; that margin 0 is document 01; how margins compare.
+use mathlib.Core.Bool.{Bool, true, false, cond, _&&_}
+use mathlib.Core.List.{List, [], _∷_}
+use mathlib.Core.Logic.{_⊎_, _↔_, ⊎-elim}
+use mathlib.Core.Path.{_≡_, refl, sym, ap, _∙_}
+use Prim.Native.Nat.{ℕ, _+_, _*_, _≤_, _<_}
+use native.Mathlib.Omega.{arith}
+use borrow.Author.Tests.{ltb-false, lt-ltb, le-ltb, eqb-true, eqb-false, eq-eqb, ne-eqb}
+use lib.Dec.{eqb, ltb}
+use lib.IntN.{ℤ, pos, _+ℤ_, _-ℤ_}
+use lib.ListN.{getD}
+use lib.Signed.{leZ, _≤ℤ_}
+use Rattle.integers.proofs.Linear.{linear, _⊩_}
+use Rattle.integers.proofs.Order.{leZ-true, le-leZ, ≤ℤ-trans, pos-≤ℤ, ≤ℤ-pos}
+use Rattle.integers.proofs.Solver.{#, _⊞_, _⊟_, _≲_}
+use Rattle.words.specs.Bits.{testBit}
+use Rattle.model.specs.Candidate.{placedVertices, onBoard, admitted, isCandidate}
+use Rattle.model.specs.Content.{Vertex, Board, Kind, Job, kindAt, origin}
+use Rattle.model.specs.Format.{refusal}
+use Rattle.model.specs.Grid.{Placement, columns, rows, placementOf}
+use Rattle.model.specs.Layout.{Entry, Layout, entryKind, conflict, largestEnd, layoutLength}
+use Rattle.model.specs.Lists.{all}
+use Rattle.model.specs.Problem.{Problem, under, cause13}
+use Rattle.model.specs.Services.{refusalUnder}
+use Rattle.model.proofs.Lists.{and-left, and-right, and-both, and-four, all-at, all-of}
+
+-- ---- What is refused
+
+module _ (s : List ℕ) (m : ℕ) where
+  -- A job that is refused by itself is refused by that number, whatever the margin.
+  pub refused-first : (refusal s ≡ 0 → ⊥) → refusalUnder m s ≡ refusal s
+  unfolding refusalUnder
+  refused-first f = rw (ne-eqb (refusal s) 0 f, refusalUnder)
+
+  -- For an accepted job the margin decides.
+  margin-decides : refusal s ≡ 0 → refusalUnder m s ≡ cond (ltb 63 m) 13 0
+  unfolding refusalUnder cause13
+  margin-decides e = rw (eq-eqb (refusal s) 0 e, refusalUnder)
+
+  -- Nothing is refused exactly if the job is accepted and the margin is at most 63.
+  pub accepted-under : refusalUnder m s ≡ 0 → (refusal s ≡ 0) × (m ≤ 63)
+  accepted-under h = go (eqb (refusal s) 0) (ltb 63 m) refl refl
+    where
+      go : (b c : Bool) → eqb (refusal s) 0 ≡ b → ltb 63 m ≡ c → (refusal s ≡ 0) × (m ≤ 63)
+      go false c e f = let z : refusal s ≡ 0 = sym (refused-first (eqb-false (refusal s) 0 e)) ∙ h in absurd (eqb-false (refusal s) 0 e z)
+      go true true e f = let z : _≡_ {A = ℕ} 13 0 = sym (margin-decides (eqb-true (refusal s) 0 e) ∙ ap (λ c. cond c 13 0) f) ∙ h in absurd (omega arith)
+      go true false e f = (eqb-true (refusal s) 0 e, ltb-false 63 m f)
+
+  pub under-accepted : refusal s ≡ 0 → m ≤ 63 → refusalUnder m s ≡ 0
+  under-accepted e h = margin-decides e ∙ ap (λ c. cond c 13 0) (le-ltb 63 m h)
+
+  -- "13, margin above 63, tested after 7".
+  pub refused-13 : refusal s ≡ 0 → 63 < m → refusalUnder m s ≡ 13
+  refused-13 e h = margin-decides e ∙ ap (λ c. cond c 13 0) (lt-ltb 63 m h)
+
+-- ---- "With m = 0 .., all earlier results hold"
+
+-- Margin 0 is never refused.
+pub refusal-under-0 : (s : List ℕ) → refusalUnder 0 s ≡ refusal s
+refusal-under-0 s = go (eqb (refusal s) 0) refl
+  where
+    go : (b : Bool) → eqb (refusal s) 0 ≡ b → refusalUnder 0 s ≡ refusal s
+    go false e = refused-first s 0 (eqb-false (refusal s) 0 e)
+    go true e = under-accepted s 0 (eqb-true (refusal s) 0 e) (omega arith) ∙ sym (eqb-true (refusal s) 0 e)
+
+minus-0 : (n : ℕ) → pos n -ℤ pos 0 ≡ pos n
+minus-0 n = ap pos (omega arith)
+
+-- "in 0 to L by 0 to W, edges included"
+pub onBoard-0 : (b : Board) (v : Vertex) → onBoard 0 b v ≡ (leZ (pos 0) (v .x) && leZ (v .x) (pos (b .L)) && leZ (pos 0) (v .y) && leZ (v .y) (pos (b .W)))
+unfolding onBoard
+onBoard-0 b v = rw (minus-0 (b .L), minus-0 (b .W))
+
+-- What the margin enters is document 01's at margin 0: the refusals, the on-board test and the length. Nothing else in the definitions speaks of it.
+pub record AsBefore (s : List ℕ) (j : Job) : Type 0 where
+  -- "They are tested as 1 to 7"
+  pub refused : refusalUnder 0 s ≡ refusal s
+  -- "in 0 to L by 0 to W, edges included"
+  pub on-board : (v : Vertex) → onBoard 0 (j .sheet) v
+      ≡ (leZ (pos 0) (v .x) && leZ (v .x) (pos (j .sheet .L)) && leZ (pos 0) (v .y) && leZ (v .y) (pos (j .sheet .W)))
+  -- "Its length is the largest end."
+  pub length : (es : Layout) → layoutLength (under 0 j) es ≡ largestEnd (under 0 j) es
+
+pub margin-0 : (s : List ℕ) (j : Job) → AsBefore s j
+unfolding layoutLength
+margin-0 s j = record { refused = refusal-under-0 s; on-board = onBoard-0 (j .sheet); length = λ es. omega arith }
+
+-- ---- Margins compared
+
+module _ (m n : ℕ) (h : m ≤ n) where
+  -- What is at least the larger margin, or at most what it leaves, is so for the smaller one.
+  above-less : (z : ℤ) → leZ (pos n) z ≡ true → leZ (pos m) z ≡ true
+  above-less z e = le-leZ (pos m) z (≤ℤ-trans (pos-≤ℤ h) (leZ-true (pos n) z e))
+
+  below-less : (l : ℕ) (z : ℤ) → leZ z (pos l -ℤ pos n) ≡ true → leZ z (pos l -ℤ pos m) ≡ true
+  below-less l z e =
+      le-leZ z (pos l -ℤ pos m)
+      (linear 4 (λ z l m n. (z ≲ l ⊟ n) ∷ (m ≲ n) ∷ [] ⊩ z ≲ l ⊟ m) z (pos l) (pos m) (pos n) (omega arith) (leZ-true z (pos l -ℤ pos n) e) (pos-≤ℤ h))
+
+  -- What lies on the board within a larger margin lies there within a smaller one.
+  pub onBoard-less : (b : Board) (v : Vertex) → onBoard n b v ≡ true → onBoard m b v ≡ true
+  unfolding onBoard
+  onBoard-less b v e =
+      let four = and-four (leZ (pos n) (v .x)) (leZ (v .x) (pos (b .L) -ℤ pos n)) (leZ (pos n) (v .y)) (leZ (v .y) (pos (b .W) -ℤ pos n)) e in
+      and-both _ _
+      (and-both _ _ (and-both _ _ (above-less (v .x) (four .0)) (below-less (b .L) (v .x) (four .1))) (above-less (v .y) (four .2)))
+      (below-less (b .W) (v .y) (four .3))
+
+  -- A candidate under a larger margin is a candidate under a smaller one.
+  pub admitted-less : (j : Job) (k : Kind) (p : Placement) → admitted (under n j) k p ≡ true → admitted (under m j) k p ≡ true
+  unfolding admitted
+  admitted-less j k p e =
+      let vs : List Vertex = placedVertices (j .sheet) k p in
+      let stands : Bool = ltb (p .column) (columns (j .sheet)) && ltb (p .row) (rows (j .sheet)) && testBit (k .rotations) (p .rotation) in
+      let clear : all (onBoard n (j .sheet)) vs ≡ true = and-right stands _ e in
+      and-both stands _ (and-left stands _ e)
+      (all-of (onBoard m (j .sheet)) vs origin (λ i l. onBoard-less (j .sheet) (getD vs i origin) (all-at (onBoard n (j .sheet)) vs origin clear i l)))
+
+  pub candidate-less : (j : Job) (t k : ℕ) → isCandidate (under n j) t k ≡ true → isCandidate (under m j) t k ≡ true
+  unfolding isCandidate
+  candidate-less j t k e = admitted-less j (kindAt (j .kinds) t) (placementOf (j .sheet) k) e
+
+-- Where 2 × m is above L or W, nothing lies on the board.
+pub board-too-small : (m : ℕ) (b : Board) (v : Vertex) → (b .L < 2 * m) ⊎ (b .W < 2 * m) → onBoard m b v ≡ true → ⊥
+unfolding onBoard
+board-too-small m b v small e =
+    let four = and-four (leZ (pos m) (v .x)) (leZ (v .x) (pos (b .L) -ℤ pos m)) (leZ (pos m) (v .y)) (leZ (v .y) (pos (b .W) -ℤ pos m)) e in
+    ⊎-elim (λ l. too-wide (b .L) (v .x) (four .0) (four .1) l) (λ l. too-wide (b .W) (v .y) (four .2) (four .3) l) small
+  where
+    too-wide : (l : ℕ) (z : ℤ) → leZ (pos m) z ≡ true → leZ z (pos l -ℤ pos m) ≡ true → l < 2 * m → ⊥
+    too-wide l z a c s =
+        let twice : (pos m +ℤ pos m) ≤ℤ pos l = linear 3 (λ m l z. (m ≲ z) ∷ (z ≲ l ⊟ m) ∷ [] ⊩ m ⊞ m ≲ l) (pos m) (pos l) z (omega arith) (leZ-true (pos m) z a) (leZ-true z (pos l -ℤ pos m) c) in
+        let most : m + m ≤ l = ≤ℤ-pos twice in omega arith
+
+-- Conflict does not know the margin.
+pub conflict-any-margin : (m n : ℕ) (j : Job) (e f : Entry) → conflict (under m j) e f ≡ conflict (under n j) e f
+unfolding conflict entryKind
+conflict-any-margin m n j e f = refl
