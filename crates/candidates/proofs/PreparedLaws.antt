@@ -8,14 +8,12 @@ use native.Mathlib.Nat.{div-mul-le-self, div-le-self, mul-le-mul-right, mod-lt, 
 use native.Mathlib.Omega.{arith}
 use borrow.Author.Tests.{ltb-true}
 use lib.Dec.{ltb}
-use lib.IntN.{ℤ, pos, negsuc, _+ℤ_, _-ℤ_}
+use lib.IntN.{ℤ, pos, _-ℤ_}
 use lib.ListN.{length, getD, length-append, length-map}
-use lib.Signed.{leZ, _≤ℤ_}
-use Rattle.integers.proofs.Order.{leZ-true, ≤ℤ-pos}
 use Rattle.words.specs.Bits.{testBit}
 use Rattle.words.proofs.Bit.{testBit-above}
 use Rattle.words.proofs.Cases.{le-or-lt}
-use Rattle.model.specs.Candidate.{placedPart, placedParts, placedVertices, onBoard, admitted, isCandidate, natural, extent}
+use Rattle.model.specs.Candidate.{placedPart, placedParts, placedVertices, onBoard, admitted, isCandidate, extent}
 use Rattle.model.specs.Content.{Vertex, Part, Board, kindAt, kindCount}
 use Rattle.model.specs.Format.{content, refusal}
 use Rattle.model.specs.Gap.{pairGap}
@@ -26,7 +24,7 @@ use Rattle.model.specs.Lists.{all, any, concat}
 use Rattle.model.specs.Problem.{Problem, under}
 use Rattle.model.proofs.Accepted.{accepted-sensible}
 use Rattle.model.proofs.Box.{all-onBoard, placed-vertices, extent-placed, largest-x-moved, largest-y-moved, smallest-x-moved, smallest-y-moved}
-use Rattle.model.proofs.Lists.{and-left, and-right, not-both}
+use Rattle.model.proofs.Lists.{and-left}
 use Rattle.model.proofs.Numbers.{rows-positive}
 use Rattle.model.proofs.Moves.{Vertexed, separated-placed}
 use Rattle.model.proofs.AcceptedKinds.{gap-most}

@@ -1,8 +1,8 @@
--- The marked boards of document 01 hold of the definitions: every question of the table has the answer that stands beside it.
+-- The marked boards of document 01, and the boards of document 02's requests, hold of the definitions: every question of a table has the answer that stands beside it.
 use mathlib.Core.List.{List, map}
 use mathlib.Core.Path.{_≡_, refl}
 use Prim.Native.Nat.{ℕ}
-use Rattle.model.specs.Boards.{Marked, answerUnder, answerTo, boards, furtherBoards, clampBoards, numbersOf, saidBy, shownBy, square, jobOf, squareType, squares, gapSquares, printedJob, printedText, triangles, strips, bar, rankedSquares, leftCorner, star, squareTwice}
+use Rattle.model.specs.Boards.{Marked, answerUnder, answerTo, boards, furtherBoards, clampRuns, clampChecks, clampRefusals, numbersOf, saidBy, shownBy, square, jobOf, squareType, squares, gapSquares, printedJob, printedText, triangles, strips, bar, rankedSquares, leftCorner, star, squareTwice}
 use Rattle.model.specs.Opened.{opened}
 
 -- Every question of the table has its expected answer.
@@ -10,7 +10,7 @@ abbrev pub Hold : List Marked → Type 0
 Hold table = map (λ m. answerTo (m .question)) table ≡ map (λ m. m .expected) table
 
 unfoldable openedBoards : ℕ
-unfolding opened boards furtherBoards clampBoards answerUnder answerTo numbersOf saidBy shownBy square jobOf squareType squares gapSquares printedJob printedText triangles strips bar rankedSquares leftCorner star squareTwice
+unfolding opened boards furtherBoards clampRuns clampChecks clampRefusals answerUnder answerTo numbersOf saidBy shownBy square jobOf squareType squares gapSquares printedJob printedText triangles strips bar rankedSquares leftCorner star squareTwice
 openedBoards = 0
 
 -- The paper prints the bytes of one job; the others are put together the same way.
@@ -26,6 +26,15 @@ pub further-boards : Hold furtherBoards
 unfolding openedBoards
 further-boards = refl
 
-pub clamp-boards : Hold clampBoards
+-- The boards of document 02's first request.
+pub clamp-refusals : Hold clampRefusals
 unfolding openedBoards
-clamp-boards = refl
+clamp-refusals = refl
+
+pub clamp-checks : Hold clampChecks
+unfolding openedBoards
+clamp-checks = refl
+
+pub clamp-runs : Hold clampRuns
+unfolding openedBoards
+clamp-runs = refl

@@ -1,28 +1,29 @@
 -- Document 02, "1/13 Clamp margin": what is refused under a margin; that margin 0 is document 01; how margins compare.
 use mathlib.Core.Bool.{Bool, true, false, cond, _&&_}
 use mathlib.Core.List.{List, [], _∷_}
-use mathlib.Core.Logic.{_⊎_, _↔_, ⊎-elim}
+use mathlib.Core.Logic.{_⊎_, ⊎-elim, _↔_}
 use mathlib.Core.Path.{_≡_, refl, sym, ap, _∙_}
 use Prim.Native.Nat.{ℕ, _+_, _*_, _≤_, _<_}
 use native.Mathlib.Omega.{arith}
-use borrow.Author.Tests.{ltb-false, lt-ltb, le-ltb, eqb-true, eqb-false, eq-eqb, ne-eqb}
+use borrow.Author.Tests.{ltb-true, ltb-false, lt-ltb, le-ltb, eqb-true, eqb-false, eq-eqb, ne-eqb}
 use lib.Dec.{eqb, ltb}
 use lib.IntN.{ℤ, pos, _+ℤ_, _-ℤ_}
 use lib.ListN.{getD}
 use lib.Signed.{leZ, _≤ℤ_}
 use Rattle.integers.proofs.Linear.{linear, _⊩_}
 use Rattle.integers.proofs.Order.{leZ-true, le-leZ, ≤ℤ-trans, pos-≤ℤ, ≤ℤ-pos}
-use Rattle.integers.proofs.Solver.{#, _⊞_, _⊟_, _≲_}
+use Rattle.integers.proofs.Solver.{_⊞_, _⊟_, _≲_}
 use Rattle.words.specs.Bits.{testBit}
 use Rattle.model.specs.Candidate.{placedVertices, onBoard, admitted, isCandidate}
 use Rattle.model.specs.Content.{Vertex, Board, Kind, Job, kindAt, origin}
-use Rattle.model.specs.Format.{refusal}
+use Rattle.model.specs.Format.{refusal, content}
 use Rattle.model.specs.Grid.{Placement, columns, rows, placementOf}
-use Rattle.model.specs.Layout.{Entry, Layout, entryKind, conflict, largestEnd, layoutLength}
+use Rattle.model.specs.Layout.{Entry, Layout, entryAt, entryNumber, entryKind, isEntry, conflict, largestEnd, layoutLength, Passes}
 use Rattle.model.specs.Lists.{all}
-use Rattle.model.specs.Problem.{Problem, under, cause13}
+use Rattle.model.specs.Problem.{under, cause13}
 use Rattle.model.specs.Services.{refusalUnder}
 use Rattle.model.proofs.Lists.{and-left, and-right, and-both, and-four, all-at, all-of}
+use Rattle.model.proofs.Refusals.{refusal-most}
 
 -- ---- What is refused
 
@@ -49,9 +50,14 @@ module _ (s : List ℕ) (m : ℕ) where
   pub under-accepted : refusal s ≡ 0 → m ≤ 63 → refusalUnder m s ≡ 0
   under-accepted e h = margin-decides e ∙ ap (λ c. cond c 13 0) (le-ltb 63 m h)
 
-  -- "13, margin above 63, tested after 7".
-  pub refused-13 : refusal s ≡ 0 → 63 < m → refusalUnder m s ≡ 13
-  refused-13 e h = margin-decides e ∙ ap (λ c. cond c 13 0) (lt-ltb 63 m h)
+  -- "13, margin above 63, tested after 7": 13 is told exactly if the job is accepted and the margin is above 63.
+  pub refused-13 : (refusalUnder m s ≡ 13) ↔ ((refusal s ≡ 0) × (63 < m))
+  refused-13 = (λ h. go (eqb (refusal s) 0) (ltb 63 m) refl refl h, λ f. margin-decides (f .0) ∙ ap (λ c. cond c 13 0) (lt-ltb 63 m (f .1)))
+    where
+      go : (b c : Bool) → eqb (refusal s) 0 ≡ b → ltb 63 m ≡ c → refusalUnder m s ≡ 13 → (refusal s ≡ 0) × (63 < m)
+      go false c e f h = let z : refusal s ≡ 13 = sym (refused-first (eqb-false (refusal s) 0 e)) ∙ h in absurd (omega (arith, refusal-most s))
+      go true true e f h = (eqb-true (refusal s) 0 e, ltb-true 63 m f)
+      go true false e f h = let z : _≡_ {A = ℕ} 0 13 = sym (margin-decides (eqb-true (refusal s) 0 e) ∙ ap (λ c. cond c 13 0) f) ∙ h in absurd (omega arith)
 
 -- ---- "With m = 0 .., all earlier results hold"
 
@@ -72,18 +78,18 @@ unfolding onBoard
 onBoard-0 b v = rw (minus-0 (b .L), minus-0 (b .W))
 
 -- What the margin enters is document 01's at margin 0: the refusals, the on-board test and the length. Nothing else in the definitions speaks of it.
-pub record AsBefore (s : List ℕ) (j : Job) : Type 0 where
+pub record AsBefore (s : List ℕ) : Type 0 where
   -- "They are tested as 1 to 7"
   pub refused : refusalUnder 0 s ≡ refusal s
   -- "in 0 to L by 0 to W, edges included"
-  pub on-board : (v : Vertex) → onBoard 0 (j .sheet) v
-      ≡ (leZ (pos 0) (v .x) && leZ (v .x) (pos (j .sheet .L)) && leZ (pos 0) (v .y) && leZ (v .y) (pos (j .sheet .W)))
+  pub on-board : (v : Vertex) → onBoard 0 (content s .sheet) v
+      ≡ (leZ (pos 0) (v .x) && leZ (v .x) (pos (content s .sheet .L)) && leZ (pos 0) (v .y) && leZ (v .y) (pos (content s .sheet .W)))
   -- "Its length is the largest end."
-  pub length : (es : Layout) → layoutLength (under 0 j) es ≡ largestEnd (under 0 j) es
+  pub length : (es : Layout) → layoutLength (under 0 (content s)) es ≡ largestEnd (under 0 (content s)) es
 
-pub margin-0 : (s : List ℕ) (j : Job) → AsBefore s j
+pub margin-0 : (s : List ℕ) → AsBefore s
 unfolding layoutLength
-margin-0 s j = record { refused = refusal-under-0 s; on-board = onBoard-0 (j .sheet); length = λ es. omega arith }
+margin-0 s = record { refused = refusal-under-0 s; on-board = onBoard-0 (content s .sheet); length = λ es. omega arith }
 
 -- ---- Margins compared
 
@@ -116,9 +122,21 @@ module _ (m n : ℕ) (h : m ≤ n) where
       and-both stands _ (and-left stands _ e)
       (all-of (onBoard m (j .sheet)) vs origin (λ i l. onBoard-less (j .sheet) (getD vs i origin) (all-at (onBoard n (j .sheet)) vs origin clear i l)))
 
+  -- The same of a candidate number.
   pub candidate-less : (j : Job) (t k : ℕ) → isCandidate (under n j) t k ≡ true → isCandidate (under m j) t k ≡ true
   unfolding isCandidate
   candidate-less j t k e = admitted-less j (kindAt (j .kinds) t) (placementOf (j .sheet) k) e
+
+  -- So a layout that passes under a larger margin passes under a smaller one.
+  pub passes-less : (j : Job) (es : Layout) → Passes (under n j) es → Passes (under m j) es
+  unfolding entryNumber isEntry entryKind conflict
+  passes-less j es p =
+      record {
+        rising = p .rising;
+        demanded = p .demanded;
+        offered = λ i h. admitted-less j (kindAt (j .kinds) (entryAt es i .kind)) (entryAt es i .place) (p .offered i h);
+        clear = p .clear;
+      }
 
 -- Where 2 × m is above L or W, nothing lies on the board.
 pub board-too-small : (m : ℕ) (b : Board) (v : Vertex) → (b .L < 2 * m) ⊎ (b .W < 2 * m) → onBoard m b v ≡ true → ⊥

@@ -13,7 +13,7 @@ use Rattle.model.specs.Demand3.{Fit}
 use Rattle.model.specs.Format.{refusal, content}
 use Rattle.model.specs.Layout.{Layout}
 use Rattle.model.specs.Output.{firstLine, heldLines, layoutLines, printed, program}
-use Rattle.model.specs.Problem.{Problem, under}
+use Rattle.model.specs.Problem.{under}
 use Rattle.model.specs.Search.{isStopped, held}
 use Rattle.model.specs.Services.{numbersIn, wordsIn, workWords, cleared, layoutIn, withLayout, heldAs, finishedAs, stepCount, verdict, run}
 use Rattle.model.specs.declared.RunAnswer.the-variants as R

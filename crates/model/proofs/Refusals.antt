@@ -94,6 +94,19 @@ module _ (p : ℕ → Bool) where
   none-found i zero e = refl
   none-found i (suc k) e = rw (e i (omega arith) (omega arith)) (none-found (suc i) k (λ m a b. e m (omega arith) (omega arith)))
 
+-- What is found lies below the numbers that are not looked at: so no number above 7 is told of a job.
+first-below : (p : ℕ → Bool) (i k : ℕ) → 1 ≤ i → firstOf p i k < i + k
+unfolding firstOf
+first-below p i zero h = omega arith
+first-below p i (suc k) h = go (p i) (first-below p (suc i) k (omega arith))
+  where
+    go : (t : Bool) → firstOf p (suc i) k < suc i + k → cond t i (firstOf p (suc i) k) < i + suc k
+    go true l = omega arith
+    go false l = omega arith
+
+pub refusal-most : (s : List ℕ) → refusal s ≤ 7
+refusal-most s = omega (arith, refusal-first s, first-below (cause s) 1 7 (omega arith))
+
 -- The number told is n exactly if cause n holds and no earlier one does.
 pub refusal-first-cause : (s : List ℕ) (n : ℕ) → 1 ≤ n → n ≤ 7 → (refusal s ≡ n) ↔ FirstCause s n
 refusal-first-cause s n a b = (

@@ -223,24 +223,39 @@ furtherBoards =
     ∷ []
 
 -- Boards of document 02's first request. Two squares, W 4, margin 1: a square has the row 1 and, at L 6, the columns 1, 2 and 3.
-unfoldable pub clampBoards : List Marked
-clampBoards =
+unfoldable pub clampRuns : List Marked
+clampRuns =
     -- L 6: columns 1 and 3, end 5, length 6. Column 2 for the first square is one more step, which look-ahead gives back.
     (clamped 1 (runs (squares 4 6) 1000000) ⇒ says (Shortest 6 3) true (0 ∷ 1 ∷ 1 ∷ 0 ∷ 0 ∷ 3 ∷ 1 ∷ 0 ∷ []))
     -- L 5: the columns 1 and 2, where the squares overlap.
     ∷ (clamped 1 (runs (squares 4 5) 1000000) ⇒ says (Infeasible 2) true untouched)
-    -- That layout under margins 1, 0 and 2: the length is its end, 5, plus the margin; at margin 2 it is no layout of candidates.
-    ∷ (clamped 1 (checks (squares 4 6) (0 ∷ 1 ∷ 1 ∷ 0 ∷ 0 ∷ 3 ∷ 1 ∷ 0 ∷ [])) ⇒ finds (C.Passes 6))
-    ∷ (checks (squares 4 6) (0 ∷ 1 ∷ 1 ∷ 0 ∷ 0 ∷ 3 ∷ 1 ∷ 0 ∷ []) ⇒ finds (C.Passes 5))
-    ∷ (clamped 2 (checks (squares 4 6) (0 ∷ 1 ∷ 1 ∷ 0 ∷ 0 ∷ 3 ∷ 1 ∷ 0 ∷ [])) ⇒ finds (C.Refused 11))
     -- Margin 63 on a small board: no candidate.
     ∷ (clamped 63 (runs (squares 4 6) 1000000) ⇒ says (Infeasible 0) true untouched)
-    -- Margin 64 is refused by 13, after a cause of the job's sender and before 12.
-    ∷ (clamped 64 (runs (squares 4 6) 1000000) ⇒ says (Refused 13) false untouched)
-    ∷ (clamped 64 (checks (squares 4 6) (0 ∷ 1 ∷ 1 ∷ 0 ∷ 0 ∷ 3 ∷ 1 ∷ 0 ∷ [])) ⇒ finds (C.Refused 13))
-    ∷ (clamped 64 (runs star 1000000) ⇒ says (Refused 7) false (7 ∷ 7 ∷ 7 ∷ 7 ∷ []))
-    ∷ (clamped 64 (rows (squares 2 4) 0) ⇒ shows (W.Refused 13) (0 ∷ []))
-    -- Candidate (0,0), number 0, is one at margin 0 and none at margin 1. It is in conflict with itself and with column 1, which has number 12: 4096 is 2 to the 12th.
-    ∷ (clamped 1 (rows (squares 2 4) 0) ⇒ shows (W.Refused 12) (0 ∷ []))
+    -- Candidate 0, at (0,0), at margin 0: in conflict with itself and with column 1, number 12. Bits 0 and 12 are set.
     ∷ (rows (squares 2 4) 0 ⇒ shows (W.Count 1) (4097 ∷ []))
+    ∷ []
+
+-- What check says of that layout.
+unfoldable pub clampChecks : List Marked
+clampChecks =
+    -- The length of the layout is its end, 5, plus the margin. One column further on, one row further up, or one column nearer to the left
+    -- edge or row to the lower one, it is no layout of candidates.
+    (clamped 1 (checks (squares 4 6) (0 ∷ 1 ∷ 1 ∷ 0 ∷ 0 ∷ 3 ∷ 1 ∷ 0 ∷ [])) ⇒ finds (C.Passes 6))
+    ∷ (checks (squares 4 6) (0 ∷ 1 ∷ 1 ∷ 0 ∷ 0 ∷ 3 ∷ 1 ∷ 0 ∷ []) ⇒ finds (C.Passes 5))
+    ∷ (clamped 1 (checks (squares 4 6) (0 ∷ 1 ∷ 1 ∷ 0 ∷ 0 ∷ 4 ∷ 1 ∷ 0 ∷ [])) ⇒ finds (C.Refused 11))
+    ∷ (clamped 1 (checks (squares 4 6) (0 ∷ 1 ∷ 1 ∷ 0 ∷ 0 ∷ 3 ∷ 2 ∷ 0 ∷ [])) ⇒ finds (C.Refused 11))
+    ∷ (clamped 1 (checks (squares 4 6) (0 ∷ 0 ∷ 1 ∷ 0 ∷ 0 ∷ 3 ∷ 1 ∷ 0 ∷ [])) ⇒ finds (C.Refused 11))
+    ∷ (clamped 1 (checks (squares 4 6) (0 ∷ 1 ∷ 0 ∷ 0 ∷ 0 ∷ 3 ∷ 1 ∷ 0 ∷ [])) ⇒ finds (C.Refused 11))
+    ∷ []
+
+-- What is refused.
+unfoldable pub clampRefusals : List Marked
+clampRefusals =
+    -- At margin 1 the candidate (0,0) does not exist.
+    (clamped 1 (rows (squares 2 4) 0) ⇒ shows (W.Refused 12) (0 ∷ []))
+    -- Margin 64 is refused by 13, before 12, 11, 8 and 9 and after a cause of the job's sender.
+    ∷ (clamped 64 (rows (squares 2 4) 0) ⇒ shows (W.Refused 13) (0 ∷ []))
+    ∷ (clamped 64 (checks (squares 4 6) []) ⇒ finds (C.Refused 13))
+    ∷ (clamped 64 (runs (squares 4 6) 1000000) ⇒ says (Refused 13) false untouched)
+    ∷ (clamped 64 (runs star 1000000) ⇒ says (Refused 7) false (7 ∷ 7 ∷ 7 ∷ 7 ∷ []))
     ∷ []

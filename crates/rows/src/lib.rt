@@ -7,7 +7,6 @@ ghost use Rattle.words.specs.Number.{filled};
 ghost use Rattle.model.specs.Format.{content};
 ghost use Rattle.model.specs.Grid.{setWords};
 ghost use Rattle.model.specs.Lists.{below};
-ghost use Rattle.model.specs.Problem.{under};
 ghost use Rattle.model.specs.Services.{withWords, rowWords, rowContent, conflictRow};
 ghost use Rattle.candidates.specs.Conflicts.{Prepared};
 ghost use Rattle.rows.specs.Rows.{RowAsked, RowReady, bitOf, wordOf};

@@ -19,7 +19,7 @@ returns c =
 returns-2 : tie.Need-returns-2
 returns-2 c =
     let accepted = sym (c .before .before .before .«open» .ensures .0) ∙ c .before .if1 .left in
-    (sym (refused-13 (c .before .before .before .before .before .args .job .now) (c .before .before .before .before .before .args .margin) accepted (c .if2 .taken)), λ z. absurd (omega arith))
+    (sym (refused-13 (c .before .before .before .before .before .args .job .now) (c .before .before .before .before .before .args .margin) .1 (accepted, omega (arith, c .if2 .taken))), λ z. absurd (omega arith))
 
 returns-3 : tie.Need-returns-3
 returns-3 c =
