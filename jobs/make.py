@@ -82,6 +82,10 @@ JOBS = {
         "The same squares in a class of gap 1 on a longer board: they stand 1 apart.",
         job(2, 5, 1, [piece(2, [SQUARE], classes=1)], [(0, 0, 1)]),
     ),
+    "clamped-squares": (
+        "The same squares, in no class, where clamps have room: with margin 1 they stand at columns 1 and 3, row 1, length 6.",
+        job(4, 6, 1, [piece(2, [SQUARE])]),
+    ),
     "classes-one-order": (
         "Three brackets of two parts, each in two classes; the best-ranked one, gap 1, counts.",
         brackets([COATING, PACKING]),
@@ -162,8 +166,9 @@ JOBS = {
 TOP = """# Sample jobs
 
 Each `NAME.job` is a job as the engine reads it, `NAME.out` is what the command program prints for it (budget
-1,000,000). `make.py` holds a readable description of each and writes the jobs and this table; the expected
-outputs come from the reference in `tests/`, which was written from document 01 alone.
+1,000,000, margin 0). `make.py` holds a readable description of each and writes the jobs and this table; the
+expected outputs come from the reference in `tests/`, which was written from documents 01 and 02 alone. A margin
+is no part of a job: the C example takes one behind the job's name.
 
 | job | what it shows | first line of the output |
 |---|---|---|

@@ -57,24 +57,28 @@ sized() { # PROGRAM BYTES NUMBER
     fi
 }
 
-# The C example on the printed job with this margin. What is not the number of one gets the usage text and prints nothing.
-under_margin() { # MARGIN PRINTED
-    said=$("$build/nest" "$root/jobs/printed.job" "$1" 2>"$build/usage" || true)
-    if [ "$said" != "$2" ] || { [ -z "$2" ] && ! grep -q '^usage' "$build/usage"; }; then
-        echo "margin '$1': the C example printed '$said', expected '$2'"
+# The C example on a job with this margin. What is not the number of one gets the usage text and prints nothing.
+under_margin() { # JOB MARGIN PRINTED
+    said=$("$build/nest" "$root/jobs/$1.job" "$2" 2>"$build/usage" || true)
+    if [ "$said" != "$3" ] || { [ -z "$3" ] && ! grep -q '^usage' "$build/usage"; }; then
+        echo "$1, margin '$2': the C example printed '$said', expected '$3'"
         return 1
     fi
 }
 
 over_jobs "C example" "$build/nest"
-under_margin 0 "$(cat "$root/jobs/printed.out")"
-under_margin 1 "none 0"
-under_margin 63 "none 0"
-under_margin 64 "refused 13"
+under_margin clamped-squares 0 "$(cat "$root/jobs/clamped-squares.out")"
+under_margin clamped-squares 1 "shortest 6 3
+0 1 1 0
+0 3 1 0"
+under_margin clamped-squares 2 "none 0"
+under_margin clamped-squares 63 "none 0"
+under_margin clamped-squares 64 "refused 13"
+under_margin refused-7-star 64 "refused 7"
 # The largest number of 64 bits, and the next.
-under_margin 18446744073709551615 "refused 13"
+under_margin clamped-squares 18446744073709551615 "refused 13"
 for bad in 18446744073709551616 -1 +1 1x ""; do
-    under_margin "$bad" ""
+    under_margin clamped-squares "$bad" ""
 done
 echo "C example: margins as expected"
 if [ -n "${NEST_PROGRAM:-}" ]; then

@@ -31,13 +31,13 @@ use Rattle.model.proofs.AcceptedKinds.{gap-most}
 use Rattle.model.proofs.Causes.{no-cause, board-fits}
 use Rattle.polygons.specs.Boxes.{extentsOf}
 use Rattle.polygons.specs.Flat.{shifted}
-use Rattle.job.specs.View.{problemOf}
+use Rattle.job.specs.View.{problemOf, Viewed}
 use Rattle.job.specs.declared.View.{View}
 use Rattle.shapes.specs.Boxes.{boxAt, turnedVertices, BoxesOf}
 use Rattle.shapes.specs.Pieces.{PieceOf}
 use Rattle.candidates.specs.Placements.{Bounded, within, fitsAt, placeable, offered, extentAt}
 use Rattle.candidates.specs.Conflicts.{placedOf, Near, conflictBetween}
-use Rattle.shapes.specs.Turned.{Viewed, TurnedOf}
+use Rattle.shapes.specs.Turned.{TurnedOf}
 use Rattle.shapes.specs.declared.boxes.Boxes.{Boxes}
 use Rattle.candidates.specs.declared.conflicts.Placed.{Placed}
 use Rattle.shapes.specs.declared.pieces.Piece.{Piece}

@@ -5,10 +5,11 @@ use Prim.Native.Nat.{ℕ, _*_, _/_, _%_, _≤_, _<_}
 use lib.IntN.{ℤ, pos, _-ℤ_}
 use Rattle.model.specs.Geometry.{piecesConflict}
 use Rattle.polygons.specs.Flat.{shifted}
+use Rattle.job.specs.View.{Viewed}
 use Rattle.job.specs.declared.View.{View}
 use Rattle.shapes.specs.Boxes.{BoxesOf}
 use Rattle.shapes.specs.Pieces.{partsIn}
-use Rattle.shapes.specs.Turned.{Viewed, TurnedOf}
+use Rattle.shapes.specs.Turned.{TurnedOf}
 use Rattle.shapes.specs.declared.boxes.Boxes.{Boxes}
 use Rattle.candidates.specs.declared.conflicts.Placed.{Placed}
 use Rattle.shapes.specs.declared.pieces.Piece.{Piece}

@@ -4,7 +4,7 @@ use mathlib.Core.Path.{_≡_}
 use Prim.Native.Nat.{ℕ, _+_, _*_, _≤_, _<_}
 use lib.ListN.{length, getD, drop}
 use Rattle.model.specs.Content.{Part, Kind, kindAt, kindCount, pieceCount}
-use Rattle.model.specs.Format.{byteAt, vertices, content}
+use Rattle.model.specs.Format.{byteAt, vertices, content, refusal}
 use Rattle.model.specs.Gap.{kindGap}
 use Rattle.model.specs.Grid.{rows, columns}
 use Rattle.model.specs.Problem.{Problem, under}
@@ -38,6 +38,11 @@ pub record ViewOf (s : List ℕ) (v : View) : Type 0 where
   pub kinds : v .kinds ≡ kindCount (content s .kinds)
   pub pieces : v .pieces ≡ pieceCount (content s .kinds)
   pub kind : (t : ℕ) → t < kindCount (content s .kinds) → KindIn s v t (kindAt (content s .kinds) t)
+
+-- The job is accepted, and this is its view.
+pub record Viewed (s : List ℕ) (v : View) : Type 0 where
+  pub accepted : refusal s ≡ 0
+  pub view : ViewOf s v
 
 -- The problem that a view shows: the job's content under the view's margin.
 abbrev pub problemOf : List ℕ → View → Problem

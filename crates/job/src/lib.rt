@@ -3,7 +3,7 @@
 ghost use mathlib.Core.Path.{_≡_};
 ghost use Rattle.model.specs.Format.{refusal};
 ghost use Rattle.model.specs.Services.{refusalUnder};
-ghost use Rattle.job.specs.View.{ViewOf};
+ghost use Rattle.job.specs.View.{Viewed};
 
 mod accepted;
 mod causes;
@@ -57,7 +57,7 @@ fn no_view() -> View {
 // Reads a job, without a margin. Type records are judged whole, cause 6, before any part's soundness, cause 7.
 pub fn open(job: &[u8]) -> Opened
     ensures { λ r. ⌜ r .refusal ≡ refusal (now (job .entry)) ⌝ }
-    ensures { λ r. ⌜ (r .refusal ≡ 0 → ViewOf (now (job .entry)) (r .view)) ⌝ }
+    ensures { λ r. ⌜ (r .refusal ≡ 0 → Viewed (now (job .entry)) (r .view)) ⌝ }
 {
     let first = causes::first_of_six(job);
     if first != 0 {
@@ -77,7 +77,7 @@ pub fn open(job: &[u8]) -> Opened
 // Reads a job under a margin. The margin is judged after the job.
 pub fn open_under(job: &[u8], margin: usize) -> Opened
     ensures { λ r. ⌜ r .refusal ≡ refusalUnder margin (now (job .entry)) ⌝ }
-    ensures { λ r. ⌜ (r .refusal ≡ 0 → ViewOf (now (job .entry)) (r .view) × (r .view .margin ≡ margin)) ⌝ }
+    ensures { λ r. ⌜ (r .refusal ≡ 0 → Viewed (now (job .entry)) (r .view) × (r .view .margin ≡ margin)) ⌝ }
 {
     let opened = open(job);
     let refusal = opened.refusal;

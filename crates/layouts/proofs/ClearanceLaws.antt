@@ -13,10 +13,9 @@ use Rattle.model.specs.Services.{entryIn}
 use Rattle.model.proofs.Accepted.{accepted-sensible}
 use Rattle.model.proofs.Folds.{all-more}
 use Rattle.model.proofs.Search.Pieces.{admitted-parts, few-turns, entry-kind}
-use Rattle.job.specs.View.{problemOf}
+use Rattle.job.specs.View.{problemOf, Viewed}
 use Rattle.job.specs.declared.View.{View}
 use Rattle.candidates.specs.Conflicts.{Near, placed}
-use Rattle.shapes.specs.Turned.{Viewed}
 use Rattle.candidates.proofs.PreparedLaws.{bounded}
 use Rattle.layouts.specs.Entries.{entriesIn}
 use Rattle.layouts.proofs.EntryLaws.{entries-more}

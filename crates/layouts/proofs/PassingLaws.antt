@@ -22,11 +22,10 @@ use Rattle.model.specs.declared.Checked.the-variants as C
 use Rattle.model.proofs.Causes.{no-cause}
 use Rattle.model.proofs.Lists.{and-left, and-right, or-left, or-right, not-both, below-all, all-below}
 use Rattle.model.proofs.Search.Pieces.{entry-kind}
-use Rattle.job.specs.View.{problemOf}
+use Rattle.job.specs.View.{problemOf, Viewed}
 use Rattle.job.specs.declared.View.{View}
 use Rattle.shapes.specs.Boxes.{BoxesOf}
 use Rattle.candidates.specs.Placements.{placeable}
-use Rattle.shapes.specs.Turned.{Viewed}
 use Rattle.shapes.specs.declared.boxes.Boxes.{Boxes}
 use Rattle.candidates.proofs.PreparedLaws.{placeable-is, extent-is}
 use Rattle.shapes.proofs.ViewLaws.{kind-in}

@@ -35,9 +35,9 @@ use Rattle.polygons.specs.Boxes.{extentsOf, joined}
 use Rattle.polygons.specs.declared.extents.Extents.{Extents}
 use Rattle.geometry.specs.Apart.{boxesApart}
 use Rattle.geometry.proofs.Sizes.{size-of, fits-64}
+use Rattle.job.specs.View.{Viewed}
 use Rattle.job.specs.declared.View.{View}
 use Rattle.shapes.specs.Boxes.{noBox, turnedVertices, BoxesOf}
-use Rattle.shapes.specs.Turned.{Viewed}
 use Rattle.shapes.specs.declared.boxes.Boxes.{Boxes}
 use Rattle.shapes.proofs.Apart.{boxes-apart}
 use Rattle.shapes.proofs.ViewLaws.{kind-in}

@@ -22,10 +22,10 @@ use Rattle.model.specs.Grid
 use Rattle.model.specs.Lists.{concat}
 use Rattle.model.proofs.Moves.{Vertexed}
 use Rattle.polygons.specs.Boxes.{extentsOf}
+use Rattle.job.specs.View.{Viewed}
 use Rattle.job.specs.declared.View.{View}
 use Rattle.shapes.specs.Boxes.{boxAt}
 use Rattle.shapes.specs.Pieces.{PieceOf, partsIn}
-use Rattle.shapes.specs.Turned.{Viewed}
 use Rattle.shapes.specs.declared.boxes.Boxes.{Boxes}
 use Rattle.shapes.specs.declared.pieces.Piece.{Piece}
 use Rattle.shapes.proofs.PieceLaws.{parts-turned}

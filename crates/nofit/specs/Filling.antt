@@ -16,10 +16,11 @@ use Rattle.model.proofs.Moves.{Vertexed}
 use Rattle.polygons.specs.Boxes.{extentsOf}
 use Rattle.polygons.specs.Flat.{shifted}
 use Rattle.polygons.specs.declared.extents.Extents.{Extents}
+use Rattle.job.specs.View.{Viewed}
 use Rattle.job.specs.declared.View.{View}
 use Rattle.shapes.specs.Boxes.{boxAt, BoxesOf}
 use Rattle.shapes.specs.Pieces.{Fitting, partsIn}
-use Rattle.shapes.specs.Turned.{Viewed, TurnedOf}
+use Rattle.shapes.specs.Turned.{TurnedOf}
 use Rattle.shapes.specs.declared.boxes.Boxes.{Boxes}
 use Rattle.shapes.specs.declared.pieces.Piece.{Piece}
 use Rattle.nofit.specs.Patterns.{fromMiddle, aboveString, belowString, MeasuresOf}

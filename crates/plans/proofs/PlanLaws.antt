@@ -15,7 +15,7 @@ use Rattle.model.specs.Problem.{Problem}
 use Rattle.model.proofs.Accepted.{accepted-kinds}
 use Rattle.model.proofs.Numbers.{rows-positive}
 use Rattle.model.proofs.Search.Pieces.{entry-kind}
-use Rattle.shapes.specs.Turned.{Viewed}
+use Rattle.job.specs.View.{Viewed}
 use Rattle.shapes.proofs.ViewLaws.{kind-in}
 use Rattle.candidates.specs.Placements.{extentAt}
 use Rattle.candidates.specs.Conflicts.{placedOf, Near}

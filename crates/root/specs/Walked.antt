@@ -11,9 +11,10 @@ use Rattle.stepping.specs.Levels.{walkSpent}
 use Rattle.stepping.specs.LiveSets.{boundOf}
 use Rattle.walks.specs.Walk.{heldOf}
 use Rattle.runs.specs.declared.progress.Progress.{Progress}
+use Rattle.job.specs.View.{Viewed}
 use Rattle.job.specs.declared.View.{View}
 use Rattle.shapes.specs.Boxes.{BoxesOf}
-use Rattle.shapes.specs.Turned.{Viewed, TurnedOf}
+use Rattle.shapes.specs.Turned.{TurnedOf}
 use Rattle.shapes.specs.declared.boxes.Boxes.{Boxes}
 use Rattle.plans.specs.Planned.{PlanOf}
 use Rattle.plans.specs.declared.plan.Plan.{Plan}

@@ -1,11 +1,10 @@
 // The walk of an accepted job from its root, where nothing is placed.
 ghost use Prim.Native.Nat.{_*_, _+_, _≤_};
 ghost use lib.ListN.{length, replicate};
-ghost use Rattle.shapes.specs.Turned.{Viewed};
 ghost use Rattle.stepping.specs.Levels.{tryLevel, numbersAt};
 ghost use Rattle.walks.specs.Walk.{heldOf, Ready, Left};
 ghost use Rattle.root.specs.Walked.{RoomFor, Walked, Computed};
-ghost use Rattle.job.specs.View.{problemOf};
+ghost use Rattle.job.specs.View.{problemOf, Viewed};
 ghost use Rattle.plans.specs.Planned.{planned};
 use crate::beginning::settle_first;
 use job::View;

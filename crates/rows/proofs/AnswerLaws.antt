@@ -15,10 +15,9 @@ use Rattle.model.specs.Problem.{Problem, under}
 use Rattle.model.specs.Services.{writeOutcome, wordsIn, withWords, cause12, rowWords, rowContent, conflictRow, refusalUnder}
 use Rattle.model.specs.declared.Written.the-variants as W
 use Rattle.model.proofs.Accepted.{accepted-dots}
-use Rattle.job.specs.View.{problemOf}
+use Rattle.job.specs.View.{problemOf, Viewed}
 use Rattle.job.specs.declared.View.{View}
 use Rattle.rows.specs.Rows.{RowAsked}
-use Rattle.shapes.specs.Turned.{Viewed}
 use Rattle.candidates.proofs.PlacementLaws.{on-dots}
 
 module _ (s : List ℕ) (v : View) (x : Viewed s v) where

@@ -18,14 +18,14 @@ use Rattle.model.specs.Lists.{below, rising}
 use Rattle.model.specs.Services.{rowBit}
 use Rattle.model.proofs.Folds.{map-same, map-below-more}
 use Rattle.model.proofs.Lists.{length-below}
-use Rattle.job.specs.View.{problemOf}
+use Rattle.job.specs.View.{problemOf, Viewed}
 use Rattle.job.specs.declared.View.{View}
 use Rattle.shapes.specs.Boxes.{BoxesOf}
 use Rattle.candidates.specs.Conflicts.{placedOf, conflictBetween}
 use Rattle.shapes.specs.Pieces.{PieceOf}
 use Rattle.candidates.specs.Placements.{offered}
 use Rattle.rows.specs.Rows.{bitOf, wordOf}
-use Rattle.shapes.specs.Turned.{Viewed, TurnedOf}
+use Rattle.shapes.specs.Turned.{TurnedOf}
 use Rattle.shapes.specs.declared.boxes.Boxes.{Boxes}
 use Rattle.shapes.specs.declared.pieces.Piece.{Piece}
 use Rattle.candidates.proofs.PreparedLaws.{offered-is, numbers-conflict}

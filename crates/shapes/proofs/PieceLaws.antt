@@ -17,7 +17,8 @@ use Rattle.model.proofs.Folds as Folds
 use Rattle.model.proofs.Tests.{any-map}
 use Rattle.polygons.specs.Flat.{partOf, shifted}
 use Rattle.shapes.specs.Pieces.{PieceOf, partIn, partsIn, partConflicts}
-use Rattle.shapes.specs.Turned.{Viewed, TurnedOf, slot}
+use Rattle.shapes.specs.Turned.{TurnedOf, slot}
+use Rattle.job.specs.View.{Viewed}
 use Rattle.job.specs.declared.View.{View}
 use Rattle.shapes.proofs.TurnLaws.{part-of-numbers}
 use Rattle.shapes.proofs.ViewLaws.{few-kinds, kind-in, some-part, part-in, part-short}

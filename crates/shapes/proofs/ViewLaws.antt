@@ -7,9 +7,8 @@ use Rattle.model.specs.Content.{Part, kindAt, kindCount}
 use Rattle.model.specs.Format.{byteAt, vertices, content}
 use Rattle.model.proofs.Accepted.{accepted-kinds}
 use Rattle.model.proofs.AcceptedKinds.{kind-ranges}
-use Rattle.job.specs.View.{PartAt, KindIn}
+use Rattle.job.specs.View.{PartAt, KindIn, Viewed}
 use Rattle.job.specs.declared.View.{View}
-use Rattle.shapes.specs.Turned.{Viewed}
 
 -- a part that is read with the number of vertices that its first byte states
 pub part-read-at : (s : List ℕ) (o r : ℕ) (P : Part) → r ≡ byteAt s o → PartAt s o P → vertices r (drop (o + 1) s) ≡ P

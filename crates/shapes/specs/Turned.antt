@@ -8,15 +8,8 @@ use lib.ListN.{length, getD, take, drop}
 use lib.Seq.{sets}
 use Rattle.integers.specs.Byte.{signed}
 use Rattle.model.specs.Content.{Vertex, vertex, Part, kindAt, kindCount}
-use Rattle.model.specs.Format.{byteAt, content, refusal}
+use Rattle.model.specs.Format.{byteAt, content}
 use Rattle.model.specs.Geometry.{rotated}
-use Rattle.job.specs.View.{ViewOf}
-use Rattle.job.specs.declared.View.{View}
-
--- The job is accepted, and this is its view.
-pub record Viewed (s : List ℕ) (v : View) : Type 0 where
-  pub accepted : refusal s ≡ 0
-  pub view : ViewOf s v
 
 -- x and y of each vertex in turn.
 unfoldable pub numbersOf : Part → List ℤ

@@ -6,8 +6,9 @@ ghost use lib.ListN.{length, drop};
 ghost use Rattle.model.specs.Content.{kindCount};
 ghost use Rattle.model.specs.Format.{content, byteAt, vertices};
 ghost use Rattle.model.specs.Geometry.{rotated};
+ghost use Rattle.job.specs.View.{Viewed};
 ghost use Rattle.polygons.specs.Flat.{withVertex};
-ghost use Rattle.shapes.specs.Turned.{Viewed, vertexIn, withPart, PartTurned, KindTurned, TurnedOf};
+ghost use Rattle.shapes.specs.Turned.{vertexIn, withPart, PartTurned, KindTurned, TurnedOf};
 use job::View;
 
 // The byte at i, as a number that can be counted with.

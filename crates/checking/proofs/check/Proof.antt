@@ -1,12 +1,11 @@
 -- `checking::check` meets its contract. Assumes nothing.
-use mathlib.Core.Path.{_≡_, refl, sym, ap, _∙_}
+use mathlib.Core.Path.{refl, sym, ap, _∙_}
 use denote.Ref.{now}
 use Rattle.model.specs.Format.{content}
 use Rattle.model.specs.Problem.{under}
-use Rattle.model.specs.Services.{refusalUnder, checkContent}
+use Rattle.model.specs.Services.{checkContent}
 use Rattle.model.specs.declared.Checked.the-variants as C
-use Rattle.model.proofs.Margin.{accepted-under}
-use Rattle.shapes.specs.Turned.{Viewed}
+use Rattle.job.specs.View.{Viewed}
 use Rattle.layouts.proofs.PassingLaws.{check-refused, check-accepted}
 use borrow.Author.Needs.{needs}
 use Rattle.checking.proofs.check.Statement.{statement}
@@ -15,13 +14,9 @@ use Rattle.checking.proofs.check.Tie as tie
 open-under-requires : tie.Need-open-under-requires
 open-under-requires c κs = search needs
 
--- job and margin are accepted
-accepted : (c : tie.Else1) → refusalUnder (c .before .before .before .before .args .margin) (now (c .before .before .before .before .args .job)) ≡ 0
-accepted c = sym (c .before .open-under .ensures .0) ∙ c .if1 .left
-
--- this is the job's view
+-- the job is accepted, and this is its view
 viewed : (c : tie.Else1) → Viewed (now (c .before .before .before .before .args .job)) (c .before .open-under .result .view)
-viewed c = record { accepted = accepted-under _ _ (accepted c) .0; view = c .before .open-under .ensures .1 (c .if1 .left) .0 }
+viewed c = c .before .open-under .ensures .1 (c .if1 .left) .0
 
 returns : tie.Need-returns
 returns c =
@@ -55,7 +50,7 @@ returns-2 c =
     let e = test .before .before .before .before in
     c .judged .ensures
     ∙ ap (λ m. checkContent (under m (content (now (e .args .job)))) (now (e .args .layout))) (test .before .open-under .ensures .1 (test .if1 .left) .1)
-    ∙ sym (check-accepted (now (e .args .job)) (e .args .margin) (now (e .args .layout)) (accepted test))
+    ∙ sym (check-accepted (now (e .args .job)) (e .args .margin) (now (e .args .layout)) (sym (test .before .open-under .ensures .0) ∙ test .if1 .left))
 
 pub check-spec : {M : Type 1} → statement M
 check-spec =

@@ -15,7 +15,7 @@ returns c =
     let s = c .before .before .before .before .args .bytes .now in
     let opened = c .before .before .«open» .ensures in
     let e : refusal s ≡ 0 = sym (opened .0) ∙ c .if1 .taken in
-    let pieces = opened .1 (c .if1 .taken) .pieces in
+    let pieces = opened .1 (c .if1 .taken) .view .pieces in
     record { exact = λ _. pieces; few = omega (arith, pieces, pieces-most s e) }
 
 returns-2 : tie.Need-returns-2

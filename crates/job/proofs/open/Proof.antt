@@ -32,7 +32,8 @@ returns-2 c =
 returns-3 : tie.Need-returns-3
 returns-3 c =
     let s = c .before .before .before .before .before .before .args .job .now in
-    (sym (refusal-seven s false (sym (c .before .before .before .before .first-of-six .ensures) ∙ c .before .before .before .if1 .left) (sym (c .before .unsound .ensures) ∙ c .if2 .left)), λ z. c .before .before .view-of .ensures)
+    let told = sym (refusal-seven s false (sym (c .before .before .before .before .first-of-six .ensures) ∙ c .before .before .before .if1 .left) (sym (c .before .unsound .ensures) ∙ c .if2 .left)) in
+    (told, λ z. record { accepted = sym told; view = c .before .before .view-of .ensures })
 
 pub open-spec : {M : Type 1} → statement M
 open-spec =

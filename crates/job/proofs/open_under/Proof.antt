@@ -25,7 +25,7 @@ returns-3 : tie.Need-returns-3
 returns-3 c =
     let o = c .before .before .before .«open» .ensures in
     let accepted = sym (o .0) ∙ c .before .if1 .left in
-    (sym (under-accepted (c .before .before .before .before .before .args .job .now) (c .before .before .before .before .before .args .margin) accepted (omega (arith, c .if2 .left))), λ z. (with-margin (c .before .before .before .before .before .args .job .now) _ (c .before .before .before .before .before .args .margin) (omega (arith, c .if2 .left)) (o .1 (c .before .if1 .left)), refl))
+    (sym (under-accepted (c .before .before .before .before .before .args .job .now) (c .before .before .before .before .before .args .margin) accepted (omega (arith, c .if2 .left))), λ z. (record { accepted = accepted; view = with-margin (c .before .before .before .before .before .args .job .now) _ (c .before .before .before .before .before .args .margin) (omega (arith, c .if2 .left)) (o .1 (c .before .if1 .left) .view) }, refl))
 
 pub open-under-spec : {M : Type 1} → statement M
 open-under-spec =

@@ -15,7 +15,7 @@ returns c =
     (ap W.Refused e ∙ sym (ap (λ o. o .answer) q), sym (ap (λ o. o .buffer) q))
 
 read-content-requires : tie.Need-read-content-requires
-read-content-requires c κs = (sym (c .before .before .before .«open» .ensures .0) ∙ c .before .before .if1 .left, c .before .before .before .«open» .ensures .1 (c .before .before .if1 .left) .pieces)
+read-content-requires c κs = (sym (c .before .before .before .«open» .ensures .0) ∙ c .before .before .if1 .left, c .before .before .before .«open» .ensures .1 (c .before .before .if1 .left) .view .pieces)
 
 same-length : tie.Need-same-length
 same-length c = search needs

@@ -3,10 +3,9 @@ use mathlib.Core.Path.{_≡_, refl, sym, ap, _∙_}
 use denote.Ref.{now}
 use Rattle.model.specs.Format.{content}
 use Rattle.model.specs.Problem.{under}
-use Rattle.model.specs.Services.{refusalUnder, rowContent}
+use Rattle.model.specs.Services.{rowContent}
 use Rattle.model.specs.declared.Written.the-variants as W
-use Rattle.model.proofs.Margin.{accepted-under}
-use Rattle.shapes.specs.Turned.{Viewed}
+use Rattle.job.specs.View.{Viewed}
 use Rattle.rows.proofs.AnswerLaws.{row-refused, row-accepted}
 use borrow.Author.Needs.{needs}
 use Rattle.rows.proofs.row.Statement.{statement}
@@ -15,13 +14,9 @@ use Rattle.rows.proofs.row.Tie as tie
 open-under-requires : tie.Need-open-under-requires
 open-under-requires c κs = search needs
 
--- job and margin are accepted
-accepted : (c : tie.Else1) → refusalUnder (c .before .before .before .before .args .margin) (now (c .before .before .before .before .args .job)) ≡ 0
-accepted c = sym (c .before .open-under .ensures .0) ∙ c .if1 .left
-
--- this is the job's view
+-- the job is accepted, and this is its view
 viewed : (c : tie.Else1) → Viewed (now (c .before .before .before .before .args .job)) (c .before .open-under .result .view)
-viewed c = record { accepted = accepted-under _ _ (accepted c) .0; view = c .before .open-under .ensures .1 (c .if1 .left) .0 }
+viewed c = c .before .open-under .ensures .1 (c .if1 .left) .0
 
 returns : tie.Need-returns
 returns c =
@@ -58,7 +53,7 @@ returns-2 c =
     let call = c .before .before in
     let test = call .before .before .before .before .before .before .before .before .before in
     let e = test .before .before .before .before in
-    let q = row-accepted (now (e .args .job)) (e .args .margin) (e .args .kind) (e .args .number) (e .args .other) (now (e .args .row)) (accepted test) in
+    let q = row-accepted (now (e .args .job)) (e .args .margin) (e .args .kind) (e .args .number) (e .args .other) (now (e .args .row)) (sym (test .before .open-under .ensures .0) ∙ test .if1 .left) in
     let m = ap (λ m. rowContent (under m (content (now (e .args .job)))) (e .args .kind) (e .args .number) (e .args .other) (now (e .args .row))) (test .before .open-under .ensures .1 (test .if1 .left) .1) in
     (call .row-content .ensures .0 ∙ ap (λ w. w .answer) (m ∙ sym q), call .row-content .ensures .1 ∙ ap (λ w. w .buffer) (m ∙ sym q))
 

@@ -7,8 +7,7 @@ use borrow.Author.Count.{below-none}
 use lib.ListN.{length, getD, length-set}
 use Rattle.model.specs.Content.{kindAt}
 use Rattle.model.specs.Format.{content}
-use Rattle.job.specs.View.{PartAt, KindIn}
-use Rattle.shapes.specs.Turned.{Viewed}
+use Rattle.job.specs.View.{PartAt, KindIn, Viewed}
 use Rattle.shapes.proofs.PieceLaws.{written-more, piece-is}
 use Rattle.shapes.proofs.ViewLaws.{few-kinds, kind-in, part-in}
 use Rattle.plans.proofs.PlanLaws.{plan-viewed}

@@ -8,7 +8,7 @@ use Rattle.model.specs.Format.{content}
 use Rattle.model.specs.Problem.{under}
 use Rattle.model.specs.Services.{refusalUnder, workWords}
 use Rattle.model.proofs.Margin.{accepted-under}
-use Rattle.shapes.specs.Turned.{Viewed}
+use Rattle.job.specs.View.{Viewed}
 use Rattle.root.specs.Walked.{RoomFor, Walked}
 use Rattle.stepping.proofs.Limits.{few-pieces, short-board}
 use Rattle.search.proofs.Running.{run-refuses, run-few-words, run-few-numbers, run-room, run-done, left-within}
@@ -27,7 +27,7 @@ accepted : (c : tie.Else1) → refusalUnder (c .before .before .before .before .
 accepted c = sym (c .before .open-under .ensures .0) ∙ c .if1 .left
 
 viewed : (c : tie.Else1) → Viewed (c .before .before .before .before .before .args .job .now) (c .before .open-under .result .view)
-viewed c = record { accepted = accepted-under _ _ (accepted c) .0; view = c .before .open-under .ensures .1 (c .if1 .left) .0 }
+viewed c = c .before .open-under .ensures .1 (c .if1 .left) .0
 
 -- Its margin is the one given.
 margin-is : (c : tie.Else1) → c .before .open-under .result .view .margin ≡ c .before .before .before .before .before .args .margin
