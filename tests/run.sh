@@ -57,7 +57,7 @@ sized() { # PROGRAM BYTES NUMBER
     fi
 }
 
-# The C example on a job with this margin. What is not the number of one gets the usage text and prints nothing.
+# The C example on a job with this margin. A text that is no number of 64 bits gets the usage text and prints nothing.
 under_margin() { # JOB MARGIN PRINTED
     said=$("$build/nest" "$root/jobs/$1.job" "$2" 2>"$build/usage" || true)
     if [ "$said" != "$3" ] || { [ -z "$3" ] && ! grep -q '^usage' "$build/usage"; }; then

@@ -61,10 +61,10 @@ fn margin_past_a_side(noise: &mut Noise, draft: &mut Draft) -> u64 {
 fn frame(noise: &mut Noise, draft: &mut Draft) -> u64 {
     let mut margin = noise.pick(&[1, 1, 1, 2, 2, 3, 4, 6, 10, 62, 63]);
     let framed = |side: u16, margin: u16| side + 2 * margin;
-    let rows = |side: u16| usize::from(side / draft.step + 1);
+    let dots_along = |side: u16| usize::from(side / draft.step + 1);
     let may_be = |margin: u16| {
         let (width, length) = (framed(draft.width, margin), framed(draft.length, margin));
-        width.max(length) <= 1000 && rows(width) * rows(length) <= 1024
+        width.max(length) <= 1000 && dots_along(width) * dots_along(length) <= 1024
     };
     while !may_be(margin) {
         margin /= 2;

@@ -18,10 +18,10 @@ use Rattle.branching.specs.declared.choosing.Next.{Next}
 
 -- A candidate found, and none.
 abbrev pub taking : ℕ → ℕ → Next
-taking n len = record { found = true; number = n; extent = len }
+taking n end = record { found = true; number = n; extent = end }
 
 abbrev pub nothing : ℕ → ℕ → Next
-nothing n len = record { found = false; number = n; extent = len }
+nothing n end = record { found = false; number = n; extent = end }
 
 -- ---- The next member
 
@@ -46,13 +46,13 @@ next-found s limit from =
 pub next-is-member : (s : List ℕ) (limit from n : ℕ) → n ≡ nextMember limit s from → n < limit → member s n ≡ true
 next-is-member s limit from n e l = rw e (next-found s limit from .2 (rw (← e) l))
 
-module _ (j : Problem) (u len : ℕ) (s : List ℕ) (limit from n : ℕ) (e : n ≡ nextMember limit s from) where
+module _ (j : Problem) (u end : ℕ) (s : List ℕ) (limit from n : ℕ) (e : n ≡ nextMember limit s from) where
   passed-over : (i : ℕ) → from ≤ i → i < n → (i < limit) × (member s i ≡ false)
   passed-over i p q = next-found s limit from .1 i p (rw (← e) q)
 
   -- There is a member.
-  pub member-found : (end len′ : ℕ) → n < limit → end ≡ entryExtent j (entryOf j u n) → len′ ≡ max end len → NextMember j u len s limit from (taking n len′)
-  member-found end len′ l g m =
+  pub member-found : (own end′ : ℕ) → n < limit → own ≡ entryExtent j (entryOf j u n) → end′ ≡ max own end → NextMember j u end s limit from (taking n end′)
+  member-found own end′ l g m =
       record {
         above = rw e (next-found s limit from .0);
         passed = passed-over;
@@ -61,20 +61,20 @@ module _ (j : Problem) (u len : ℕ) (s : List ℕ) (limit from n : ℕ) (e : n 
       }
 
   -- There is none.
-  pub member-none : limit ≤ n → NextMember j u len s limit from (nothing n len)
+  pub member-none : limit ≤ n → NextMember j u end s limit from (nothing n end)
   member-none l =
       record { above = rw e (next-found s limit from .0); passed = passed-over; found = λ f. absurd (not-both f refl); none = λ f. l }
 
 -- ---- What it says of the candidates
 
-module _ (j : Problem) (placed : Layout) (bound u len from : ℕ) where
+module _ (j : Problem) (placed : Layout) (bound u end from : ℕ) where
   -- What is placed does not end below the bound: nothing is live.
-  pub live-none : bound ≤ len → NextLive j placed bound u len from (nothing from len)
+  pub live-none : bound ≤ end → NextLive j placed bound u end from (nothing from end)
   live-none o = record { above = omega arith; passed = λ i p q. absurd (omega arith); found = λ f. absurd (not-both f refl); none = λ f. inl o }
 
   module _ (span : ℕ) (s : List ℕ) (c : Spans j bound span) (k : Keeps j placed bound span u s) where
     -- The first member is the first live candidate, and behind the span there is none.
-    pub live-member : (r : Next) → len < bound → NextMember j u len s (span * 64) from r → NextLive j placed bound u len from r
+    pub live-member : (r : Next) → end < bound → NextMember j u end s (span * 64) from r → NextLive j placed bound u end from r
     live-member r o b =
         record {
           above = b .above;

@@ -26,17 +26,17 @@ pub record Bounded (v : View) : Type 0 where
   pub rotations : (t : ℕ) → t < v .kinds → getD (v .rotations) t 0 < 16
   pub gaps : (t : ℕ) → t < v .kinds → getD (v .gaps) t 0 ≤ 63
 
--- What lies from low to high stays, moved by this much, within the margin and the limit less the margin.
+-- What lies from low to high stays, moved by this much, between the margin and the limit less the margin.
 unfoldable pub within : ℤ → ℤ → ℕ → ℕ → ℕ → Bool
 within low high by margin limit = leZ (pos margin) (low +ℤ pos by) && leZ (high +ℤ pos by) (pos limit -ℤ pos margin)
 
--- The box stays on the board, within the margin, if it is moved to a column and a row.
+-- The box stays on the board, clear of the margin, if it is moved to a column and a row.
 unfoldable pub fitsAt : View → Extents → ℕ → ℕ → Bool
 fitsAt v e c r =
     within (e .«min_x») (e .«max_x») (c * v .step) (v .margin) (v .length)
     && within (e .«min_y») (e .«max_y») (r * v .step) (v .margin) (v .width)
 
--- "A candidate of a type is a column, a row and an allowed turn with every turned, moved corner" on the board, within the margin.
+-- "A candidate of a type is a column, a row and an allowed turn with every turned, moved corner" on the board, clear of the margin.
 unfoldable pub placeable : View → Boxes → ℕ → ℕ → ℕ → ℕ → Bool
 placeable v b t c r k = ltb c (v .columns) && ltb r (v .rows) && testBit (getD (v .rotations) t 0) k && fitsAt v (boxAt b t k) c r
 

@@ -8,7 +8,7 @@ use job::View;
 use polygons::extents::Extents;
 use shapes::boxes::Boxes;
 
-// Whether what lies from low to high stays, moved by this much, within the margin and the limit less the margin.
+// Whether what lies from low to high stays, moved by this much, between the margin and the limit less the margin.
 fn stays_within(low: i16, high: i16, by: usize, margin: usize, limit: usize) -> bool
     requires { ⌜ (by ≤ 1000) × ((margin ≤ 63) × (limit ≤ 1000)) ⌝ }
     ensures { λ r. ⌜ r ≡ within low high by margin limit ⌝ }
@@ -17,7 +17,7 @@ fn stays_within(low: i16, high: i16, by: usize, margin: usize, limit: usize) -> 
         & ((high as i64) + (by as i64) <= (limit as i64) - (margin as i64))
 }
 
-// Whether a box stays on the board, within the margin, if it is moved to a column and a row.
+// Whether a box stays on the board, clear of the margin, if it is moved to a column and a row.
 fn stays_on_board(view: View, e: Extents, column: usize, row: usize) -> bool
     requires { ⌜ Bounded view × ((column < view .columns) × (row < view .rows)) ⌝ }
     ensures { λ r. ⌜ r ≡ fitsAt view e column row ⌝ }

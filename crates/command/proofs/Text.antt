@@ -29,7 +29,7 @@ text-is s n m budget work out shown = go (eqb (refusalUnder m s) 0) refl
   where
     go : (c : Bool) → eqb (refusalUnder m s) 0 ≡ c
         → rendered (run s m budget work out .answer) (run s m budget work out .out) n ≡ printed (under m (content s)) (run s m budget work out)
-    go true e = rw (shown .exact (accepted-under s m (eqb-true (refusalUnder m s) 0 e) .0)) (rendered-printed (under m (content s)) (run s m budget work out))
+    go true e = rw (shown .exact (accepted-under s m .0 (eqb-true (refusalUnder m s) 0 e) .0)) (rendered-printed (under m (content s)) (run s m budget work out))
     go false e = rw (e, run)
 
 -- The same of the answer and the answer numbers that the run left.

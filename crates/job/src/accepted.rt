@@ -14,7 +14,7 @@ ghost use Rattle.job.specs.Refusal.{refusalTo6};
 ghost use Rattle.job.specs.Soundness.{badAt, badKind};
 ghost use Rattle.job.specs.View.{ViewOf};
 
-// The view without a margin.
+// The view, at margin 0.
 pub fn view_of(job: &[u8]) -> View
     requires { ⌜ refusalTo6 (now job) ≡ 0 ⌝ }
     ensures { λ r. ⌜ ViewOf (now (job .entry)) r ⌝ }

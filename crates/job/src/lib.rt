@@ -29,13 +29,13 @@ pub struct View {
     pub part_at: [usize; 48],
 }
 
-// The number of the refusal, 0 if the job is accepted, and then its view.
+// The number of the refusal, 0 if nothing is refused, and then the job's view under the margin.
 pub struct Opened {
     pub refusal: u8,
     pub view: View,
 }
 
-// The view that stands beside a refusal: nothing.
+// The view that stands beside a refusal by 1 to 6: nothing.
 fn no_view() -> View {
     View {
         width: 0,
@@ -54,7 +54,7 @@ fn no_view() -> View {
     }
 }
 
-// Reads a job, without a margin. Type records are judged whole, cause 6, before any part's soundness, cause 7.
+// Reads a job, at margin 0. Type records are judged whole, cause 6, before any part's soundness, cause 7.
 pub fn open(job: &[u8]) -> Opened
     ensures { λ r. ⌜ r .refusal ≡ refusal (now (job .entry)) ⌝ }
     ensures { λ r. ⌜ (r .refusal ≡ 0 → Viewed (now (job .entry)) (r .view)) ⌝ }

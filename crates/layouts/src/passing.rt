@@ -2,9 +2,9 @@
 ghost use mathlib.Core.Path.{_≡_};
 ghost use Rattle.model.specs.Layout;
 ghost use Rattle.model.specs.Services.{layoutIn, checkContent};
+ghost use Rattle.job.specs.View.{problemOf};
 ghost use Rattle.candidates.specs.Conflicts.{Prepared};
 ghost use Rattle.layouts.specs.Passing.{Handed};
-ghost use Rattle.job.specs.View.{problemOf};
 use crate::admission::all_admitted;
 use crate::clearance::all_apart;
 use crate::demands::demand_met;

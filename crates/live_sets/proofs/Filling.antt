@@ -17,8 +17,8 @@ use Rattle.words.proofs.Member.{member-word, word-lt}
 use Rattle.words.proofs.Place.{numberAt-written, numberAt-other}
 use Rattle.words.proofs.Value.{length-bytes}
 use Rattle.model.proofs.Lists.{not-both}
-use Rattle.live_sets.specs.Narrowing.{stays, BitsAdmitted, Filled, Narrowable}
 use Rattle.model.specs.Problem.{Problem}
+use Rattle.live_sets.specs.Narrowing.{stays, BitsAdmitted, Filled, Narrowable}
 
 module _ (s : List ℕ) (k v : ℕ) (fits : k * 8 + 8 ≤ length s) (small : v < 2 ^ 64) where
   -- The members of a word written, and of every other.

@@ -65,6 +65,7 @@ fn rows_from(nofit: Nofit, strings: &[u8], row: usize, first: usize) -> u64
 
 // Of the 64 numbers from `first` on, those of candidates that go once candidate n of kind t is placed, by the strings of both kinds: one
 // string for the rows from the placed one's on, and one for the rows under it.
+// Strings do not know the margin: what is promised speaks of the candidates at margin 0, which every candidate is.
 fn blocked_word(
     job: &[u8],
     nofit: Nofit,

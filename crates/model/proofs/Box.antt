@@ -47,7 +47,7 @@ module _ (g : Vertex → ℤ) (vs : List Vertex) (some : 0 < length vs) where
   pub all-below-bound : (c : ℤ) → all (λ v. leZ (g v) c) vs ≡ leZ (largestZ (map g vs)) c
   all-below-bound c = sym (largest-test c (map g vs) (rw (length-map vs g) some) ∙ all-map (λ z. leZ z c) g vs)
 
--- All of some vertices lie on the board, within a margin, exactly if the least and the largest x and y do.
+-- All of some vertices lie on the board, clear of a margin, exactly if the least and the largest x and y do.
 pub all-onBoard : (m : ℕ) (b : Board) (vs : List Vertex) → 0 < length vs
     → all (onBoard m b) vs
     ≡ (leZ (pos m) (smallestZ (map (λ v. v .x) vs)) && leZ (largestZ (map (λ v. v .x) vs)) (pos (b .L) -ℤ pos m)

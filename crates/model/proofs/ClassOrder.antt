@@ -23,7 +23,7 @@ use Rattle.model.specs.declared.Checked.the-variants as C
 use Rattle.model.specs.declared.RunAnswer.the-variants as R
 use Rattle.model.specs.declared.Written.the-variants as W
 use Rattle.model.proofs.Causes.{no-cause}
-use Rattle.model.proofs.Lists.{or-left, or-right}
+use Rattle.model.proofs.Lists.{or-left, or-right, by-cond}
 use Rattle.model.proofs.Margin.{accepted-under}
 use Rattle.model.proofs.Permuted.{any-permuted, all-permuted, map-permuted, distinct-permuted, keep-permuted}
 
@@ -47,11 +47,6 @@ none-of-six a b c d e f h = (or-right (a || b || c) d (or-left _ e (or-left _ f 
 guarded : {A : Type 0} (c : Bool) (k : A) {x y : A} → (c ≡ false → x ≡ y) → cond c k x ≡ cond c k y
 guarded true k f = refl
 guarded false k f = f refl
-
--- A choice by cases is the same as one by `cond`.
-by-cond : {A : Type 0} (c : Bool) (x y : A) → _≡_ {A = A} (elim c as (λ _. A) [ false ↦ y | true ↦ x ]) (cond c x y)
-by-cond true x y = refl
-by-cond false x y = refl
 
 module _ (s t : List ℕ) (same : SameButClassOrder s t) where
   -- ---- The trailer
@@ -239,7 +234,7 @@ module _ (s t : List ℕ) (same : SameButClassOrder s t) where
     alike-under : {A : Type 0} (refused : ℕ → A) (accepted : Problem → A)
         → cond (eqb (refusalUnder m s) 0) (accepted (under m (content s))) (refused (refusalUnder m s))
         ≡ cond (eqb (refusalUnder m t) 0) (accepted (under m (content t))) (refused (refusalUnder m t))
-    alike-under refused accepted = alike (refusalUnder m) (refusal-under-same m) (λ e. accepted-under s m e .0) refused (λ j. accepted (under m j))
+    alike-under refused accepted = alike (refusalUnder m) (refusal-under-same m) (λ e. accepted-under s m .0 e .0) refused (λ j. accepted (under m j))
 
     pub row-same : (k n u : ℕ) (out : List ℕ) → conflictRow s m k n u out ≡ conflictRow t m k n u out
     unfolding conflictRow

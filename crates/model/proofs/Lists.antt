@@ -1,5 +1,5 @@
 -- Laws of the list words of specs/Lists.
-use mathlib.Core.Bool.{Bool, true, false, _&&_, _||_, true≢false}
+use mathlib.Core.Bool.{Bool, true, false, cond, _&&_, _||_, true≢false}
 use mathlib.Core.List.{List, [], _∷_, _++_, map, List·Memᴰ, reverse, reverseAux, List·Memᴰ·head, List·Memᴰ·tail, List·Memᴰ·cases-cons, List·Memᴰ·not-nil}
 use mathlib.Core.Logic.{_⊎_, inl, inr, ⊎-elim}
 use mathlib.Core.Path.{_≡_, refl, sym, ap, _∙_, subst}
@@ -21,6 +21,11 @@ and-right false false e = e
 
 pub and-both : (a b : Bool) → a ≡ true → b ≡ true → (a && b) ≡ true
 and-both a b p q = rw (p, q)
+
+-- A choice by cases is the same as one by `cond`.
+pub by-cond : {A : Type 0} (c : Bool) (x y : A) → _≡_ {A = A} (elim c as (λ _. A) [ false ↦ y | true ↦ x ]) (cond c x y)
+by-cond true x y = refl
+by-cond false x y = refl
 
 -- All four of four tests hold.
 pub and-four : (a b c d : Bool) → (a && b && c && d) ≡ true → (a ≡ true) × (b ≡ true) × (c ≡ true) × (d ≡ true)

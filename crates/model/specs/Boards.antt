@@ -1,4 +1,5 @@
--- Document 01, "Small boards": the marked ones, as one table of questions to the services and what the paper says of each.
+-- Document 01, "Small boards": the marked ones, as one table of questions to the services and what the paper says of each. Then further boards, and those of
+-- document 02's requests.
 use mathlib.Core.Bool.{Bool, true, false}
 use mathlib.Core.List.{List, [], _∷_, _++_, map}
 use Prim.Native.Nat.{ℕ, _+_, _*_, _/_}
@@ -231,8 +232,16 @@ clampRuns =
     ∷ (clamped 1 (runs (squares 4 5) 1000000) ⇒ says (Infeasible 2) true untouched)
     -- Margin 63 on a small board: no candidate.
     ∷ (clamped 63 (runs (squares 4 6) 1000000) ⇒ says (Infeasible 0) true untouched)
-    -- Candidate 0, at (0,0), at margin 0: in conflict with itself and with column 1, number 12. Bits 0 and 12 are set.
-    ∷ (rows (squares 2 4) 0 ⇒ shows (W.Count 1) (4097 ∷ []))
+    ∷ []
+
+-- What row says of a candidate.
+unfoldable pub clampRows : List Marked
+clampRows =
+    -- (0,0) at margin 0, W 2, L 4: it is in conflict with itself and with (1,0), number 12. Bits 0 and 12 are set.
+    (rows (squares 2 4) 0 ⇒ shows (W.Count 1) (4097 ∷ []))
+    -- (1,1), number 24, at margin 1, W 4, L 6: it is in conflict with itself and with (2,1), number 44, and touches (3,1); the clamps leave no other row.
+    -- Bits 24 and 44 are set.
+    ∷ (clamped 1 (rows (squares 4 6) 24) ⇒ shows (W.Count 3) (17592202821632 ∷ 0 ∷ 0 ∷ []))
     ∷ []
 
 -- What check says of that layout.
@@ -253,7 +262,7 @@ unfoldable pub clampRefusals : List Marked
 clampRefusals =
     -- At margin 1 the candidate (0,0) does not exist.
     (clamped 1 (rows (squares 2 4) 0) ⇒ shows (W.Refused 12) (0 ∷ []))
-    -- Margin 64 is refused by 13, before 12, 11, 8 and 9 and after a cause of the job's sender.
+    -- Margin 64 is refused by 13, where 12, 11 or 10 would be due otherwise, and after a cause of the job's sender.
     ∷ (clamped 64 (rows (squares 2 4) 0) ⇒ shows (W.Refused 13) (0 ∷ []))
     ∷ (clamped 64 (checks (squares 4 6) []) ⇒ finds (C.Refused 13))
     ∷ (clamped 64 (runs (squares 4 6) 1000000) ⇒ says (Refused 13) false untouched)

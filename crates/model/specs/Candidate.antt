@@ -9,8 +9,8 @@ use Rattle.words.specs.Bits.{testBit}
 use Rattle.model.specs.Content.{Vertex, Part, Kind, Board, kindAt}
 use Rattle.model.specs.Geometry.{rotated, moved}
 use Rattle.model.specs.Grid.{Placement, columns, rows, placementOf, numberLimit}
-use Rattle.model.specs.Problem.{Problem}
 use Rattle.model.specs.Lists.{all, concat, keep, below, largestZ}
+use Rattle.model.specs.Problem.{Problem}
 
 -- A part turned, then moved to its dot: "x = c × g", "y = r × g".
 unfoldable pub placedPart : Board → Placement → Part → Part
@@ -32,7 +32,7 @@ onBoard m b v =
     && leZ (pos m) (v .y)
     && leZ (v .y) (pos (b .W) -ℤ pos m)
 
--- "A candidate of a type is a column, a row and an allowed turn with every turned, moved corner" on the board, within the margin.
+-- "A candidate of a type is a column, a row and an allowed turn with every turned, moved corner" on the board, clear of the margin.
 unfoldable pub admitted : Problem → Kind → Placement → Bool
 admitted j k p =
     ltb (p .column) (columns (j .sheet))

@@ -1,6 +1,6 @@
--- The third demand, sentence by sentence, as one record over a job's bytes, a budget and what a run leaves behind. The theorem `demand3`
--- (proofs/Search/Demand3) says that what `run` leaves behind meets it, for every accepted job, every budget and long enough buffers,
--- whatever these hold.
+-- The third demand, sentence by sentence, as one record over a problem, a budget and what a run leaves behind. The theorem `demand3`
+-- (proofs/Search/Demand3) says that what `run` leaves behind meets it, for every accepted job, every margin of 0 to 63, every budget and long
+-- enough buffers, whatever these hold.
 use mathlib.Core.List.{List, List·Memᴰ}
 use mathlib.Core.Logic.{_↔_}
 use mathlib.Core.Option.{none, some}

@@ -1,4 +1,4 @@
--- Document 01, "Gap and conflict": layouts, the ones that pass, their length and their order.
+-- Document 01, "Gap and conflict": layouts, the ones that pass, their length and their order; document 02, "Clamp margin": the length.
 use mathlib.Core.Bool.{Bool, true, false, not, cond, _&&_}
 use mathlib.Core.List.{List, [], _∷_, map}
 use mathlib.Core.Logic.{_⊎_}

@@ -1,5 +1,6 @@
 -- Document 01, "Services" and "Who can cause a refusal": what each service answers, and what it leaves in every buffer handed in.
 -- "They are tested as 1 to 7, then 12, 11, 8, 9, then 10, each only after those before it." Document 02: "13 .., tested after 7".
+-- So the order is 1 to 7, 13, 12, 11, 8, 9, 10.
 use mathlib.Core.Bool.{Bool, true, false, not, _&&_, _||_, cond}
 use mathlib.Core.List.{List, [], _∷_, _++_, map}
 use mathlib.Core.Option.{Option, none, some}
@@ -112,17 +113,17 @@ cause12 j t n u = not (ltb t (kindCount (j .kinds)) && isCandidate j t n && ltb 
 
 -- "a bit is set where that type's candidate of that number exists and is in conflict"
 unfoldable pub rowBit : Problem → ℕ → ℕ → ℕ → ℕ → Bool
-rowBit j t n u m =
-    elim (isCandidate j u m) [
+rowBit j t n u k =
+    elim (isCandidate j u k) [
       | false ↦ false
-      | true ↦ conflict j (entryOf j t n) (entryOf j u m)
+      | true ↦ conflict j (entryOf j t n) (entryOf j u k)
     ]
 
 -- "fills ceil(D / 16) words": "candidate n is bit n mod 64 of word n div 64".
 unfoldable pub rowWords : Problem → ℕ → ℕ → ℕ → List ℕ
 rowWords j t n u = map (λ w. bitsWhere 64 (λ i. rowBit j t n u (w * 64 + i))) (below (setWords (j .sheet)))
 
--- Conflict row, of an accepted job. "9: .. row words too few."
+-- Conflict row, of an accepted job and margin. "9: .. row words too few."
 unfoldable pub rowContent : Problem → ℕ → ℕ → ℕ → List ℕ → WriteOutcome
 rowContent j t n u out =
     elim (cause12 j t n u) [
@@ -157,7 +158,7 @@ layoutIn j s = map (entryIn s) (below (pieceCount (j .kinds)))
 unfoldable pub cause11 : Problem → List ℕ → Bool
 cause11 j s = not (eqb (numbersIn s) (4 * pieceCount (j .kinds))) || not (passes j (layoutIn j s))
 
--- Check, of an accepted job. "Check gives a layout's length."
+-- Check, of an accepted job and margin. "Check gives a layout's length."
 unfoldable pub checkContent : Problem → List ℕ → Checked
 checkContent j layout = cond (cause11 j layout) (C.Refused 11) (C.Passes (layoutLength j (layoutIn j layout)))
 
@@ -221,7 +222,7 @@ verdict j budget =
     cond (isStopped j none budget) (R.Stopped (heldAs j (held j none budget)) (stepCount j budget))
     (finishedAs j (held j none budget) (stepCount j budget))
 
--- Run, of an accepted job. "8: work words too few. 9: answer .. words too few."
+-- Run, of an accepted job and margin. "8: work words too few. 9: answer .. words too few."
 unfoldable pub runContent : Problem → ℕ → List ℕ → List ℕ → RunOutcome
 runContent j budget work out =
     elim (ltb (wordsIn work) (workWords j)) [

@@ -46,7 +46,7 @@ abbrev pub SizesOf : List ℕ → List ℕ → Type 0
 SizesOf s sizes = (t i : ℕ) → t < kindCount (content s .kinds) → i < length (kindAt (content s .kinds) t .parts)
     → getD sizes (t * 6 + i) 0 ≡ length (getD (kindAt (content s .kinds) t .parts) i [])
 
--- The plan is that of the job, under a margin. The view and the boxes are those that it was taken from.
+-- The plan is that of the job; its margin is its own, and `make_plan` promises whose. The view and the boxes are those that it was taken from.
 pub record PlanOf (s : List ℕ) (p : Plan) : Type 0 where
   pub accepted : refusal s ≡ 0
   pub view : View

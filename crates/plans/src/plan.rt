@@ -1,4 +1,4 @@
-// What follows from the job alone and is computed once for a run. It goes through the walk by value, so its numbers are small.
+// What follows from the job and the margin and is computed once for a run. It goes through the walk by value, so its numbers are small.
 ghost use mathlib.Core.Path.{_≡_};
 ghost use Prim.Native.Nat.{ℕ, _≤_, _<_};
 ghost use lib.ListN.{getD};
@@ -6,11 +6,11 @@ ghost use Rattle.model.specs.Content.{pieceCount};
 ghost use Rattle.model.specs.Format.{content};
 ghost use Rattle.model.specs.Search.{copiesLeft};
 ghost use Rattle.model.specs.Services.{workWords};
+ghost use Rattle.job.specs.View.{problemOf, Viewed};
 ghost use Rattle.shapes.specs.Boxes.{BoxesOf};
 ghost use Rattle.shapes.specs.Pieces.{Fitting};
 ghost use Rattle.stepping.specs.Levels.{piecesFrom};
 ghost use Rattle.plans.specs.Planned.{KindsOf, CopiesOf, EndsOf, SizesOf, PlanOf};
-ghost use Rattle.job.specs.View.{problemOf, Viewed};
 use job::View;
 use shapes::boxes::Boxes;
 use shapes::pieces::Piece;

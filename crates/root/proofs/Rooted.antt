@@ -25,10 +25,10 @@ use Rattle.stepping.proofs.Levels.{start-admitted, walk-level}
 use Rattle.walks.proofs.GoingOn.{go-back, deep-ready, go-deep}
 use Rattle.root.specs.Walked.{RoomFor, Walked}
 
--- Nothing placed has no length.
-no-length : (j : Problem) → 0 ≡ largestEnd j []
+-- Where nothing is placed the largest end is 0.
+no-end : (j : Problem) → 0 ≡ largestEnd j []
 unfolding largestEnd largest
-no-length j = refl
+no-end j = refl
 
 module _ (j : Problem) (budget long words : ℕ) (work out ns : List ℕ) (pieced : 0 < pieceCount (j .kinds)) (e : long ≡ j .sheet .L) (w : words ≡ setWords (j .sheet)) (m : length ns ≡ 12) (r : RoomFor j work out) where
   -- Nothing is placed.
@@ -40,7 +40,7 @@ module _ (j : Problem) (budget long words : ℕ) (work out ns : List ℕ) (piece
         out-fits = r .out-fits;
         room = m;
         admitted = start-admitted j;
-        len-is = no-length j;
+        end-is = no-end j;
         bound-is = ap (λ (n : ℕ). n + 1) e;
         written = layout-none out;
         running = refl;

@@ -1,11 +1,11 @@
-// The walk of an accepted job from its root, where nothing is placed.
+// The walk of an accepted job, under a margin, from its root, where nothing is placed.
 ghost use Prim.Native.Nat.{_*_, _+_, _≤_};
 ghost use lib.ListN.{length, replicate};
+ghost use Rattle.job.specs.View.{problemOf, Viewed};
 ghost use Rattle.stepping.specs.Levels.{tryLevel, numbersAt};
+ghost use Rattle.plans.specs.Planned.{planned};
 ghost use Rattle.walks.specs.Walk.{heldOf, Ready, Left};
 ghost use Rattle.root.specs.Walked.{RoomFor, Walked, Computed};
-ghost use Rattle.job.specs.View.{problemOf, Viewed};
-ghost use Rattle.plans.specs.Planned.{planned};
 use crate::beginning::settle_first;
 use job::View;
 use nofit::measures::nofit_of;

@@ -8,9 +8,9 @@ ghost use Rattle.model.specs.Format.{content};
 ghost use Rattle.model.specs.Grid.{setWords};
 ghost use Rattle.model.specs.Lists.{below};
 ghost use Rattle.model.specs.Services.{withWords, rowWords, rowContent, conflictRow};
+ghost use Rattle.job.specs.View.{problemOf};
 ghost use Rattle.candidates.specs.Conflicts.{Prepared};
 ghost use Rattle.rows.specs.Rows.{RowAsked, RowReady, bitOf, wordOf};
-ghost use Rattle.job.specs.View.{problemOf};
 use candidates::conflicts::Placed;
 use candidates::conflicts::conflict_between;
 use candidates::conflicts::pair_gap;
@@ -130,7 +130,7 @@ fn fill_for(
     );
 }
 
-// The row of an accepted job.
+// The row of an accepted job, under the view's margin.
 fn row_content(
     job: &[u8],
     view: View,

@@ -76,7 +76,7 @@ met : (s : List ℕ) (m budget : ℕ) (work out : List ℕ) (o : RunOutcome) →
 met s m budget work out o e = (ap (λ (o : RunOutcome). o .answer) e, (ap (λ (o : RunOutcome). o .work) e, ap (λ (o : RunOutcome). o .out) e))
 
 module _ (s : List ℕ) (m budget : ℕ) (work out : List ℕ) where
-  -- The job is refused.
+  -- The job or the margin is refused.
   pub run-refuses : (number : ℕ) → number ≡ refusalUnder m s → (number ≡ 0 → ⊥) → Met s m budget work out (runOutcome (R.Refused number) work out)
   unfolding run
   run-refuses number e h = met s m budget work out _ (ap (λ (n : ℕ). runOutcome (R.Refused n) work out) e ∙ sym (rw (ne-eqb (refusalUnder m s) 0 (λ q. h (e ∙ q)), run)))
@@ -120,5 +120,5 @@ module _ (s : List ℕ) (m budget : ℕ) (work out : List ℕ) where
               let z : work″ ≡ cleared (under m (content s)) work = c ∙ cleared-same (under m (content s)) words work work′ words-are (w .behind) in
               met s m budget work out _
               (rw (t, z, w .written)
-              (sym (run-accepts ∙ run-walk (under m (content s)) (accepted-sensible s m (accepted-under s m accepted .0) .pieced) budget work out
+              (sym (run-accepts ∙ run-walk (under m (content s)) (accepted-sensible s m (accepted-under s m .0 accepted .0) .pieced) budget work out
               (subst (λ (n : ℕ). ltb (length work / 8) n ≡ false) words-are enough) (subst (λ (n : ℕ). ltb (length out / 2) n ≡ false) numbers-are enough′))))

@@ -71,7 +71,7 @@ module _ (j : Problem) (ns : List ℕ) where
             let e : entryAt (layoutOf j ns) i ≡ entryOf j (pieceKind (j .kinds) i) (numbersAt ns i) = getD-map-below _ (pieceCount (j .kinds)) i noEntry k in
             rw e (bounds-small j _ (omega arith) (candidate-bounds j (pieceKind (j .kinds) i) (numbersAt ns i) few-dots (placed-candidates (pieceCount (j .kinds)) a i k)))
 
-  module _ (level len : ℕ) (work out : List ℕ) (st : Progress) (r : Ready j work out ns level level len st) (under : len < st .bound) where
+  module _ (level end : ℕ) (work out : List ℕ) (st : Progress) (r : Ready j work out ns level level end st) (under : end < st .bound) where
     -- ---- The last piece was placed
 
     pub record-ready : dots (j .sheet) ≤ 1024 → kindCount (j .kinds) ≤ 8 → level ≡ pieceCount (j .kinds) → Recordable j ns out
@@ -83,9 +83,9 @@ module _ (j : Problem) (ns : List ℕ) where
     lower-ready e l u m hl hu c h q =
         kept-candidate j (placedOf j ns l) (st .bound) (st .span) u (slotOf j work l u) (r .sets l u (omega arith) hu c) m h (slot-member j work l u m ∙ q)
 
-    pub go-last : (work′ out′ : List ℕ) (left : ℕ) (st′ : Progress) → st′ ≡ completed st len left → dots (j .sheet) ≤ 1024 → kindCount (j .kinds) ≤ 8
+    pub go-last : (work′ out′ : List ℕ) (left : ℕ) (st′ : Progress) → st′ ≡ completed st end left → dots (j .sheet) ≤ 1024 → kindCount (j .kinds) ≤ 8
         → ((u : ℕ) → u < kindCount (j .kinds) → 0 < kindAt (j .kinds) u .demand) → 0 < level → level ≡ pieceCount (j .kinds)
-        → out′ ≡ withLayout (some (layoutOf j ns)) out → Lowered j len (st .span) work work′ left
+        → out′ ≡ withLayout (some (layoutOf j ns)) out → Lowered j end (st .span) work work′ left
         → Left j ns work out work′ out′ level st st′ (goOnLevel j (numbersAt ns) level (st .left) (heldOf j (st .found) out))
     go-last work′ out′ left st′ q d k demanded one e o v =
         let w : goOnLevel j (numbersAt ns) level (st .left) (heldOf j (st .found) out) ≡ spent (st .left) (some (layoutOf j ns)) false =
@@ -98,21 +98,21 @@ module _ (j : Problem) (ns : List ℕ) where
           left = refl;
           stopped = refl;
           held = ap some (ap (layoutIn j) o ∙ layout-back d k a out);
-          bound-is = r .len-is ∙ ap (λ (l : ℕ). largestEnd j (placedOf j ns l)) e ∙ sym (bound-complete j (placedOf j ns (pieceCount (j .kinds)))) ∙ ap (λ (es : Layout). boundOf j (some es)) layout-placed;
+          bound-is = r .end-is ∙ ap (λ (l : ℕ). largestEnd j (placedOf j ns l)) e ∙ sym (bound-complete j (placedOf j ns (pieceCount (j .kinds)))) ∙ ap (λ (es : Layout). boundOf j (some es)) layout-placed;
           lowered = omega arith;
           written = o;
-          spans = lowered-spans j ns (st .bound) (st .span) len left work work′ (r .spans) sets (omega arith) v (rw (← e) one) demanded;
-          sets = subst (λ (l : ℕ). SetsKept j ns l len left work′) (sym e) (lowered-sets j ns (st .bound) (st .span) len left work work′ (r .spans) sets (omega arith) v);
+          spans = lowered-spans j ns (st .bound) (st .span) end left work work′ (r .spans) sets (omega arith) v (rw (← e) one) demanded;
+          sets = subst (λ (l : ℕ). SetsKept j ns l end left work′) (sym e) (lowered-sets j ns (st .bound) (st .span) end left work work′ (r .spans) sets (omega arith) v);
           behind = v .trimmed .behind;
         })
 
     -- ---- Look-ahead
 
-    pub settle-ready : level < pieceCount (j .kinds) → Taken j ns level len st → Placeable j ns level (st .bound) (st .span) work
+    pub settle-ready : level < pieceCount (j .kinds) → Taken j ns level end st → Placeable j ns level (st .bound) (st .span) work
     settle-ready h t = record { within = h; fits = r .work-fits; later = t .some; latest = t .latest; spans = r .spans; sets = r .sets }
 
     short : largestEnd j (placedOf j ns level) < boundOf j (heldOf j (st .found) out)
-    short = rw (← (r .len-is), ← (r .bound-is)) under
+    short = rw (← (r .end-is), ← (r .bound-is)) under
 
     -- It fails: the candidate is given back.
     pub go-back : (work′ : List ℕ) (told : Bool) → level < pieceCount (j .kinds) → told ≡ false → Settled j ns level (st .bound) (st .span) work work′ told
@@ -135,14 +135,14 @@ module _ (j : Problem) (ns : List ℕ) where
 
     -- It holds: the next piece tries its candidates.
     pub deep-ready : (work′ : List ℕ) (told : Bool) → told ≡ true → Settled j ns level (st .bound) (st .span) work work′ told → length work′ ≡ length work
-        → Ready j work′ out ns level (level + 1) len st
+        → Ready j work′ out ns level (level + 1) end st
     deep-ready work′ told e s q =
         record {
           work-fits = rw q (r .work-fits);
           out-fits = r .out-fits;
           room = r .room;
           admitted = r .admitted;
-          len-is = r .len-is;
+          end-is = r .end-is;
           bound-is = r .bound-is;
           written = r .written;
           running = r .running;

@@ -66,23 +66,23 @@ same-numbers a b e = rw e
 -- ---- The loop
 
 -- What stands at each turn, from number `from` on. (With 0 are marked the values at the beginning.)
-pub record Trying (j : Problem) (ns : List ℕ) (level len : ℕ) (work₀ out₀ work out : List ℕ) (st₀ st : Progress) (from : ℕ) : Type 0 where
-  pub ready : Ready j work out ns level (level + 1) len st
+pub record Trying (j : Problem) (ns : List ℕ) (level end : ℕ) (work₀ out₀ work out : List ℕ) (st₀ st : Progress) (from : ℕ) : Type 0 where
+  pub ready : Ready j work out ns level (level + 1) end st
   pub same : tryLevel j (numbersAt ns) level 0 (st₀ .left) (heldOf j (st₀ .found) out₀) ≡ tryLevel j (numbersAt ns) level from (st .left) (heldOf j (st .found) out)
   pub lowered : st .bound ≤ st₀ .bound
   pub written : out ≡ withLayout (heldOf j (st .found) out) out₀
   pub behind : drop (workWords j * 8) work ≡ drop (workWords j * 8) work₀
 
-module _ (j : Problem) (ns : List ℕ) (level len : ℕ) where
+module _ (j : Problem) (ns : List ℕ) (level end : ℕ) where
   -- The whole of it.
   abbrev whole : Progress → List ℕ → Spent
   whole st out = tryLevel j (numbersAt ns) level 0 (st .left) (heldOf j (st .found) out)
 
-  pub trying-begin : (work out : List ℕ) (st : Progress) → Ready j work out ns level (level + 1) len st → Trying j ns level len work out work out st st 0
+  pub trying-begin : (work out : List ℕ) (st : Progress) → Ready j work out ns level (level + 1) end st → Trying j ns level end work out work out st st 0
   trying-begin work out st r =
       record { ready = r; same = refl; lowered = omega arith; written = sym (r .written); behind = refl }
 
-  module _ (work₀ out₀ work out : List ℕ) (st₀ st : Progress) (from : ℕ) (t : Trying j ns level len work₀ out₀ work out st₀ st from) where
+  module _ (work₀ out₀ work out : List ℕ) (st₀ st : Progress) (from : ℕ) (t : Trying j ns level end work₀ out₀ work out st₀ st from) where
     -- Nothing is left to be done.
     trying-leaves : tryLevel j (numbersAt ns) level from (st .left) (heldOf j (st .found) out) ≡ spent (st .left) (heldOf j (st .found) out) false
         → Left j ns work₀ out₀ work out (level + 1) st₀ st (whole st₀ out₀)
@@ -105,7 +105,7 @@ module _ (j : Problem) (ns : List ℕ) (level len : ℕ) where
     pub trying-keeps : level < pieceCount (j .kinds) → Keeps j (placedOf j ns level) (st .bound) (st .span) (pieceKind (j .kinds) level) (slotOf j work level (pieceKind (j .kinds) level))
     trying-keeps h = t .ready .sets level (pieceKind (j .kinds) level) (omega arith) (piece-kind (j .kinds) level h) (copies-here (j .kinds) level h)
 
-    module _ (r : Next) (v : NextLive j (placedOf j ns level) (st .bound) (pieceKind (j .kinds) level) len from r) where
+    module _ (r : Next) (v : NextLive j (placedOf j ns level) (st .bound) (pieceKind (j .kinds) level) end from r) where
       -- The walk goes to the next live candidate.
       trying-skips : tryLevel j (numbersAt ns) level from (st .left) (heldOf j (st .found) out) ≡ tryLevel j (numbersAt ns) level (r .number) (st .left) (heldOf j (st .found) out)
       trying-skips =
@@ -116,10 +116,10 @@ module _ (j : Problem) (ns : List ℕ) (level len : ℕ) where
       pub trying-past : r .found ≡ false → Left j ns work₀ out₀ work out (level + 1) st₀ st (whole st₀ out₀)
       trying-past f = go (v .none f)
         where
-          go : (st .bound ≤ len) ⊎ ((i : ℕ) → from ≤ i → setOf j (placedOf j ns level) (st .bound) (pieceKind (j .kinds) level) i ≡ false) → Left j ns work₀ out₀ work out (level + 1) st₀ st (whole st₀ out₀)
+          go : (st .bound ≤ end) ⊎ ((i : ℕ) → from ≤ i → setOf j (placedOf j ns level) (st .bound) (pieceKind (j .kinds) level) i ≡ false) → Left j ns work₀ out₀ work out (level + 1) st₀ st (whole st₀ out₀)
           go (inl o) =
               trying-leaves (level-over j (numbersAt ns) level (heldOf j (st .found) out) (t .ready .admitted) from (st .left)
-              (omega (arith, t .ready .bound-is, t .ready .len-is)))
+              (omega (arith, t .ready .bound-is, t .ready .end-is)))
           go (inr o) =
               let past : from ≤ from + setWords (j .sheet) * 64 = omega arith in
               trying-leaves
@@ -145,7 +145,7 @@ module _ (j : Problem) (ns : List ℕ) (level len : ℕ) where
         member-is = rw (← (placed-is level (omega arith)), number-is, ← (t .ready .bound-is)) (v .found f .member)
 
         short : largestEnd j (placedOf j (set ns level (r .number)) level) < boundOf j (heldOf j (st .found) out)
-        short = rw (← (placed-is level (omega arith)), ← (t .ready .bound-is), ← (t .ready .len-is)) (v .found f .below)
+        short = rw (← (placed-is level (omega arith)), ← (t .ready .bound-is), ← (t .ready .end-is)) (v .found f .below)
 
         -- The walk from the new number on, with the numbers as they are then.
         trying-at : whole st₀ out₀ ≡ tryLevel j (numbersAt (set ns level (r .number))) level (numbersAt (set ns level (r .number)) level) (st .left) (heldOf j (st .found) out)
@@ -192,7 +192,7 @@ module _ (j : Problem) (ns : List ℕ) (level len : ℕ) where
               out-fits = t .ready .out-fits;
               room = length-set ns level (r .number) ∙ t .ready .room;
               admitted = rw placed-more (placed-admitted j (placedOf j ns level) (st .bound) (pieceKind (j .kinds) level) (r .number) live (t .ready .admitted));
-              len-is = rw placed-more (v .found f .reaches ∙ ap (max (entryExtent j (entryOf j (pieceKind (j .kinds) level) (r .number)))) (t .ready .len-is) ∙ sym (end-cons j (entryOf j (pieceKind (j .kinds) level) (r .number)) (placedOf j ns level)));
+              end-is = rw placed-more (v .found f .reaches ∙ ap (max (entryExtent j (entryOf j (pieceKind (j .kinds) level) (r .number)))) (t .ready .end-is) ∙ sym (end-cons j (entryOf j (pieceKind (j .kinds) level) (r .number)) (placedOf j ns level)));
               bound-is = t .ready .bound-is;
               written = t .ready .written;
               running = refl;
@@ -207,7 +207,7 @@ module _ (j : Problem) (ns : List ℕ) (level len : ℕ) where
             rw q (record {
               some = omega arith;
               within = omega arith;
-              below = rw (v .found f .reaches, t .ready .len-is, ← (end-cons j (entryOf j (pieceKind (j .kinds) level) (r .number)) (placedOf j ns level))) (placed-below j (placedOf j ns level) (st .bound) (pieceKind (j .kinds) level) (r .number) live (rw (← (t .ready .len-is)) (v .found f .below)));
+              below = rw (v .found f .reaches, t .ready .end-is, ← (end-cons j (entryOf j (pieceKind (j .kinds) level) (r .number)) (placedOf j ns level))) (placed-below j (placedOf j ns level) (st .bound) (pieceKind (j .kinds) level) (r .number) live (rw (← (t .ready .end-is)) (v .found f .below)));
               latest = rw (e, number-is, ← (placed-is level (omega arith))) live;
             })
 
@@ -257,7 +257,7 @@ module _ (j : Problem) (ns : List ℕ) (level len : ℕ) where
               })
 
           -- It came back: the numbers after this one are tried.
-          pub trying-goes : st′ .stopped ≡ false → Trying j ns level len work₀ out₀ work′ out′ st₀ st′ (r .number + 1)
+          pub trying-goes : st′ .stopped ≡ false → Trying j ns level end work₀ out₀ work′ out′ st₀ st′ (r .number + 1)
           trying-goes z =
               let w : whole st₀ out₀ ≡ tryLevel j (numbersAt (set ns level (r .number))) level (suc (r .number)) (st′ .left) (heldOf j (st′ .found) out′) =
               trying-at
@@ -269,7 +269,7 @@ module _ (j : Problem) (ns : List ℕ) (level len : ℕ) where
                   out-fits = rw (same-numbers out′ out out-length) (t .ready .out-fits);
                   room = t .ready .room;
                   admitted = t .ready .admitted;
-                  len-is = t .ready .len-is;
+                  end-is = t .ready .end-is;
                   bound-is = done .bound-is ∙ ap (boundOf j) (sym (done .held));
                   written =
                       ap (λ (g : Option Layout). withLayout g out′) (done .held)

@@ -22,12 +22,12 @@ heldOf j true out = some (layoutIn j out)
 heldOf j false out = none
 
 -- What stands when the walk comes to a level: `depth` levels have their sets.
-pub record Ready (j : Problem) (work out ns : List ℕ) (level depth len : ℕ) (st : Progress) : Type 0 where
+pub record Ready (j : Problem) (work out ns : List ℕ) (level depth end : ℕ) (st : Progress) : Type 0 where
   pub work-fits : workWords j * 8 ≤ length work
   pub out-fits : 4 * pieceCount (j .kinds) ≤ numbersIn out
   pub room : length ns ≡ 12
   pub admitted : all (isEntry j) (placedOf j ns level) ≡ true
-  pub len-is : len ≡ largestEnd j (placedOf j ns level)
+  pub end-is : end ≡ largestEnd j (placedOf j ns level)
   pub bound-is : st .bound ≡ boundOf j (heldOf j (st .found) out)
   pub written : withLayout (heldOf j (st .found) out) out ≡ out
   pub running : st .stopped ≡ false
@@ -35,10 +35,10 @@ pub record Ready (j : Problem) (work out ns : List ℕ) (level depth len : ℕ) 
   pub sets : SetsKept j ns depth (st .bound) (st .span) work
 
 -- A piece was just placed: what is placed ends below the bound, and the piece was a member.
-pub record Taken (j : Problem) (ns : List ℕ) (level len : ℕ) (st : Progress) : Type 0 where
+pub record Taken (j : Problem) (ns : List ℕ) (level end : ℕ) (st : Progress) : Type 0 where
   pub some : 0 < level
   pub within : level ≤ pieceCount (j .kinds)
-  pub below : len < st .bound
+  pub below : end < st .bound
   pub latest : setOf j (placedOf j ns (level - 1)) (st .bound) (pieceKind (j .kinds) (level - 1)) (numbersAt ns (level - 1)) ≡ true
 
 -- What the walk leaves: what the definition says, the layout held in the answer numbers, and the sets of the levels below `depth` at the bound that it came to.

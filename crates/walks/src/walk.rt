@@ -2,10 +2,10 @@
 ghost use Prim.Native.Nat.{_+_, _<_};
 ghost use Rattle.model.specs.Content.{pieceCount};
 ghost use Rattle.model.specs.Format.{content};
+ghost use Rattle.plans.specs.Planned.{planned};
 ghost use Rattle.live_sets.specs.Known.{Known};
 ghost use Rattle.stepping.specs.Levels.{tryLevel, goOnLevel, numbersAt};
 ghost use Rattle.walks.specs.Walk.{heldOf, Ready, Taken, Left};
-ghost use Rattle.plans.specs.Planned.{planned};
 use bounding::lowering::lower;
 use branching::choosing::next_live;
 use lookahead::settling::settle;

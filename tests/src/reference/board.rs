@@ -1,4 +1,4 @@
-//! Dots of an accepted job; its candidates, gaps and conflicts under a margin.
+//! Dots, gaps and conflicts of an accepted job; its candidates and lengths under a margin.
 
 use std::cell::RefCell;
 
@@ -75,9 +75,9 @@ impl Board {
         self.remembered.get(a.place, b.place, || in_conflict(&a.parts, &b.parts, gap))
     }
 
-    /// The largest end plus the margin, 0 for no piece.
+    /// The largest end plus the margin.
     pub fn length(&self, layout: &[Piece]) -> i64 {
-        layout.iter().map(|&p| self.at(p).end + self.margin).max().unwrap_or(0)
+        layout.iter().map(|&p| self.at(p).end).max().unwrap_or(0) + self.margin
     }
 }
 

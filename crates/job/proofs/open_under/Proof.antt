@@ -1,6 +1,6 @@
 use mathlib.Core.Path.{refl, sym, _∙_}
 use native.Mathlib.Omega.{arith}
-use Rattle.model.proofs.Margin.{refused-first, refused-13, under-accepted}
+use Rattle.model.proofs.Margin.{refused-first, refused-13, accepted-under}
 use Rattle.job.proofs.ViewLaws.{with-margin}
 use borrow.Author.Needs.{needs}
 use Rattle.job.proofs.open_under.Statement.{statement}
@@ -25,7 +25,7 @@ returns-3 : tie.Need-returns-3
 returns-3 c =
     let o = c .before .before .before .«open» .ensures in
     let accepted = sym (o .0) ∙ c .before .if1 .left in
-    (sym (under-accepted (c .before .before .before .before .before .args .job .now) (c .before .before .before .before .before .args .margin) accepted (omega (arith, c .if2 .left))), λ z. (record { accepted = accepted; view = with-margin (c .before .before .before .before .before .args .job .now) _ (c .before .before .before .before .before .args .margin) (omega (arith, c .if2 .left)) (o .1 (c .before .if1 .left) .view) }, refl))
+    (sym (accepted-under (c .before .before .before .before .before .args .job .now) (c .before .before .before .before .before .args .margin) .1 (accepted, omega (arith, c .if2 .left))), λ z. (record { accepted = accepted; view = with-margin (c .before .before .before .before .before .args .job .now) _ (c .before .before .before .before .before .args .margin) (omega (arith, c .if2 .left)) (o .1 (c .before .if1 .left) .view) }, refl))
 
 pub open-under-spec : {M : Type 1} → statement M
 open-under-spec =

@@ -1,4 +1,4 @@
--- The third demand: what `run` leaves behind meets it, for every accepted job, every budget and long enough buffers, whatever these hold.
+-- The third demand: what `run` leaves behind meets it, for every accepted job, every margin of 0 to 63, every budget and long enough buffers, whatever these hold.
 use mathlib.Core.Bool.{Bool, true, false, cond}
 use mathlib.Core.List.{List}
 use mathlib.Core.Option.{Option, none, some, Option·some-injective, Option·some-ne-none}
@@ -16,19 +16,19 @@ use Rattle.model.specs.Search.{stepsNeeded, isStopped, stepsTaken, held}
 use Rattle.model.specs.Services.{RunOutcome, runOutcome, numbersIn, wordsIn, workWords, cleared, layoutIn, withLayout, heldAs, finishedAs, stepCount, verdict, runContent, run, refusalUnder}
 use Rattle.model.specs.declared.RunAnswer.the-variants as R
 use Rattle.model.proofs.Accepted.{Sensible, accepted-kinds, accepted-sensible, accepted-dots}
-use Rattle.model.proofs.Margin.{under-accepted}
+use Rattle.model.proofs.Margin.{accepted-under}
 use Rattle.model.proofs.ReadBack.{Small, read-layout}
 use Rattle.model.proofs.Search.Budget.{stopped-exactly, not-stopped-exactly, steps-taken, all-held, held-best, held-laid, held-none}
 use Rattle.model.proofs.Search.Pieces.{admitted-parts, few-turns, entry-kind}
 use Rattle.model.proofs.Search.Walk.{Laid, walk-finds}
 
--- What run leaves behind where the job is accepted and the buffers are long enough.
+-- What run leaves behind where job and margin are accepted and the buffers are long enough.
 pub run-fit : (s : List ℕ) (m budget : ℕ) (work out : List ℕ) → Fit s m work out
     → run s m budget work out ≡ runOutcome (verdict (under m (content s)) budget) (cleared (under m (content s)) work) (withLayout (held (under m (content s)) none budget) out)
 unfolding run runContent
 run-fit s m budget work out fit =
     rw (
-      eq-eqb (refusalUnder m s) 0 (under-accepted s m (fit .accepted) (fit .margin-allowed)),
+      eq-eqb (refusalUnder m s) 0 (accepted-under s m .1 (fit .accepted, fit .margin-allowed)),
       le-ltb (wordsIn work) (workWords (under m (content s))) (fit .work-long-enough),
       le-ltb (numbersIn out) (4 * pieceCount (content s .kinds)) (fit .out-long-enough),
       run,

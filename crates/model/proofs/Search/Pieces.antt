@@ -1,4 +1,4 @@
--- The pieces and the candidates of a job: which they are, in which order, and how many.
+-- The pieces and the candidates of a problem: which they are, in which order, and how many.
 use mathlib.Core.Bool.{true, false}
 use mathlib.Core.List.{List, [], map, List·Memᴰ, List·Memᴰ·not-nil}
 use mathlib.Core.Logic.{_⊎_, inl, inr, ⊎-elim}

@@ -8,6 +8,7 @@ use Rattle.words.specs.Bits.{bitsWhere}
 use Rattle.words.specs.Number.{filled}
 use Rattle.model.specs.Lists.{below}
 use Rattle.model.specs.Services.{withWords, rowBit, rowWords}
+use Rattle.job.specs.View.{problemOf}
 use Rattle.candidates.specs.Conflicts.{Near}
 use Rattle.rows.specs.Rows.{wordOf}
 use Rattle.rows.proofs.AnswerLaws.{few-dots, word-count}
@@ -17,7 +18,6 @@ use Rattle.rows.proofs.RowLaws.{words-are}
 use borrow.Author.Needs.{needs}
 use Rattle.rows.proofs.fill_for.Statement.{statement}
 use Rattle.rows.proofs.fill_for.Tie as tie
-use Rattle.job.specs.View.{problemOf}
 
 piece-of-requires : tie.Need-piece-of-requires
 piece-of-requires c κs = search needs

@@ -4,13 +4,13 @@ use native.Mathlib.Omega.{arith}
 use borrow.Author.Tests.{not-true, not-false}
 use denote.Ref.{now}
 use Rattle.model.specs.declared.Written.the-variants as W
+use Rattle.job.specs.View.{problemOf}
 use Rattle.rows.specs.Rows.{RowAsked}
 use Rattle.rows.proofs.AnswerLaws.{few-dots, word-count, kinds-exist, kind-absent, candidate-absent, all-exist, row-absent, row-short, row-written}
 use Rattle.candidates.proofs.PreparedLaws.{bounded, offered-is}
 use borrow.Author.Needs.{needs}
 use Rattle.rows.proofs.row_content.Statement.{statement}
 use Rattle.rows.proofs.row_content.Tie as tie
-use Rattle.job.specs.View.{problemOf}
 
 -- the candidate and both kinds exist
 asked : (c : tie.Else2) → RowAsked (now (c .before .before .before .before .before .before .before .args .job)) (c .before .before .before .before .before .before .before .args .view .margin) (c .before .before .before .before .before .before .before .args .kind)

@@ -8,12 +8,12 @@ use borrow.Author.Needs.{needs}
 use Rattle.model.specs.Content.{kindCount, pieceCount}
 use Rattle.model.specs.Format.{content}
 use Rattle.plans.proofs.PlanLaws.{kinds-few}
+use Rattle.plans.specs.Planned.{planned}
 use Rattle.stepping.proofs.Limits.{few-pieces, few-words}
 use Rattle.bounding.specs.Trimmed.{Trimmed}
 use Rattle.bounding.proofs.Bounds.{next-trimmable, trimmed-none, trimmed-more}
 use Rattle.bounding.proofs.trimming.trim.Statement.{statement}
 use Rattle.bounding.proofs.trimming.trim.Tie as tie
-use Rattle.plans.specs.Planned.{planned}
 
 abbrev Inv-loop : tie.InvT-loop
 Inv-loop job plan bound span work₀ sets i₀ work i =

@@ -10,13 +10,13 @@ use Rattle.model.specs.Format.{content}
 use Rattle.model.specs.Grid.{setWords}
 use Rattle.model.specs.Search.{copiesLeft}
 use Rattle.plans.proofs.PlanLaws.{kinds-few, words-few}
+use Rattle.plans.specs.Planned.{planned}
 use Rattle.stepping.specs.Levels.{piecesFrom}
 use Rattle.stepping.proofs.Limits.{few-pieces}
 use Rattle.bounding.specs.Trimmed.{Trimmable}
 use Rattle.bounding.proofs.Bounds.{some-kind, set-level, set-kind, set-trimmed, set-skipped}
 use Rattle.bounding.proofs.trimming.trim_next.Statement.{statement}
 use Rattle.bounding.proofs.trimming.trim_next.Tie as tie
-use Rattle.plans.specs.Planned.{planned}
 
 -- There is a kind; the level and the kind of the set are few.
 kinds-is : (c : tie.Start) → c .args .plan .types ≡ kindCount (content (c .args .job .now) .kinds)

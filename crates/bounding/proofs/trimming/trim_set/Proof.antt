@@ -6,6 +6,7 @@ use native.Mathlib.Omega.{arith}
 use lib.ListN.{length}
 use Rattle.words.specs.Bytes.{AreBytes}
 use Rattle.words.specs.Sets.{member}
+use Rattle.plans.specs.Planned.{planned}
 use Rattle.live_sets.specs.Narrowing.{Filled}
 use Rattle.live_sets.proofs.Filling.{filled-begin}
 use Rattle.bounding.specs.Trimmed.{endsBelow}
@@ -13,7 +14,6 @@ use Rattle.bounding.proofs.Bounds.{word-admitted, word-trimmed}
 use borrow.Author.Needs.{needs}
 use Rattle.bounding.proofs.trimming.trim_set.Statement.{statement}
 use Rattle.bounding.proofs.trimming.trim_set.Tie as tie
-use Rattle.plans.specs.Planned.{planned}
 
 abbrev Inv-loop : tie.InvT-loop
 Inv-loop job plan u bound work₀ at words k₀ work k =

@@ -8,11 +8,11 @@ use lib.Dec.{ltb}
 use borrow.Author.Needs.{needs}
 use Rattle.words.specs.Bits.{testBit, withoutBit, assignedBit}
 use Rattle.words.proofs.First.{lowest}
+use Rattle.plans.specs.Planned.{planned}
 use Rattle.live_sets.proofs.Sifting.{Sifted, sift-begin, sift-end, sift-step, without-smaller}
 use Rattle.bounding.specs.Trimmed.{endsBelow}
 use Rattle.bounding.proofs.trimming.trim_word.Statement.{statement}
 use Rattle.bounding.proofs.trimming.trim_word.Tie as tie
-use Rattle.plans.specs.Planned.{planned}
 
 abbrev Inv-loop : tie.InvT-loop
 Inv-loop job plan u first w bound left₀ kept₀ left kept =

@@ -12,12 +12,12 @@ use Rattle.stepping.proofs.Kept.{kept-candidate}
 use Rattle.stepping.proofs.Levels.{piece-kind}
 use Rattle.stepping.proofs.Limits.{few-pieces, few-words}
 use Rattle.stepping.proofs.Slots.{part-rest}
+use Rattle.plans.specs.Planned.{planned}
 use Rattle.branching.specs.Choosing.{NextLive}
 use Rattle.branching.proofs.Passing.{live-none, live-member}
 use borrow.Author.Needs.{needs}
 use Rattle.branching.proofs.choosing.next_live.Statement.{statement}
 use Rattle.branching.proofs.choosing.next_live.Tie as tie
-use Rattle.plans.specs.Planned.{planned}
 
 -- The kind of the piece, as the plan tells it, is one of the kinds.
 kind-is : (c : tie.Start) → getD (c .args .plan .kinds) (c .args .level) 0 ≡ pieceKind (content (c .args .job .now) .kinds) (c .args .level)

@@ -5,11 +5,11 @@ use native.Mathlib.Omega.{arith}
 use borrow.Author.Needs.{needs}
 use denote.Ref.{now}
 use Rattle.model.specs.Layout.{apart}
+use Rattle.job.specs.View.{problemOf}
 use Rattle.layouts.specs.Entries.{entriesIn}
 use Rattle.layouts.proofs.ClearanceLaws.{apart-none, apart-next}
 use Rattle.layouts.proofs.clearance.all_apart.Statement.{statement}
 use Rattle.layouts.proofs.clearance.all_apart.Tie as tie
-use Rattle.job.specs.View.{problemOf}
 
 abbrev Inv-loop : tie.InvT-loop
 Inv-loop job view turned layout n ok₀ k₀ ok k = (k ≤ n) × (ok ≡ apart (problemOf job view) (entriesIn layout k))

@@ -8,11 +8,11 @@ use denote.Ref.{now}
 use Rattle.model.specs.Layout.{Entry, conflict, isEntry}
 use Rattle.model.specs.Lists.{all}
 use Rattle.model.specs.Services.{entryIn}
+use Rattle.job.specs.View.{problemOf}
 use Rattle.layouts.specs.Entries.{entriesIn}
 use Rattle.layouts.proofs.EntryLaws.{all-entries-none, all-entries-next}
 use Rattle.layouts.proofs.clearance.clear_of_earlier.Statement.{statement}
 use Rattle.layouts.proofs.clearance.clear_of_earlier.Tie as tie
-use Rattle.job.specs.View.{problemOf}
 
 abbrev Inv-loop : tie.InvT-loop
 Inv-loop job view turned layout k f ok₀ i₀ ok i = (i ≤ k) × (ok ≡ all (λ e. not (conflict (problemOf job view) e (entryIn layout k))) (entriesIn layout i))

@@ -5,13 +5,13 @@ use native.Mathlib.Omega.{arith}
 use borrow.Author.Tests.{not-true, not-false}
 use denote.Ref.{now}
 use Rattle.model.specs.Layout.{passes, layoutLength}
+use Rattle.job.specs.View.{problemOf}
 use Rattle.candidates.proofs.PreparedLaws.{bounded}
 use Rattle.layouts.specs.Entries.{entriesIn}
 use Rattle.layouts.proofs.PassingLaws.{few-pieces, all-admitted-is, length-is, layout-is, passed-entries, wrong-count, not-passed, passed}
 use borrow.Author.Needs.{needs}
 use Rattle.layouts.proofs.passing.judged.Statement.{statement}
 use Rattle.layouts.proofs.passing.judged.Tie as tie
-use Rattle.job.specs.View.{problemOf}
 
 mul-wanted : tie.Need-mul-wanted
 mul-wanted c =

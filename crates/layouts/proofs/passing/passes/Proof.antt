@@ -5,13 +5,13 @@ use native.Mathlib.Omega.{arith}
 use borrow.Author.Tests.{not-true, not-false}
 use denote.Ref.{now}
 use Rattle.model.specs.Layout.{isEntry, passes}
+use Rattle.job.specs.View.{problemOf}
 use Rattle.candidates.proofs.PreparedLaws.{bounded}
 use Rattle.layouts.specs.Entries.{entriesIn}
 use Rattle.layouts.proofs.AdmissionLaws.{entries-at}
 use Rattle.layouts.proofs.PassingLaws.{few-pieces, order-is, demand-is, all-admitted-is, layout-is, stated, stated-entries, misstated, passes-if-apart}
 use Rattle.layouts.proofs.passing.passes.Statement.{statement}
 use Rattle.layouts.proofs.passing.passes.Tie as tie
-use Rattle.job.specs.View.{problemOf}
 
 entries-in-order-requires : tie.Need-entries-in-order-requires
 entries-in-order-requires c κs =

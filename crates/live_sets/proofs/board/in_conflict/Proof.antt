@@ -6,10 +6,10 @@ use Rattle.model.specs.Format.{content}
 use Rattle.candidates.specs.Conflicts.{Near, conflictBetween}
 use Rattle.candidates.specs.declared.conflicts.Placed.{Placed}
 use Rattle.plans.proofs.PlanLaws.{candidate-kind, near}
+use Rattle.plans.specs.Planned.{planned}
 use Rattle.live_sets.proofs.Meeting.{corners-conflict}
 use Rattle.live_sets.proofs.board.in_conflict.Statement.{statement}
 use Rattle.live_sets.proofs.board.in_conflict.Tie as tie
-use Rattle.plans.specs.Planned.{planned}
 
 -- Both kinds exist.
 first : (c : tie.Start) → c .args .t < kindCount (content (c .args .job .now) .kinds)

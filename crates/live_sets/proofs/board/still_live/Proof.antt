@@ -2,10 +2,10 @@
 use mathlib.Core.Bool.{not}
 use mathlib.Core.Path.{ap, _∙_}
 use Rattle.plans.proofs.PlanLaws.{some-row}
+use Rattle.plans.specs.Planned.{planned}
 use Rattle.live_sets.proofs.Meeting.{stays-not-above, stays-conflict}
 use Rattle.live_sets.proofs.board.still_live.Statement.{statement}
 use Rattle.live_sets.proofs.board.still_live.Tie as tie
-use Rattle.plans.specs.Planned.{planned}
 
 returns : tie.Need-returns
 returns c = stays-not-above (planned (c .before .before .args .job .now) (c .before .before .args .plan)) (c .before .before .args .t) (c .before .before .args .n) (c .before .before .args .u) (c .before .before .args .m) (c .if1 .taken)

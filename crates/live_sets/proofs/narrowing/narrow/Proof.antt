@@ -6,12 +6,12 @@ use native.Mathlib.Omega.{arith}
 use lib.ListN.{length}
 use Rattle.words.specs.Bytes.{AreBytes}
 use Rattle.words.specs.Sets.{member}
+use Rattle.plans.specs.Planned.{planned}
 use Rattle.live_sets.specs.Narrowing.{stays, Filled}
 use Rattle.live_sets.proofs.Filling.{filled-begin, word-admitted, word-narrowed}
 use borrow.Author.Needs.{needs}
 use Rattle.live_sets.proofs.narrowing.narrow.Statement.{statement}
 use Rattle.live_sets.proofs.narrowing.narrow.Tie as tie
-use Rattle.plans.specs.Planned.{planned}
 
 abbrev Inv-loop : tie.InvT-loop
 Inv-loop job plan nofit turned strings t n place u work₀ from to words k₀ work k =

@@ -7,11 +7,11 @@ use native.Mathlib.Omega.{arith}
 use borrow.Author.Needs.{needs}
 use Rattle.words.specs.Bits.{testBit, withoutBit, assignedBit}
 use Rattle.words.proofs.First.{lowest}
+use Rattle.plans.specs.Planned.{planned}
 use Rattle.live_sets.specs.Narrowing.{stays}
 use Rattle.live_sets.proofs.Sifting.{Sifted, sift-begin, sift-end, sift-step, without-smaller}
 use Rattle.live_sets.proofs.narrowing.sift_word.Statement.{statement}
 use Rattle.live_sets.proofs.narrowing.sift_word.Tie as tie
-use Rattle.plans.specs.Planned.{planned}
 
 abbrev Inv-loop : tie.InvT-loop
 Inv-loop job plan turned t n place u first w left₀ kept₀ left kept =

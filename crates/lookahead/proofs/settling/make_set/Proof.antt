@@ -4,11 +4,11 @@ use Prim.Native.Nat.{ℕ, _-_, _<_}
 use native.Mathlib.Omega.{arith}
 use Rattle.model.specs.Content.{pieceCount}
 use Rattle.stepping.proofs.Limits.{few-words}
+use Rattle.plans.specs.Planned.{planned}
 use Rattle.lookahead.proofs.Making.{set-narrowable, made-next}
 use borrow.Author.Needs.{needs}
 use Rattle.lookahead.proofs.settling.make_set.Statement.{statement}
 use Rattle.lookahead.proofs.settling.make_set.Tie as tie
-use Rattle.plans.specs.Planned.{planned}
 
 sub-set-start : tie.Need-sub-set-start
 sub-set-start c = omega (arith, c .before .before .before .pre .1 .0 .later)

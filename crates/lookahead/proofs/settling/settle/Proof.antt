@@ -8,6 +8,7 @@ use Rattle.model.specs.Content.{kindCount}
 use Rattle.model.specs.Format.{content}
 use Rattle.model.proofs.Accepted.{accepted-kinds}
 use Rattle.plans.proofs.PlanLaws.{some-row, kinds-few}
+use Rattle.plans.specs.Planned.{planned}
 use Rattle.stepping.specs.Levels.{pieceKind}
 use Rattle.stepping.proofs.Levels.{piece-kind}
 use Rattle.stepping.proofs.Limits.{few-pieces}
@@ -15,7 +16,6 @@ use Rattle.lookahead.proofs.Making.{Settling, settling-begin, settling-
 use borrow.Author.Needs.{needs}
 use Rattle.lookahead.proofs.settling.settle.Statement.{statement}
 use Rattle.lookahead.proofs.settling.settle.Tie as tie
-use Rattle.plans.specs.Planned.{planned}
 
 abbrev Inv-loop : tie.InvT-loop
 Inv-loop job plan nofit turned strings state level work₀ numbers kinds before n t place copies u₀ work u =

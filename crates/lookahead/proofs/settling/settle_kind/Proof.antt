@@ -4,10 +4,10 @@ use Prim.Native.Nat.{_+_, _*_, _<_}
 use native.Mathlib.Omega.{arith}
 use lib.ListN.{length}
 use Rattle.stepping.proofs.Limits.{few-words}
+use Rattle.plans.specs.Planned.{planned}
 use Rattle.lookahead.proofs.Making.{kind-none, kind-made}
 use Rattle.lookahead.proofs.settling.settle_kind.Statement.{statement}
 use Rattle.lookahead.proofs.settling.settle_kind.Tie as tie
-use Rattle.plans.specs.Planned.{planned}
 
 returns : tie.Need-returns
 returns c = kind-none (planned (c .before .before .before .before .args .job .now) (c .before .before .before .before .args .plan)) _ _ _ _ _ _ (sym (c .before .before .before .before .pre .1 .1 .0 .1) ∙ c .if1 .taken)

@@ -6,10 +6,10 @@ use native.Mathlib.Omega.{arith}
 use Rattle.model.specs.Grid.{dots, setWords}
 use Rattle.model.specs.Services.{workWords}
 use Rattle.model.proofs.Accepted.{accepted-kinds, accepted-dots}
+use Rattle.job.specs.View.{problemOf}
 use Rattle.stepping.proofs.Limits.{few-pieces, few-work}
 use Rattle.plans.proofs.plan.work_words.Statement.{statement}
 use Rattle.plans.proofs.plan.work_words.Tie as tie
-use Rattle.job.specs.View.{problemOf}
 
 -- The dots are few, and the sets.
 few-dots : (c : tie.Start) → c .args .view .columns * c .args .view .rows ≤ 1024

@@ -4,12 +4,12 @@ use Prim.Native.Nat.{_+_, _-_, _*_, _^_, _≤_, _<_}
 use native.Mathlib.Omega.{arith}
 use lib.ListN.{length}
 use Rattle.model.specs.Candidate.{isCandidate}
+use Rattle.job.specs.View.{problemOf}
 use Rattle.live_sets.specs.Narrowing.{Filled}
 use Rattle.live_sets.proofs.Filling.{filled-begin, filled-next, bits-where}
 use borrow.Author.Needs.{needs}
 use Rattle.root.proofs.beginning.fill.Statement.{statement}
 use Rattle.root.proofs.beginning.fill.Tie as tie
-use Rattle.job.specs.View.{problemOf}
 
 abbrev Inv-loop : tie.InvT-loop
 Inv-loop job view boxes u work₀ to words k₀ work k =

@@ -6,12 +6,12 @@ use native.Mathlib.Omega.{arith}
 use Rattle.words.specs.Bits.{bitsWhere, assignedBit}
 use Rattle.words.proofs.Bit.{bitsWhere-none, bitsWhere-next}
 use Rattle.model.specs.Candidate.{isCandidate}
+use Rattle.job.specs.View.{problemOf}
 use Rattle.candidates.specs.Placements.{offered}
 use Rattle.candidates.proofs.PreparedLaws.{bounded, offered-is}
 use borrow.Author.Needs.{needs}
 use Rattle.root.proofs.beginning.fill_word.Statement.{statement}
 use Rattle.root.proofs.beginning.fill_word.Tie as tie
-use Rattle.job.specs.View.{problemOf}
 
 abbrev Inv-loop : tie.InvT-loop
 Inv-loop job view boxes u first r₀ b₀ r b = (b ≤ 64) × (r < 2 ^ 64) × (r ≡ bitsWhere b (λ i. isCandidate (problemOf job view) u (first + i)))

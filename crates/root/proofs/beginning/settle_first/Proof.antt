@@ -12,6 +12,7 @@ use Rattle.model.specs.Problem.{under}
 use Rattle.model.specs.Search.{copiesLeft}
 use Rattle.model.proofs.Accepted.{accepted-sensible}
 use Rattle.plans.proofs.PlanLaws.{kinds-few, words-few}
+use Rattle.plans.specs.Planned.{planned}
 use Rattle.stepping.specs.Levels.{piecesFrom}
 use Rattle.stepping.proofs.Kept.{spans-all}
 use Rattle.live_sets.specs.Narrowing.{Filled}
@@ -19,7 +20,6 @@ use Rattle.lookahead.specs.Settled.{KindSettled}
 use Rattle.lookahead.proofs.Making.{made-first, kind-made, Settling, settling-begin, settling-next, settled-all, settled-few}
 use Rattle.root.proofs.beginning.settle_first.Statement.{statement}
 use Rattle.root.proofs.beginning.settle_first.Tie as tie
-use Rattle.plans.specs.Planned.{planned}
 
 abbrev Inv-loop : tie.InvT-loop
 Inv-loop job view boxes plan work₀ kinds copies u₀ work u =

@@ -11,8 +11,8 @@ use Rattle.model.proofs.Accepted.{accepted-sensible}
 use Rattle.job.specs.View.{problemOf}
 use Rattle.candidates.proofs.PreparedLaws.{bounded}
 use Rattle.stepping.proofs.Limits.{short-board}
-use Rattle.runs.specs.declared.progress.Progress.{Progress}
 use Rattle.plans.specs.Planned.{planned}
+use Rattle.runs.specs.declared.progress.Progress.{Progress}
 use Rattle.root.specs.Walked.{RoomFor, Walked}
 use Rattle.root.proofs.Rooted.{begin-back, begin-deep, begin-walks}
 use borrow.Author.Needs.{needs}

@@ -86,7 +86,7 @@ clear-requires c κs =
 
 tell-requires : tie.Need-tell-requires
 tell-requires c κs =
-    (left-within _ _ _ _ _ _ _ (walked (c .before .before .before .before .before .before .before .before)), (accepted-under _ _ (accepted (c .before .before .before .before .before .before .before .before .before .before .before .before .before .before .before .before .before .before)) .1, omega (arith, walked (c .before .before .before .before .before .before .before .before) .lowered, short-board (c .before .before .before .before .before .before .before .before .before .before .before .before .before .before .before .before .before .before .before .before .before .before .before .args .job .now) (viewed (c .before .before .before .before .before .before .before .before .before .before .before .before .before .before .before .before .before .before) .accepted))))
+    (left-within _ _ _ _ _ _ _ (walked (c .before .before .before .before .before .before .before .before)), (accepted-under _ _ .0 (accepted (c .before .before .before .before .before .before .before .before .before .before .before .before .before .before .before .before .before .before)) .1, omega (arith, walked (c .before .before .before .before .before .before .before .before) .lowered, short-board (c .before .before .before .before .before .before .before .before .before .before .before .before .before .before .before .before .before .before .before .before .before .before .before .args .job .now) (viewed (c .before .before .before .before .before .before .before .before .before .before .before .before .before .before .before .before .before .before) .accepted))))
 
 same-length : tie.Need-same-length
 same-length c = c .before .before .before .clear .kept .0 ∙ c .before .before .before .before .before .before .before .before .before .walk .kept .1 .1 .1 .0

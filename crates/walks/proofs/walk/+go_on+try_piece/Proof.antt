@@ -18,6 +18,7 @@ use Rattle.walks.proofs.Trying.{Trying, trying-begin, trying-keeps, try
 use Rattle.bounding.proofs.lowering.lower.Reads as lower-reads
 use Rattle.lookahead.proofs.settling.settle.Reads as settle-reads
 use Rattle.plans.proofs.recording.record_layout.Reads as record-layout-reads
+use Rattle.plans.specs.Planned.{planned}
 use Rattle.branching.proofs.choosing.next_live.Reads as next-live-reads
 use Rattle.runs.proofs.progress.complete.Reads as complete-reads
 use Rattle.runs.proofs.progress.halt.Reads as halt-reads
@@ -30,7 +31,6 @@ use Rattle.walks.proofs.walk.try_piece.Kinds as try-piece-kinds
 use Rattle.walks.proofs.walk.+go_on+try_piece.Lts-try_piece as try-piece-lts
 use Rattle.walks.proofs.walk.+go_on+try_piece.{statement}
 use Rattle.walks.proofs.walk.+go_on+try_piece.Tie.{close}
-use Rattle.plans.specs.Planned.{planned}
 
 abbrev μ-go-on : Measures 5 go-on-kinds.ps ℕ
 μ-go-on κs a = (a .1 .0 .pieces - a .1 .1 .1 .1 .1 .1 .1 .1 .0) + (a .1 .0 .pieces - a .1 .1 .1 .1 .1 .1 .1 .1 .0) + 1
