@@ -1,38 +1,38 @@
--- What a prepared call's view, turned vertices and boxes say of the model: placements, extents, conflicts and rows. Assumes nothing.
-use mathlib.Core.Bool.{Bool, true, false, not, _&&_, _||_, and-assoc}
+-- What a prepared call's view, turned parts and boxes say of the model: placements, extents, conflicts and rows. Assumes nothing.
+use mathlib.Core.Bool.{Bool, true, false, _&&_, and-assoc}
 use mathlib.Core.List.{List, [], _∷_, map}
 use mathlib.Core.Logic.{_⊎_, ⊎-elim}
 use mathlib.Core.Path.{_≡_, refl, sym, ap, ap₂, _∙_}
-use Prim.Native.Nat.{ℕ, suc, _+_, _*_, _/_, _%_, _≤_, _<_, max}
+use Prim.Native.Nat.{ℕ, _+_, _*_, _/_, _%_, _≤_, _<_, max}
 use native.Mathlib.Nat.{div-mul-le-self, div-le-self, mul-le-mul-right, mod-lt, not-suc-le-zero, div-lt-iff-lt-mul}
 use native.Mathlib.Omega.{arith}
 use borrow.Author.Tests.{ltb-true}
 use lib.Dec.{ltb}
-use lib.IntN.{ℤ, pos, _-ℤ_}
+use lib.IntN.{ℤ}
 use lib.ListN.{length, getD, length-append, length-map}
 use Rattle.words.specs.Bits.{testBit}
 use Rattle.words.proofs.Bit.{testBit-above}
 use Rattle.words.proofs.Cases.{le-or-lt}
-use Rattle.model.specs.Candidate.{placedPart, placedParts, placedVertices, onBoard, admitted, isCandidate, extent}
+use Rattle.model.specs.Candidate.{placedParts, placedVertices, onBoard, admitted, isCandidate, extent}
 use Rattle.model.specs.Content.{Vertex, Part, Board, kindAt, kindCount}
 use Rattle.model.specs.Format.{content, refusal}
 use Rattle.model.specs.Gap.{pairGap}
-use Rattle.model.specs.Geometry.{rotated, moved, separated, piecesConflict}
+use Rattle.model.specs.Geometry.{rotated, moved}
 use Rattle.model.specs.Grid.{Placement, placement, rows, columns, dots, numberLimit, placementOf}
 use Rattle.model.specs.Layout.{entry, entryOf, entryKind, conflict}
-use Rattle.model.specs.Lists.{all, any, concat}
+use Rattle.model.specs.Lists.{all, concat}
 use Rattle.model.specs.Problem.{Problem, under}
 use Rattle.model.proofs.Accepted.{accepted-sensible}
 use Rattle.model.proofs.Box.{all-onBoard, placed-vertices, extent-placed, largest-x-moved, largest-y-moved, smallest-x-moved, smallest-y-moved}
 use Rattle.model.proofs.Lists.{and-left}
 use Rattle.model.proofs.Numbers.{rows-positive}
-use Rattle.model.proofs.Moves.{Vertexed, separated-placed}
 use Rattle.model.proofs.AcceptedKinds.{gap-most}
 use Rattle.model.proofs.Causes.{no-cause, board-fits}
+use Rattle.model.proofs.Turning.{vertexed, conflict-placed}
 use Rattle.polygons.specs.Boxes.{extentsOf}
-use Rattle.polygons.specs.Flat.{shifted}
 use Rattle.job.specs.View.{problemOf, Viewed}
 use Rattle.job.specs.declared.View.{View}
+use Rattle.geometry.specs.declared.pieces.Piece.{Piece}
 use Rattle.shapes.specs.Boxes.{boxAt, turnedVertices, BoxesOf}
 use Rattle.shapes.specs.Pieces.{PieceOf}
 use Rattle.candidates.specs.Placements.{Bounded, within, fitsAt, placeable, offered, extentAt}
@@ -40,7 +40,6 @@ use Rattle.candidates.specs.Conflicts.{placedOf, Near, conflictBetween}
 use Rattle.shapes.specs.Turned.{TurnedOf}
 use Rattle.shapes.specs.declared.boxes.Boxes.{Boxes}
 use Rattle.candidates.specs.declared.conflicts.Placed.{Placed}
-use Rattle.shapes.specs.declared.pieces.Piece.{Piece}
 use Rattle.shapes.proofs.PieceLaws.{parts-turned}
 use Rattle.shapes.proofs.ViewLaws.{few-kinds, kind-in, some-part, part-in}
 
@@ -94,13 +93,6 @@ module _ (s : List ℕ) (v : View) (x : Viewed s v) where
   module _ (t : ℕ) (h : t < kindCount (content s .kinds)) where
     pub some-vertex : (k : ℕ) → 0 < length (turnedVertices s t k)
     some-vertex k = first-vertex (map (rotated k)) (λ P. length-map P (rotated k)) (kindAt (content s .kinds) t .parts) (some-part s v x t h) (λ i l. part-in s v x t h i l .least)
-
-    pub vertexed : Vertexed (kindAt (content s .kinds) t .parts)
-    vertexed = go (kindAt (content s .kinds) t .parts) (λ i l. part-in s v x t h i l .least)
-      where
-        go : (Ps : List Part) → ((i : ℕ) → i < length Ps → 3 ≤ length (getD Ps i [])) → Vertexed Ps
-        go [] k = tt
-        go (P ∷ Ps) k = (omega (arith, k 0 (omega arith)), go Ps (λ i l. k (suc i) (omega arith)))
 
 -- ---- placements
 
@@ -157,29 +149,6 @@ module _ (s : List ℕ) (v : View) (b : Boxes) (x : Viewed s v) (y : BoxesOf s b
 
 -- ---- conflicts
 
-module _ (gap : ℕ) (b : Board) (p q : Placement) where
-  -- from the one dot to the other
-  abbrev wayX : ℤ
-  wayX = pos (q .column * b .g) -ℤ pos (p .column * b .g)
-
-  abbrev wayY : ℤ
-  wayY = pos (q .row * b .g) -ℤ pos (p .row * b .g)
-
-  against : (P : Part) → 0 < length P → (Qs : List Part) → Vertexed Qs
-      → any (λ Q. not (separated gap (map (rotated (p .rotation)) P) Q)) (map (map (shifted wayX wayY)) (map (map (rotated (q .rotation))) Qs))
-      ≡ any (λ Q. not (separated gap (placedPart b p P) Q)) (map (placedPart b q) Qs)
-  unfolding any
-  against P h [] k = refl
-  against P h (Q ∷ Qs) k = ap₂ _||_ (ap not (sym (separated-placed gap b p q P Q h (k .0)))) (against P h Qs (k .1))
-
-  -- Turned pieces, the second moved by the way, are in conflict exactly if the placed pieces are.
-  pub conflict-placed : (Ps Qs : List Part) → Vertexed Ps → Vertexed Qs
-      → piecesConflict gap (map (map (rotated (p .rotation))) Ps) (map (map (shifted wayX wayY)) (map (map (rotated (q .rotation))) Qs))
-      ≡ piecesConflict gap (map (placedPart b p) Ps) (map (placedPart b q) Qs)
-  unfolding piecesConflict any
-  conflict-placed [] Qs h k = refl
-  conflict-placed (P ∷ Ps) Qs h k = ap₂ _||_ (against P (h .0) Qs k) (conflict-placed Ps Qs (h .1) k)
-
 -- The model's placement of a place.
 abbrev pub placementAt : Placed → Placement
 placementAt a = placement (a .column) (a .row) (a .rotation)
@@ -192,9 +161,9 @@ module _ (s : List ℕ) (v : View) (table : List ℤ) (x : Viewed s v) (z : Turn
       ≡ conflict (under m (content s)) (entry t (placementAt a)) (entry u (placementAt c))
   unfolding conflictBetween conflict entryKind placedParts
   conflict-is m a c ha hc =
-      rw (parts-turned s table t p (a .rotation) z ep ht ha, parts-turned s table u q (c .rotation) z eq hu hc, x .view .step)
+      rw (parts-turned s table t p z ep ht (a .rotation) ha, parts-turned s table u q z eq hu (c .rotation) hc, x .view .step)
       (conflict-placed (pairGap (content s .classes) (kindAt (content s .kinds) t) (kindAt (content s .kinds) u)) (content s .sheet) (placementAt a) (placementAt c) (kindAt (content s .kinds) t .parts) (kindAt (content s .kinds) u .parts)
-      (vertexed s v x t ht) (vertexed s v x u hu))
+      (vertexed s (x .accepted) t) (vertexed s (x .accepted) u))
 
   -- the place of a number is the model's placement of it
   place-is : (m n : ℕ) → entry t (placementAt (placedOf (v .rows) n)) ≡ entryOf (under m (content s)) t n

@@ -8,13 +8,14 @@ use Rattle.polygons.specs.Flat.{shifted}
 use Rattle.job.specs.View.{Viewed}
 use Rattle.job.specs.declared.View.{View}
 use Rattle.shapes.specs.Boxes.{BoxesOf}
-use Rattle.shapes.specs.Pieces.{partsIn}
+use Rattle.geometry.specs.Pieces.{partsIn}
+use Rattle.geometry.specs.declared.pieces.Piece.{Piece}
+use Rattle.shapes.specs.Pieces.{turnedTo}
 use Rattle.shapes.specs.Turned.{TurnedOf}
 use Rattle.shapes.specs.declared.boxes.Boxes.{Boxes}
 use Rattle.candidates.specs.declared.conflicts.Placed.{Placed}
-use Rattle.shapes.specs.declared.pieces.Piece.{Piece}
 
--- All that is computed once for a call on an accepted job: its view, the turned vertices and the boxes.
+-- All that is computed once for a call on an accepted job: its view, the turned parts and the boxes.
 pub record Prepared (s : List ℕ) (v : View) (table : List ℤ) (b : Boxes) : Type 0 where
   pub viewed : Viewed s v
   pub turned : TurnedOf s table
@@ -37,5 +38,5 @@ pub record Near (step : ℕ) (a : Placed) : Type 0 where
 -- The piece p at the place a is in conflict with the piece q at the place c.
 unfoldable pub conflictBetween : List ℤ → ℕ → Piece → Placed → Piece → Placed → ℕ → Bool
 conflictBetween table step p a q c gap =
-    piecesConflict gap (partsIn table p (a .rotation))
-    (map (map (shifted (pos (c .column * step) -ℤ pos (a .column * step)) (pos (c .row * step) -ℤ pos (a .row * step)))) (partsIn table q (c .rotation)))
+    piecesConflict gap (partsIn table (turnedTo p (a .rotation)))
+    (map (map (shifted (pos (c .column * step) -ℤ pos (a .column * step)) (pos (c .row * step) -ℤ pos (a .row * step)))) (partsIn table (turnedTo q (c .rotation))))

@@ -2,13 +2,14 @@
 ghost use mathlib.Core.Path.{_≡_};
 ghost use Prim.Native.Nat.{_*_, _≤_, _<_, max};
 ghost use lib.IntN.{pos, _-ℤ_};
-ghost use lib.ListN.{length, getD};
-ghost use Rattle.shapes.specs.Pieces.{Fitting};
+ghost use lib.ListN.{getD};
+ghost use Rattle.shapes.specs.Pieces.{Turnable};
 ghost use Rattle.candidates.specs.Placements.{Bounded};
 ghost use Rattle.candidates.specs.Conflicts.{Near, placedOf, conflictBetween};
+use geometry::pieces::Piece;
+use geometry::pieces::pieces_conflict;
 use job::View;
-use shapes::pieces::Piece;
-use shapes::pieces::pieces_conflict;
+use shapes::pieces::turned_to;
 
 // A dot and a rotation.
 pub struct Placed {
@@ -47,12 +48,19 @@ pub fn conflict_between(
     c: Placed,
     gap: u16,
 ) -> bool
-    requires { ⌜ ((Fitting p × Near step a) × (Fitting q × Near step c)) × (length (now turned) ≡ 4096) ⌝ }
+    requires { ⌜ (Turnable (now turned) p × Near step a) × (Turnable (now turned) q × Near step c) ⌝ }
     ensures { λ r. ⌜ r ≡ conflictBetween (now (turned .entry)) step p a q c gap ⌝ }
 {
     let dx = way(a.column * step, c.column * step);
     let dy = way(a.row * step, c.row * step);
-    pieces_conflict(turned, p, a.rotation, q, c.rotation, dx, dy, gap)
+    pieces_conflict(
+        turned,
+        turned_to(p, a.rotation),
+        turned_to(q, c.rotation),
+        dx,
+        dy,
+        gap,
+    )
 }
 
 // The gap of a pair, from the gaps of both: the larger of the two.

@@ -7,6 +7,7 @@ ghost use Rattle.candidates.specs.Placements.{Bounded, within, fitsAt, p
 use job::View;
 use polygons::extents::Extents;
 use shapes::boxes::Boxes;
+use shapes::boxes::box_at;
 
 // Whether what lies from low to high stays, moved by this much, between the margin and the limit less the margin.
 fn stays_within(low: i16, high: i16, by: usize, margin: usize, limit: usize) -> bool
@@ -51,8 +52,7 @@ pub fn is_placement(
     if (rotation >= 4) | !words::bits::test_bit(masks[kind] as u64, rotation as u64) {
         return false;
     }
-    let of = boxes.of;
-    stays_on_board(view, of[kind * 4 + rotation], column, row)
+    stays_on_board(view, box_at(boxes, kind, rotation), column, row)
 }
 
 // Whether a kind has a candidate of this number.
@@ -88,7 +88,6 @@ pub fn extent(view: View, boxes: Boxes, kind: usize, column: usize, rotation: us
     requires { ⌜ (Bounded view × (kind < view .kinds)) × ((column < view .columns) × (rotation < 4)) ⌝ }
     ensures { λ r. ⌜ r ≡ extentAt view boxes kind column rotation ⌝ }
 {
-    let of = boxes.of;
-    let e = of[kind * 4 + rotation];
+    let e = box_at(boxes, kind, rotation);
     end_of(e.max_x, column * view.step)
 }

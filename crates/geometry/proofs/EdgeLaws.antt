@@ -7,14 +7,16 @@ use native.Mathlib.Nat.{sub-zero}
 use native.Mathlib.Numerals.{add-one}
 use native.Mathlib.Omega.{arith}
 use borrow.Author.Tests.{eq-eqb, ne-eqb}
-use lib.IntN.{ℤ}
+use lib.IntN.{ℤ, pos, _+ℤ_, _-ℤ_}
 use lib.ListN.{length, getD}
-use lib.Signed.{leZ, _≤ℤ_, _<ℤ_}
-use Rattle.integers.proofs.Order.{leZ-true, le-leZ, clash}
+use lib.Signed.{leZ, _≤ℤ_, _<ℤ_, ≤ℤ-refl, <ℤ-≤ℤ-trans}
+use Rattle.integers.proofs.Order.{leZ-true, leZ-false, le-leZ, lt-leZ, clash, +ℤ-mono}
+use Rattle.integers.proofs.Solver.{ring, _⊞_, _⊟_, _≈_}
 use Rattle.model.specs.Content.{Vertex, Part, origin}
 use Rattle.model.specs.Geometry.{Direction, vertexAt, following, outwardNormal, normals}
-use Rattle.model.specs.Lists.{any, rising, below, largestZ}
-use Rattle.model.proofs.Box.{all-below-bound}
+use Rattle.model.specs.Lists.{any, rising, below, largestZ, smallestZ}
+use Rattle.model.proofs.Extremes.{leZ-same}
+use Rattle.model.proofs.Box.{all-above, all-below-bound}
 use Rattle.model.proofs.Lists.{all-at, all-of}
 use Rattle.model.proofs.Tests.{any-map}
 use Rattle.polygons.specs.Flat.{normalOf}
@@ -73,18 +75,54 @@ normal-at P k m e = ap (λ i. outwardNormal (vertexAt P k) (vertexAt P i)) e
 
 -- ---- the vertices against a limit
 
-module _ (f : Vertex → ℤ) (P : Part) (z : ℤ) where
-  -- no vertex exceeds it, so the largest does not
-  pub all-within : 0 < length P → ((j : ℕ) → j < length P → f (vertexAt P j) ≤ℤ z) → leZ (largestZ (map f P)) z ≡ true
+module _ (f : Vertex → ℤ) (P : Part) where
+  -- no vertex lies before it, so the least does not
+  pub all-beyond : (z : ℤ) → 0 < length P → ((j : ℕ) → j < length P → z ≤ℤ f (vertexAt P j)) → leZ z (smallestZ (map f P)) ≡ true
   unfolding vertexAt
-  all-within h g = sym (all-below-bound f P h z) ∙ all-of (λ v. leZ (f v) z) P origin (λ j k. le-leZ (f (getD P j origin)) z (g j k))
+  all-beyond z h g = sym (all-above f P h z) ∙ all-of (λ v. leZ z (f v)) P origin (λ j k. le-leZ z (f (getD P j origin)) (g j k))
+
+  -- one vertex lies before it, so the least does
+  pub one-before : (z : ℤ) (j : ℕ) → j < length P → f (vertexAt P j) <ℤ z → leZ z (smallestZ (map f P)) ≡ false
+  unfolding vertexAt
+  one-before z j k b = go (leZ z (smallestZ (map f P))) refl
+    where
+      go : (t : Bool) → leZ z (smallestZ (map f P)) ≡ t → leZ z (smallestZ (map f P)) ≡ false
+      go false e = e
+      go true e =
+          absurd (clash (leZ-true z (f (getD P j origin)) (all-at (λ v. leZ z (f v)) P origin (all-above f P (omega arith) z ∙ e) j k)) b)
+
+  -- no vertex exceeds it, so the largest does not
+  pub all-within : (z : ℤ) → 0 < length P → ((j : ℕ) → j < length P → f (vertexAt P j) ≤ℤ z) → leZ (largestZ (map f P)) z ≡ true
+  unfolding vertexAt
+  all-within z h g = sym (all-below-bound f P h z) ∙ all-of (λ v. leZ (f v) z) P origin (λ j k. le-leZ (f (getD P j origin)) z (g j k))
 
   -- one vertex exceeds it, so the largest does
-  pub one-beyond : (j : ℕ) → j < length P → z <ℤ f (vertexAt P j) → leZ (largestZ (map f P)) z ≡ false
+  pub one-beyond : (z : ℤ) (j : ℕ) → j < length P → z <ℤ f (vertexAt P j) → leZ (largestZ (map f P)) z ≡ false
   unfolding vertexAt
-  one-beyond j k b = go (leZ (largestZ (map f P)) z) refl
+  one-beyond z j k b = go (leZ (largestZ (map f P)) z) refl
     where
       go : (t : Bool) → leZ (largestZ (map f P)) z ≡ t → leZ (largestZ (map f P)) z ≡ false
       go false e = e
       go true e =
           absurd (clash (leZ-true (f (getD P j origin)) z (all-at (λ v. leZ (f v) z) P origin (all-below-bound f P (omega arith) z ∙ e) j k)) b)
+
+  -- no vertex exceeds the largest
+  pub one-within : (j : ℕ) → j < length P → f (vertexAt P j) ≤ℤ largestZ (map f P)
+  unfolding vertexAt
+  one-within j k =
+      let z : ℤ = largestZ (map f P) in
+      leZ-true (f (getD P j origin)) z (all-at (λ v. leZ (f v) z) P origin (all-below-bound f P (omega arith) z ∙ le-leZ z z (≤ℤ-refl z)) j k)
+
+-- of no vertex the least is 0
+pub least-of-none : (f : Vertex → ℤ) (P : Part) (z : ℤ) → length P ≡ 0 → leZ z (pos 0) ≡ leZ z (smallestZ (map f P))
+unfolding smallestZ
+least-of-none f [] z h = refl
+least-of-none f (v ∷ P) z h = let never : ⊥ = omega arith in absurd never
+
+-- a vertex that is too near already refutes the direction, since the furthest is no nearer
+pub refuted : (near far ahead low : ℤ) → near ≤ℤ far → leZ (near +ℤ ahead) low ≡ false → leZ (far +ℤ ahead) low ≡ false
+refuted near far ahead low h e = lt-leZ (far +ℤ ahead) low (<ℤ-≤ℤ-trans (leZ-false (near +ℤ ahead) low e) (+ℤ-mono h (≤ℤ-refl ahead)))
+
+-- the lead on either side of the comparison
+pub lead-across : (z ahead low : ℤ) → leZ z (low -ℤ ahead) ≡ leZ (z +ℤ ahead) low
+lead-across z ahead low = leZ-same z (low -ℤ ahead) (z +ℤ ahead) low (ring 3 (λ z a l. (l ⊟ a) ⊟ z ≈ l ⊟ (z ⊞ a)) tt z ahead low)

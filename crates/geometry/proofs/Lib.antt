@@ -1,5 +1,7 @@
--- What is proved about the flat parts, the sizes and the tests of this crate.
+-- What is proved about sizes along a direction, the tests of parts, boxes that are apart, and pieces in a table.
 pub mod Sizes
 pub mod Lowest
 pub mod EdgeLaws
 pub mod PairLaws
+pub mod BoxesApart
+pub mod PieceLaws

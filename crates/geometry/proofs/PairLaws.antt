@@ -19,21 +19,21 @@ use Rattle.model.proofs.Tests.{any-same}
 use Rattle.geometry.specs.Apart.{clearOf, boxesApart, apartAt}
 use Rattle.polygons.specs.Boxes.{extentsOf}
 use Rattle.polygons.specs.Flat.{shifted}
-use Rattle.geometry.specs.Reach.{reachOf, clears}
+use Rattle.geometry.specs.Clears.{leadOf, clears}
 
 -- ---- tests of order
 
--- the move of the second part, and the gap, on the other side
-first-test : (l s k A B x y : ℤ) → leZ l (s +ℤ (A *ℤ (x -ℤ pos 0) +ℤ B *ℤ (y -ℤ pos 0)) -ℤ k) ≡ leZ (l +ℤ k) (s +ℤ (A *ℤ x +ℤ B *ℤ y))
+-- the move of the second part on the other side
+first-test : (l s k A B x y : ℤ) → leZ (l +ℤ (k -ℤ (A *ℤ (x -ℤ pos 0) +ℤ B *ℤ (y -ℤ pos 0)))) s ≡ leZ (l +ℤ k) (s +ℤ (A *ℤ x +ℤ B *ℤ y))
 first-test l s k A B x y =
-    leZ-same l (s +ℤ (A *ℤ (x -ℤ pos 0) +ℤ B *ℤ (y -ℤ pos 0)) -ℤ k) (l +ℤ k) (s +ℤ (A *ℤ x +ℤ B *ℤ y))
-    (ring 7 (λ l s k A B x y. (s ⊞ (A ⊠ (x ⊟ # (pos 0)) ⊞ B ⊠ (y ⊟ # (pos 0))) ⊟ k) ⊟ l ≈ (s ⊞ (A ⊠ x ⊞ B ⊠ y)) ⊟ (l ⊞ k)) tt l s k A B x y)
+    leZ-same (l +ℤ (k -ℤ (A *ℤ (x -ℤ pos 0) +ℤ B *ℤ (y -ℤ pos 0)))) s (l +ℤ k) (s +ℤ (A *ℤ x +ℤ B *ℤ y))
+    (ring 7 (λ l s k A B x y. s ⊟ (l ⊞ (k ⊟ (A ⊠ (x ⊟ # (pos 0)) ⊞ B ⊠ (y ⊟ # (pos 0))))) ≈ (s ⊞ (A ⊠ x ⊞ B ⊠ y)) ⊟ (l ⊞ k)) tt l s k A B x y)
 
 -- the same with the parts changed over
-second-test : (l s k A B x y : ℤ) → leZ l (s +ℤ (A *ℤ (pos 0 -ℤ x) +ℤ B *ℤ (pos 0 -ℤ y)) -ℤ k) ≡ leZ (l +ℤ (A *ℤ x +ℤ B *ℤ y) +ℤ k) s
+second-test : (l s k A B x y : ℤ) → leZ (l +ℤ (k -ℤ (A *ℤ (pos 0 -ℤ x) +ℤ B *ℤ (pos 0 -ℤ y)))) s ≡ leZ (l +ℤ (A *ℤ x +ℤ B *ℤ y) +ℤ k) s
 second-test l s k A B x y =
-    leZ-same l (s +ℤ (A *ℤ (pos 0 -ℤ x) +ℤ B *ℤ (pos 0 -ℤ y)) -ℤ k) (l +ℤ (A *ℤ x +ℤ B *ℤ y) +ℤ k) s
-    (ring 7 (λ l s k A B x y. (s ⊞ (A ⊠ (# (pos 0) ⊟ x) ⊞ B ⊠ (# (pos 0) ⊟ y)) ⊟ k) ⊟ l ≈ s ⊟ (l ⊞ (A ⊠ x ⊞ B ⊠ y) ⊞ k)) tt l s k A B x y)
+    leZ-same (l +ℤ (k -ℤ (A *ℤ (pos 0 -ℤ x) +ℤ B *ℤ (pos 0 -ℤ y)))) s (l +ℤ (A *ℤ x +ℤ B *ℤ y) +ℤ k) s
+    (ring 7 (λ l s k A B x y. s ⊟ (l ⊞ (k ⊟ (A ⊠ (# (pos 0) ⊟ x) ⊞ B ⊠ (# (pos 0) ⊟ y)))) ≈ s ⊟ (l ⊞ (A ⊠ x ⊞ B ⊠ y) ⊞ k)) tt l s k A B x y)
 
 -- ---- tests of several directions
 
@@ -44,20 +44,17 @@ or-four-right false false true d = refl
 or-four-right false false false true = refl
 or-four-right false false false false = refl
 
-or-last-first : (a b c : Bool) → (a || b || c) ≡ (c || a || b)
-or-last-first true b true = refl
-or-last-first true b false = refl
-or-last-first false true true = refl
-or-last-first false true false = refl
-or-last-first false false true = refl
-or-last-first false false false = refl
-
 -- Which of three tests held, when the first that does ends them.
 pub first-held : (a b c : Bool) → a ≡ true → true ≡ (a || b || c)
 first-held a b c h = rw h
 
 pub second-held : (a b c : Bool) → a ≡ false → b ≡ true → true ≡ (a || b || c)
 second-held a b c h k = rw (h, k)
+
+third-held : (a b c : Bool) → c ≡ true → (a || b || c) ≡ true
+third-held true b c h = refl
+third-held false true c h = refl
+third-held false false c h = h
 
 pub third-decides : (a b c d : Bool) → a ≡ false → b ≡ false → d ≡ c → d ≡ (a || b || c)
 third-decides a b c d h k e = rw (h, k) e
@@ -92,14 +89,14 @@ module _ (gap : ℕ) (P Q R : Part) (dx dy : ℤ)
     (high : (d : Direction) → largestZ (map (along d) R) ≡ largestZ (map (along d) Q) +ℤ along d (vertex dx dy)) (same : normals R ≡ normals Q) where
   -- a normal of P
   clears-first : (d : Direction) → clears gap P Q (vertex (dx -ℤ pos 0) (dy -ℤ pos 0)) d ≡ separates gap P R d
-  unfolding clears reachOf separates along
+  unfolding clears leadOf separates along
   clears-first d =
       first-test (largestZ (map (along d) P)) (smallestZ (map (along d) Q)) (clearance gap d) (d .a) (d .b) dx dy
       ∙ ap (leZ (largestZ (map (along d) P) +ℤ clearance gap d)) (sym (low d))
 
   -- a normal of Q
   clears-second : (d : Direction) → clears gap Q P (vertex (pos 0 -ℤ dx) (pos 0 -ℤ dy)) d ≡ separates gap R P d
-  unfolding clears reachOf separates along
+  unfolding clears leadOf separates along
   clears-second d =
       second-test (largestZ (map (along d) Q)) (smallestZ (map (along d) P)) (clearance gap d) (d .a) (d .b) dx dy
       ∙ ap (λ s. leZ (s +ℤ clearance gap d) (smallestZ (map (along d) P))) (sym (high d))
@@ -131,17 +128,23 @@ module _ (gap : ℕ) (P Q R : Part) (dx dy : ℤ)
       ∙ (λ i. axis-first unitX (λ v. v .x) along-x (clearance-x gap) i || axis-first unitY (λ v. v .y) along-y (clearance-y gap) i
       || axis-second unitX (λ v. v .x) along-x (clearance-x gap) i || axis-second unitY (λ v. v .y) along-y (clearance-y gap) i)
 
-  -- all directions, the axis directions first
+  -- all directions
   apart-is : apartAt gap P Q dx dy ≡ separated gap P R
   unfolding apartAt
   apart-is =
       sym
       (separated-groups gap P R
-      ∙ or-last-first (any (separates gap P R) (normals P)) (any (separates gap R P) (normals R)) (any (separates gap P R) axes)
-      ∙ ap (λ t. t || any (separates gap P R) (normals P) || any (separates gap R P) (normals R)) axes-boxes
-      ∙ ap (λ t. boxesApart gap (extentsOf P) (extentsOf Q) dx dy || t || any (separates gap R P) (normals R)) (sym (any-same _ (separates gap P R) clears-first (normals P)))
-      ∙ ap (λ t. boxesApart gap (extentsOf P) (extentsOf Q) dx dy || any (clears gap P Q (vertex (dx -ℤ pos 0) (dy -ℤ pos 0))) (normals P) || t)
-      (ap (any (separates gap R P)) same ∙ sym (any-same _ (separates gap R P) clears-second (normals Q))))
+      ∙ ap (λ t. t || any (separates gap R P) (normals R) || any (separates gap P R) axes) (sym (any-same _ (separates gap P R) clears-first (normals P)))
+      ∙ ap (λ t. any (clears gap P Q (vertex (dx -ℤ pos 0) (dy -ℤ pos 0))) (normals P) || t || any (separates gap P R) axes)
+      (ap (any (separates gap R P)) same ∙ sym (any-same _ (separates gap R P) clears-second (normals Q)))
+      ∙ ap (λ t. any (clears gap P Q (vertex (dx -ℤ pos 0) (dy -ℤ pos 0))) (normals P) || any (clears gap Q P (vertex (pos 0 -ℤ dx) (pos 0 -ℤ dy))) (normals Q) || t) axes-boxes)
+
+-- boxes that are apart decide
+pub apart-boxes : (gap : ℕ) (P Q : Part) (dx dy : ℤ) → boxesApart gap (extentsOf P) (extentsOf Q) dx dy ≡ true → apartAt gap P Q dx dy ≡ true
+unfolding apartAt
+apart-boxes gap P Q dx dy e =
+    third-held (any (clears gap P Q (vertex (dx -ℤ pos 0) (dy -ℤ pos 0))) (normals P)) (any (clears gap Q P (vertex (pos 0 -ℤ dx) (pos 0 -ℤ dy))) (normals Q))
+    (boxesApart gap (extentsOf P) (extentsOf Q) dx dy) e
 
 -- Q has a vertex: it moves.
 pub apart-moved : (gap : ℕ) (P Q : Part) (dx dy : ℤ) → 0 < length Q → apartAt gap P Q dx dy ≡ separated gap P (map (shifted dx dy) Q)

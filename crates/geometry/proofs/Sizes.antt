@@ -17,7 +17,7 @@ use Rattle.integers.proofs.Order.{<ℤ-pos}
 use Rattle.integers.proofs.Sizes.{sized, bounded, fits-natAbs}
 use Rattle.integers.proofs.Solver.{ring, #, _⊞_, _⊟_, _⊠_, _≈_}
 use Rattle.model.specs.Geometry.{direction, clearance}
-use Rattle.geometry.specs.Reach.{Small}
+use Rattle.geometry.specs.Clears.{Small}
 
 -- a number of w bits is at most half the width's range
 pub size-of : (w : Width) (z : ℤ) → SFits w z → natAbs z ≤ 2 ^ hbits w
@@ -98,45 +98,54 @@ gap-small {gap} a b {s} hg h =
       size = bounded (2 ^ 16 ∷ 2 ^ 32 ∷ []) 2 (λ g s. g ⊠ s) (pos gap) s (le-of-lt (hg .fits)) (h .size);
     }
 
--- ---- how far a part may lie
+-- ---- the lead of one part over another
 
 -- a number as it is read from the bits of a local
 abbrev read : ℤ → ℤ
 read z = toZ w64 (ofZ w64 z)
 
--- a least distance and the way of a move
-module _ {L P l p : ℤ} (hl : Small L 47 l) (hp : Small P 47 p) where
-  pub there-fits : SFits w64 (read l +ℤ read p)
-  there-fits = op-fits (small-read hl tt) (small-read hp tt) _+ℤ_ (small-fits (small-sum hl hp) tt)
+-- the gap and the way of a move
+module _ {G P g p : ℤ} (hg : Small G 48 g) (hp : Small P 47 p) where
+  there : Small (G +ℤ P) 49 (g +ℤ p)
+  there = small-sum hg (small-more hp)
 
-  there : read (read l +ℤ read p) ≡ l +ℤ p
-  there = op-gives (small-read hl tt) (small-read hp tt) _+ℤ_ (small-fits (small-sum hl hp) tt)
+  pub there-fits : SFits w64 (read g +ℤ read p)
+  there-fits = op-fits (small-read hg tt) (small-read hp tt) _+ℤ_ (small-fits there tt)
 
   -- less the way of another move
   module _ {Q q : ℤ} (hq : Small Q 47 q) where
-    apart : Small (L +ℤ P -ℤ Q) 49 (l +ℤ p -ℤ q)
-    apart = small-difference (small-sum hl hp) (small-more hq)
+    pub lead-small : Small (G +ℤ P -ℤ Q) 50 (g +ℤ p -ℤ q)
+    lead-small = small-difference there (small-more (small-more hq))
 
-    pub back-fits : SFits w64 (read (read l +ℤ read p) -ℤ read q)
-    back-fits = op-fits there (small-read hq tt) _-ℤ_ (small-fits apart tt)
+    sum : read (read g +ℤ read p) ≡ g +ℤ p
+    sum = op-gives (small-read hg tt) (small-read hp tt) _+ℤ_ (small-fits there tt)
 
-    back : read (read (read l +ℤ read p) -ℤ read q) ≡ l +ℤ p -ℤ q
-    back = op-gives there (small-read hq tt) _-ℤ_ (small-fits apart tt)
+    pub lead-fits : SFits w64 (read (read g +ℤ read p) -ℤ read q)
+    lead-fits = op-fits sum (small-read hq tt) _-ℤ_ (small-fits lead-small tt)
 
-    -- less the gap
-    module _ {G g : ℤ} (hg : Small G 48 g) where
-      rest : Small (L +ℤ P -ℤ Q -ℤ G) 50 (l +ℤ p -ℤ q -ℤ g)
-      rest = small-difference apart (small-more hg)
-
-      pub reach-fits : SFits w64 (read (read (read l +ℤ read p) -ℤ read q) -ℤ read g)
-      reach-fits = op-fits back (small-read hg tt) _-ℤ_ (small-fits rest tt)
-
-      pub reach-gives : read (read (read (read l +ℤ read p) -ℤ read q) -ℤ read g) ≡ L +ℤ P -ℤ Q -ℤ G
-      reach-gives = op-gives back (small-read hg tt) _-ℤ_ (small-fits rest tt) ∙ rest .value
+    pub lead-gives : read (read (read g +ℤ read p) -ℤ read q) ≡ g +ℤ p -ℤ q
+    lead-gives = op-gives sum (small-read hq tt) _-ℤ_ (small-fits lead-small tt)
 
 -- the move of the second part less that of the first is their difference
-pub one-move : (S C a b qx qy px py : ℤ) → S +ℤ (a *ℤ qx +ℤ b *ℤ qy) -ℤ (a *ℤ px +ℤ b *ℤ py) -ℤ C ≡ S +ℤ (a *ℤ (qx -ℤ px) +ℤ b *ℤ (qy -ℤ py)) -ℤ C
-one-move = ring 8 (λ S C a b qx qy px py. S ⊞ (a ⊠ qx ⊞ b ⊠ qy) ⊟ (a ⊠ px ⊞ b ⊠ py) ⊟ C ≈ S ⊞ (a ⊠ (qx ⊟ px) ⊞ b ⊠ (qy ⊟ py)) ⊟ C) tt
+pub one-move : (C a b px py qx qy : ℤ) → C +ℤ (a *ℤ px +ℤ b *ℤ py) -ℤ (a *ℤ qx +ℤ b *ℤ qy) ≡ C -ℤ (a *ℤ (qx -ℤ px) +ℤ b *ℤ (qy -ℤ py))
+one-move = ring 7 (λ C a b px py qx qy. C ⊞ (a ⊠ px ⊞ b ⊠ py) ⊟ (a ⊠ qx ⊞ b ⊠ qy) ≈ C ⊟ (a ⊠ (qx ⊟ px) ⊞ b ⊠ (qy ⊟ py))) tt
+
+-- a place along a direction, and the lead over it or under it
+module _ {N L n l : ℤ} (hn : Small N 47 n) (hl : Small L 50 l) where
+  wide : Small N 50 n
+  wide = small-more (small-more (small-more hn))
+
+  pub ahead-fits : SFits w64 (read n +ℤ read l)
+  ahead-fits = op-fits (small-read hn tt) (small-read hl tt) _+ℤ_ (small-fits (small-sum wide hl) tt)
+
+  pub ahead-gives : read (read n +ℤ read l) ≡ N +ℤ L
+  ahead-gives = op-gives (small-read hn tt) (small-read hl tt) _+ℤ_ (small-fits (small-sum wide hl) tt) ∙ small-sum wide hl .value
+
+  pub behind-fits : SFits w64 (read n -ℤ read l)
+  behind-fits = op-fits (small-read hn tt) (small-read hl tt) _-ℤ_ (small-fits (small-difference wide hl) tt)
+
+  pub behind-gives : read (read n -ℤ read l) ≡ N -ℤ L
+  behind-gives = op-gives (small-read hn tt) (small-read hl tt) _-ℤ_ (small-fits (small-difference wide hl) tt) ∙ small-difference wide hl .value
 
 -- ---- differences and sums of coordinates
 

@@ -1,16 +1,17 @@
-// How far the vertices of a part lie along a direction (a, b), and how far another part may lie.
+// How far the vertices of a part lie along a direction (a, b), and how far apart two parts must lie along it.
 ghost use mathlib.Core.List.{map};
 ghost use mathlib.Core.Path.{_≡_};
 ghost use Prim.Native.Nat.{_+_, _*_, _<_};
 ghost use lib.IntN.{natAbs, pos, _-ℤ_};
 ghost use lib.ListN.{length};
+ghost use lib.Signed.{leZ};
 ghost use Rattle.integers.specs.Extrema.{minZ};
 ghost use Rattle.model.specs.Content.{vertex};
 ghost use Rattle.model.specs.Geometry;
 ghost use Rattle.model.specs.Geometry.{direction, vertexAt, clearance};
 ghost use Rattle.model.specs.Lists.{smallestZ};
 ghost use Rattle.polygons.specs.Flat.{partOf};
-ghost use Rattle.geometry.specs.Reach.{Small, reachOf};
+ghost use Rattle.geometry.specs.Clears.{Small, leadOf};
 use integers::dot;
 use polygons::vertices::coordinate;
 
@@ -44,7 +45,7 @@ fn lesser(a: i64, b: i64) -> i64
 }
 
 // The least that a vertex of the part lies along (a, b); 0 if it has none.
-fn lowest(p: &[i16], a: i32, b: i32) -> i64
+pub fn lowest(p: &[i16], a: i32, b: i32) -> i64
     ensures { λ r. ⌜ Small (smallestZ (map (Geometry.along (direction a b)) (partOf (now (p .entry))))) 47 r ⌝ }
 {
     let n = p.len() / 2;
@@ -60,9 +61,27 @@ fn lowest(p: &[i16], a: i32, b: i32) -> i64
     least
 }
 
-// How far a part moved by (px, py) may lie along (a, b) before that move, to be separated by this direction from q moved by (qx, qy).
-pub fn reach(q: &[i16], qx: i16, qy: i16, px: i16, py: i16, a: i32, b: i32, gap: u16) -> i64
-    ensures { λ r. ⌜ r ≡ reachOf gap (partOf (now (q .entry))) (vertex (qx -ℤ px) (qy -ℤ py)) (direction a b) ⌝ }
+// Whether no vertex of the part lies less far along (a, b) than `limit`. The first that does ends the test. (Of no vertex the least is 0.)
+pub fn lies_beyond(p: &[i16], a: i32, b: i32, limit: i64) -> bool
+    ensures { λ r. ⌜ r ≡ leZ limit (smallestZ (map (Geometry.along (direction a b)) (partOf (now (p .entry))))) ⌝ }
 {
-    lowest(q, a, b) + dot(a, b, qx, qy) - dot(a, b, px, py) - gap_along(gap, a, b)
+    let n = p.len() / 2;
+    if n == 0 {
+        return limit <= 0;
+    }
+    let mut k: usize = 0;
+    while k < n {
+        if vertex_along(p, k, a, b) < limit {
+            return false;
+        }
+        k += 1;
+    }
+    true
+}
+
+// How much further along (a, b) than p the part q must lie before they are moved, p by (px, py) and q by (qx, qy), to clear it by the gap afterwards.
+pub fn lead(px: i16, py: i16, qx: i16, qy: i16, a: i32, b: i32, gap: u16) -> i64
+    ensures { λ r. ⌜ Small (leadOf gap (vertex (qx -ℤ px) (qy -ℤ py)) (direction a b)) 50 r ⌝ }
+{
+    gap_along(gap, a, b) + dot(a, b, px, py) - dot(a, b, qx, qy)
 }

@@ -7,8 +7,10 @@ ghost use Rattle.model.specs.Content.{vertex};
 ghost use Rattle.model.specs.Geometry.{vertexAt, following, normals};
 ghost use Rattle.model.specs.Lists.{any};
 ghost use Rattle.polygons.specs.Flat.{partOf, coordinateOf};
-ghost use Rattle.geometry.specs.Reach.{clears};
-use crate::along::reach;
+ghost use Rattle.geometry.specs.Clears.{clears};
+use crate::along::lead;
+use crate::along::lies_beyond;
+use crate::along::lowest;
 use crate::along::vertex_along;
 use polygons::vertices::coordinate;
 
@@ -28,8 +30,9 @@ fn next_vertex(p: &[i16], k: usize) -> usize
     if 2 * k + 3 < p.len() { k + 1 } else { 0 }
 }
 
-// Whether the outward normal of an edge of p separates p, moved by (px, py), from q, moved by (qx, qy). The first one that does ends the
-// test; one that does not is given up at the first vertex of p that lies too far along it.
+// Whether the outward normal of an edge of p separates p, moved by (px, py), from q, moved by (qx, qy). The first one that does ends the test. In a sound part no
+// vertex lies further along the normal than the edge's own, so that one is asked first: a normal that does not separate is given up at the first vertex of q that
+// lies too near it. p need not be sound, so a normal that passes is tried against every vertex of p.
 pub fn edges_separate(p: &[i16], px: i16, py: i16, q: &[i16], qx: i16, qy: i16, gap: u16) -> bool
     ensures { λ r. ⌜ r ≡ any (clears gap (partOf (now (p .entry))) (partOf (now (q .entry))) (vertex (qx -ℤ px) (qy -ℤ py))) (normals (partOf (now (p .entry)))) ⌝ }
 {
@@ -41,13 +44,16 @@ pub fn edges_separate(p: &[i16], px: i16, py: i16, q: &[i16], qx: i16, qy: i16, 
         let m = next_vertex(p, k);
         let a = difference(p, m, k, 1);
         let b = difference(p, k, m, 0);
-        let limit = reach(q, qx, qy, px, py, a, b, gap);
-        let mut i: usize = 0;
-        while vertex_along(p, i, a, b) <= limit {
-            i += 1;
-            if i == n {
-                found = true;
-                break 'directions;
+        let ahead = lead(px, py, qx, qy, a, b, gap);
+        if lies_beyond(q, a, b, vertex_along(p, k, a, b) + ahead) {
+            let limit = lowest(q, a, b) - ahead;
+            let mut i: usize = 0;
+            while vertex_along(p, i, a, b) <= limit {
+                i += 1;
+                if i == n {
+                    found = true;
+                    break 'directions;
+                }
             }
         }
         k += 1;

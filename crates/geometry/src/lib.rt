@@ -1,4 +1,5 @@
-// The test of a pair of parts, on turned vertices.
+// The test of a pair of parts, by their corners alone, and of a pair of pieces, part by part.
 mod along;
 mod edges;
 pub mod pairs;
+pub mod pieces;

@@ -25,20 +25,20 @@ pub fn axes_separate(e: Extents, f: Extents, dx: i16, dy: i16, gap: u16) -> bool
         | clear_of(f.max_y, dy, e.min_y, 0, gap)
 }
 
-// The axis directions are cheap and decide most pairs, so they are tried first. Then the normals of p, and those of q.
+// The normals of p, those of q, and the axis directions by the boxes: in document 01's order.
 fn apart_at(p: &[i16], q: &[i16], dx: i16, dy: i16, gap: u16) -> bool
     ensures { λ r. ⌜ r ≡ apartAt gap (partOf (now (p .entry))) (partOf (now (q .entry))) dx dy ⌝ }
 {
-    if axes_separate(bounds(p), bounds(q), dx, dy, gap) {
-        return true;
-    }
     if edges_separate(p, 0, 0, q, dx, dy, gap) {
         return true;
     }
-    edges_separate(q, dx, dy, p, 0, 0, gap)
+    if edges_separate(q, dx, dy, p, 0, 0, gap) {
+        return true;
+    }
+    axes_separate(bounds(p), bounds(q), dx, dy, gap)
 }
 
-// Whether p and q, moved by (dx, dy), are separated at this gap. Both are turned already. A part of no vertex stays where it is.
+// Whether p and q, moved by (dx, dy), are separated at this gap. A part of no vertex stays where it is.
 pub fn separated(p: &[i16], q: &[i16], dx: i16, dy: i16, gap: u16) -> bool
     ensures { λ r. ⌜ r ≡ Geometry.separated gap (partOf (now (p .entry))) (map (shifted dx dy) (partOf (now (q .entry)))) ⌝ }
 {

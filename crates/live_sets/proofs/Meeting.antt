@@ -1,4 +1,4 @@
--- Where the search meets the geometry: what the plan and the turned vertices say of the model's conflicts, and which candidates stay.
+-- Where the search meets the geometry: what the plan and the turned parts say of the model's conflicts, and which candidates stay.
 use mathlib.Core.Bool.{Bool, true, false, not, _&&_, _||_, Bool·not-not}
 use mathlib.Core.List.{List}
 use mathlib.Core.Path.{_≡_, refl, sym, ap, _∙_}
@@ -11,10 +11,10 @@ use Rattle.model.specs.Format.{content}
 use Rattle.model.specs.Gap.{pairGap}
 use Rattle.model.specs.Layout.{entryOf, conflict, entryKind}
 use Rattle.model.specs.Problem.{Problem, under}
+use Rattle.geometry.specs.declared.pieces.Piece.{Piece}
 use Rattle.shapes.specs.Pieces.{PieceOf}
 use Rattle.shapes.specs.Turned.{TurnedOf}
 use Rattle.candidates.specs.Conflicts.{placedOf, conflictBetween}
-use Rattle.shapes.specs.declared.pieces.Piece.{Piece}
 use Rattle.candidates.proofs.PreparedLaws.{numbers-conflict}
 use Rattle.plans.specs.Planned.{PlanOf, planned}
 use Rattle.plans.proofs.PlanLaws.{plan-viewed}

@@ -22,5 +22,6 @@ pub mod Causes
 pub mod AcceptedKinds
 pub mod Refusals
 pub mod Margin
+pub mod Turning
 pub mod Program
 pub mod Buffers

@@ -23,8 +23,9 @@ use Rattle.words.proofs.Cases.{le-or-lt}
 use Rattle.words.proofs.Member.{member-word}
 use Rattle.words.proofs.Place.{numberAt-written, numberAt-other}
 use Rattle.model.proofs.Lists.{not-both}
-use Rattle.shapes.specs.declared.pieces.Piece.{Piece}
-use Rattle.nofit.specs.Filling.{dotOf, conflictAtDot, blockedAtDot, blockedBit, TurnSet, FirstWord, WordSet, Written, allowed}
+use Rattle.geometry.specs.declared.pieces.Piece.{Piece}
+use Rattle.shapes.specs.Pieces.{turnedTo}
+use Rattle.nofit.specs.Filling.{dotOf, conflictAtDot, blockedAtDot, blockedTurned, blockedBit, TurnSet, FirstWord, WordSet, Written, allowed}
 use Rattle.nofit.specs.declared.patterns.Dot.{Dot}
 use Rattle.nofit.specs.declared.patterns.Pattern.{Pattern}
 
@@ -93,32 +94,39 @@ row-within rows n d some e = let r : d .row ≡ n % rows = ap (λ (x : Dot). x .
 -- ---- bits
 
 -- below the bound, at a dot of the string, and behind its last dot
-module _ (table : List ℤ) (s : Pattern) (p r : Piece) (k z : ℕ) (d : Dot) where
-  pub below-bit : z < s .below → true ≡ blockedAtDot table s p r k z d
+module _ (table : List ℤ) (s : Pattern) (p r : Piece) (z : ℕ) (d : Dot) where
+  pub below-bit : z < s .below → true ≡ blockedAtDot table s p r z d
   unfolding blockedAtDot
   below-bit h = rw (lt-ltb z (s .below) h)
 
-  pub dot-bit : (b : Bool) → s .below ≤ z → d .column < s .reach * 2 + 1 → b ≡ conflictAtDot table s p r k d → b ≡ blockedAtDot table s p r k z d
+  pub dot-bit : (b : Bool) → s .below ≤ z → d .column < s .reach * 2 + 1 → b ≡ conflictAtDot table s p r d → b ≡ blockedAtDot table s p r z d
   unfolding blockedAtDot
   dot-bit b h l e = rw (le-ltb z (s .below) h, lt-ltb (d .column) (s .reach * 2 + 1) l) e
 
-  pub past-bit : s .below ≤ z → s .reach * 2 + 1 ≤ d .column → false ≡ blockedAtDot table s p r k z d
+  pub past-bit : s .below ≤ z → s .reach * 2 + 1 ≤ d .column → false ≡ blockedAtDot table s p r z d
   unfolding blockedAtDot
   past-bit h l = rw (le-ltb z (s .below) h, le-ltb (d .column) (s .reach * 2 + 1) l)
 
 -- a bit of a word behind the first one, by its dot
 pub blocked-at : (table : List ℤ) (s : Pattern) (p r : Piece) (word n k : ℕ) → 1 ≤ word → k < 4
-    → blockedAtDot table s p r k (word * 64 + (n * 4 + k)) (dotOf (s .rows) ((word - 1) * 16 + n)) ≡ blockedBit table s p r (word * 64 + (n * 4 + k))
-unfolding blockedAtDot blockedBit
+    → blockedAtDot table s p r (word * 64 + (n * 4 + k)) (dotOf (s .rows) ((word - 1) * 16 + n)) ≡ blockedTurned table s p r (word * 64 + (n * 4 + k))
+unfolding blockedAtDot blockedTurned
 blocked-at table s p r word n k some h =
     let d : (word * 64 + (n * 4 + k) - 64) / 4 ≡ (word - 1) * 16 + n = omega arith in
-    let t : (word * 64 + (n * 4 + k)) % 4 ≡ k = omega arith in
     let l : leb 64 (word * 64 + (n * 4 + k)) ≡ true = le-leb 64 (word * 64 + (n * 4 + k)) (omega arith) in
-    rw (d, t, l)
+    rw (d, l)
+
+-- a bit of rotation k
+pub blocked-turned : (table : List ℤ) (s : Pattern) (p r q : Piece) (word k i : ℕ) → q ≡ turnedTo r k → i % 4 ≡ k
+    → blockedTurned table s p q (word * 64 + i) ≡ blockedBit table s p r (word * 64 + i)
+unfolding blockedBit
+blocked-turned table s p r q word k i e h =
+    let t : k ≡ (word * 64 + i) % 4 = omega arith in
+    ap (λ (o : Piece). blockedTurned table s p o (word * 64 + i)) e ∙ ap (λ m. blockedTurned table s p (turnedTo r m) (word * 64 + i)) t
 
 -- the bits of the first word
 pub blocked-first : (table : List ℤ) (s : Pattern) (p r : Piece) (i : ℕ) → i < 64 → (s .below ≡ 0) ⊎ (64 ≤ s .below) → blockedBit table s p r (0 * 64 + i) ≡ ltb 0 (s .below)
-unfolding blockedBit
+unfolding blockedBit blockedTurned
 blocked-first table s p r i h (inl e) =
     rw (le-ltb (0 * 64 + i) (s .below) (omega arith), lt-leb 64 (0 * 64 + i) (omega arith), le-ltb 0 (s .below) (omega arith))
 blocked-first table s p r i h (inr e) = rw (lt-ltb (0 * 64 + i) (s .below) (omega arith), lt-ltb 0 (s .below) (omega arith))
@@ -156,6 +164,10 @@ turn-next k n b old w v on hk t e g =
   where
     here : (i : ℕ) → n * 4 + k ≡ i → testBit (assignedBit on w (n * 4 + k)) i ≡ b i
     here i d = ap (testBit (assignedBit on w (n * 4 + k))) (sym d) ∙ assigned-same on w (n * 4 + k) ∙ e ∙ ap b d
+
+-- the same bits, said otherwise
+pub turn-as : (k n : ℕ) (b c : ℕ → Bool) (old new : ℕ) → ((i : ℕ) → i % 4 ≡ k → b i ≡ c i) → TurnSet k n b old new → TurnSet k n c old new
+turn-as k n b c old new e t = record { same = λ i h q. t .same i h q ∙ e i q; other = t .other }
 
 -- ---- the rotations of a word, one after the other
 

@@ -27,6 +27,7 @@ use Rattle.model.specs.Gap.{pairGap}
 use Rattle.model.specs.Geometry.{rotated}
 use Rattle.model.specs.Grid
 use Rattle.model.specs.Grid.{setWords}
+use Rattle.model.proofs.Turning.{vertexed}
 use Rattle.model.proofs.Accepted.{accepted-dots}
 use Rattle.model.proofs.Causes.{no-cause, board-fits}
 use Rattle.model.proofs.Lists.{not-both}
@@ -39,10 +40,10 @@ use Rattle.job.specs.View.{Viewed}
 use Rattle.job.specs.declared.View.{View}
 use Rattle.shapes.specs.Boxes.{noBox, turnedVertices, BoxesOf}
 use Rattle.shapes.specs.declared.boxes.Boxes.{Boxes}
-use Rattle.shapes.proofs.Apart.{boxes-apart}
+use Rattle.geometry.proofs.BoxesApart.{boxes-apart}
 use Rattle.shapes.proofs.ViewLaws.{kind-in}
 use Rattle.candidates.proofs.PlacementLaws.{end-nonneg}
-use Rattle.candidates.proofs.PreparedLaws.{sheet-range, gap-is, vertexed}
+use Rattle.candidates.proofs.PreparedLaws.{sheet-range, gap-is}
 use Rattle.nofit.specs.Measures.{Within, Around, NoLarger, Spaced}
 use Rattle.nofit.specs.Patterns.{offsetConflict, Reaching, MeasuresOf}
 
@@ -224,7 +225,7 @@ module _ (s : List ℕ) (v : View) (b : Boxes) (x : Viewed s v) (y : BoxesOf s b
       let g = content s .sheet .g in
       let there : Spaced span g (Grid.columns (content s .sheet)) r = rw (sym (x .view .step), sym (x .view .columns)) spaced in
       boxes-apart (pairGap (content s .classes) (kindAt (content s .kinds) t) (kindAt (content s .kinds) u)) (map (map (rotated q)) (kindAt (content s .kinds) t .parts)) (map (map (rotated k)) (kindAt (content s .kinds) u .parts))
-      (pos (c * g) -ℤ pos (a * g)) dy (turned-vertexed q (kindAt (content s .kinds) t .parts) (vertexed s v x t ht)) (turned-vertexed k (kindAt (content s .kinds) u .parts) (vertexed s v x u (n .exists)))
+      (pos (c * g) -ℤ pos (a * g)) dy (turned-vertexed q (kindAt (content s .kinds) t .parts) (vertexed s (x .accepted) t)) (turned-vertexed k (kindAt (content s .kinds) u .parts) (vertexed s (x .accepted) u))
       (⊎-elim (λ h. right-apart gap all _ _ _ span (pos (a * g)) (pos (c * g)) dy e f p wide (columns-apart span g (Grid.columns (content s .sheet)) r a c there h hc))
       (λ h. left-apart gap all _ _ _ span (pos (a * g)) (pos (c * g)) dy e f p wide (columns-apart span g (Grid.columns (content s .sheet)) r c a there h ha)) far)
 

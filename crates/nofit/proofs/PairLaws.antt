@@ -1,6 +1,6 @@
 -- From a pattern to the strings of the table. Assumes nothing.
 use mathlib.Core.Bool.{Bool, true, false, cond, _&&_, _||_}
-use mathlib.Core.List.{List, [], _∷_, map}
+use mathlib.Core.List.{List, map}
 use mathlib.Core.Logic.{_⊎_, inl, inr, ⊎-elim}
 use mathlib.Core.Path.{_≡_, refl, sym, ap, ap₂, subst, _∙_}
 use Prim.Native.Nat.{ℕ, suc, _+_, _-_, _*_, _/_, _%_, _^_, _≤_, _<_}
@@ -9,30 +9,30 @@ use native.Mathlib.Omega.{arith}
 use borrow.Author.Tests.{le-leb, lt-leb, lt-ltb, le-ltb}
 use lib.Dec.{leb, ltb, eqb}
 use lib.IntN.{ℤ}
-use lib.ListN.{length, getD, length-map}
+use lib.ListN.{length, getD}
 use Rattle.words.specs.Bits.{testBit, bitsWhere}
 use Rattle.words.specs.Number.{withNumber}
 use Rattle.words.specs.Sets.{member}
 use Rattle.words.proofs.Bit.{testBit-bitsWhere}
 use Rattle.words.proofs.Cases.{le-or-lt}
-use Rattle.model.specs.Content.{Vertex, Part, Job, kindAt, kindCount}
+use Rattle.model.specs.Content.{Job, kindAt, kindCount}
 use Rattle.model.specs.Format.{content}
 use Rattle.model.specs.Geometry.{rotated}
 use Rattle.model.specs.Grid
 use Rattle.model.specs.Lists.{concat}
-use Rattle.model.proofs.Moves.{Vertexed}
 use Rattle.polygons.specs.Boxes.{extentsOf}
 use Rattle.job.specs.View.{Viewed}
 use Rattle.job.specs.declared.View.{View}
 use Rattle.shapes.specs.Boxes.{boxAt}
-use Rattle.shapes.specs.Pieces.{PieceOf, partsIn}
+use Rattle.geometry.specs.Pieces.{partsIn}
+use Rattle.geometry.specs.declared.pieces.Piece.{Piece}
+use Rattle.shapes.specs.Pieces.{PieceOf, turnedTo}
 use Rattle.shapes.specs.declared.boxes.Boxes.{Boxes}
-use Rattle.shapes.specs.declared.pieces.Piece.{Piece}
-use Rattle.shapes.proofs.PieceLaws.{parts-turned}
+use Rattle.shapes.proofs.PieceLaws.{parts-turned, piece-turnable}
 use Rattle.shapes.proofs.ViewLaws.{few-kinds, kind-in}
-use Rattle.candidates.proofs.PreparedLaws.{gap-is, vertexed}
+use Rattle.candidates.proofs.PreparedLaws.{gap-is}
 use Rattle.nofit.specs.Patterns.{offsetConflict, fromMiddle, blocked, aboveString, belowString, stringStart, StringsOf, ParitiesOf, MeasuresOf}
-use Rattle.nofit.specs.Filling.{dotOf, conflictAtDot, blockedBit, Ready, BoxIn, BoxesIn, Written, allowed, PairOf, boundOf, patternOf, Small, Fillable, parityBits, ParitiesTo}
+use Rattle.nofit.specs.Filling.{dotOf, conflictAtDot, blockedTurned, blockedBit, Ready, Boxed, BoxesIn, Written, allowed, PairOf, boundOf, patternOf, Small, Fillable, parityBits, ParitiesTo}
 use Rattle.nofit.specs.declared.places.Nofit.{Nofit}
 use Rattle.nofit.specs.declared.patterns.Pair.{Pair}
 use Rattle.nofit.specs.declared.patterns.Pattern.{Pattern}
@@ -133,11 +133,6 @@ pair-small s w i x m p =
 
 -- ---- the pattern of a pair
 
--- parts with vertices have them also turned
-vertexed-turned : (f : Vertex → Vertex) (Ps : List Part) → Vertexed Ps → Vertexed (map (map f) Ps)
-vertexed-turned f [] h = tt
-vertexed-turned f (P ∷ Ps) h = (rw (length-map P f) (h .0), vertexed-turned f Ps (h .1))
-
 -- what the bound says of a number
 bound-says : (b : Bool) (z n : ℕ) → ltb z (cond b (n + 1) 0) ≡ (b && leb z n)
 bound-says true z n = ⊎-elim (λ l. lt-ltb z (n + 1) (omega arith) ∙ sym (le-leb z n l)) (λ l. le-ltb z (n + 1) (omega arith) ∙ sym (lt-leb z n l)) (le-or-lt z n)
@@ -155,19 +150,18 @@ module _ (s : List ℕ) (v : View) (table : List ℤ) (b : Boxes) (w : Nofit) (r
   pub kind-exists : x .kind < kindCount (content s .kinds)
   kind-exists = omega (arith, o .ordered, other-exists)
 
-  placed-parts : partsIn table p (x .turn) ≡ map (map (rotated (x .turn))) (kindAt (content s .kinds) (x .kind) .parts)
-  placed-parts = parts-turned s table (x .kind) p (x .turn) (f .turned) hp kind-exists (o .turn)
+  placed-parts : partsIn table (turnedTo p (x .turn)) ≡ map (map (rotated (x .turn))) (kindAt (content s .kinds) (x .kind) .parts)
+  placed-parts = parts-turned s table (x .kind) p (f .turned) hp kind-exists (x .turn) (o .turn)
 
-  other-parts : (k : ℕ) → k < 4 → partsIn table r k ≡ map (map (rotated k)) (kindAt (content s .kinds) (x .other) .parts)
-  other-parts k h = parts-turned s table (x .other) r k (f .turned) hr other-exists h
+  other-parts : (k : ℕ) → k < 4 → partsIn table (turnedTo r k) ≡ map (map (rotated k)) (kindAt (content s .kinds) (x .other) .parts)
+  other-parts k h = parts-turned s table (x .other) r (f .turned) hr other-exists k h
 
-  pub pattern-ready : Ready table (patternOf v w x) p r
+  pub pattern-ready : Ready (patternOf v w x)
   unfolding boundOf
   pattern-ready =
       let m = f .measures in
       let g = f .viewed .view .step in
       record {
-        size = f .turned .size;
         some = some-rows s w m;
         few = rows-few s w m;
         near = reach-near s w m;
@@ -175,40 +169,39 @@ module _ (s : List ℕ) (v : View) (table : List ℤ) (b : Boxes) (w : Nofit) (r
         up = rw g (m .up);
         lifted = omega (arith, mul-le-mul-right {m = x .down} {n = 1} (w .rows) (pair-down w i x o));
         bound = bound-far (eqb (x .kind) (x .other)) (64 + (w .reach + x .down) * w .rows * 4 + x .turn + 1) (omega arith);
-        turn = o .turn;
-        first = hp .fitting;
-        second = hr .fitting;
-        corners = rw placed-parts (vertexed-turned (rotated (x .turn)) (kindAt (content s .kinds) (x .kind) .parts) (vertexed s v (f .viewed) (x .kind) kind-exists));
-        others = λ k h. rw (other-parts k h) (vertexed-turned (rotated k) (kindAt (content s .kinds) (x .other) .parts) (vertexed s v (f .viewed) (x .other) other-exists));
       }
 
-  pub box-placed : BoxIn table p (x .turn) (boxAt b (x .kind) (x .turn))
-  box-placed = f .boxes .exact (x .kind) (x .turn) kind-exists (o .turn) ∙ ap (λ Ps. extentsOf (concat Ps)) (sym placed-parts)
+  pub box-placed : Boxed table (turnedTo p (x .turn)) (boxAt b (x .kind) (x .turn))
+  box-placed =
+      record {
+        stands = piece-turnable s table (x .kind) p (f .turned) hp kind-exists .stands (x .turn) (o .turn);
+        box = f .boxes .exact (x .kind) (x .turn) kind-exists (o .turn) ∙ ap (λ Ps. extentsOf (concat Ps)) (sym placed-parts);
+      }
 
   pub boxes-other : BoxesIn table r (x .other) b
   boxes-other =
       record {
-        size = f .boxes .size;
         kind = omega (arith, other-exists, few-kinds s v (f .viewed));
-        exact = λ k h. f .boxes .exact (x .other) k other-exists h ∙ ap (λ Ps. extentsOf (concat Ps)) (sym (other-parts k h));
+        turnable = piece-turnable s table (x .other) r (f .turned) hr other-exists;
+        boxes = λ k h. f .boxes .exact (x .other) k other-exists h ∙ ap (λ Ps. extentsOf (concat Ps)) (sym (other-parts k h));
       }
 
   -- The bits of the pattern are those of the string.
   conflict-is : (k n : ℕ) → k < 4
-      → conflictAtDot table (patternOf v w x) p r k (dotOf (w .rows) n)
+      → conflictAtDot table (patternOf v w x) (turnedTo p (x .turn)) (turnedTo r k) (dotOf (w .rows) n)
       ≡ offsetConflict (content s) (x .kind) (x .turn) (x .other) k (fromMiddle (content s .sheet .g) (w .reach) (n / w .rows)) (fromMiddle (content s .sheet .g) (x .down * w .rows) (n % w .rows))
   unfolding conflictAtDot offsetConflict
   conflict-is k n h = rw (placed-parts, other-parts k h, f .viewed .view .step, gap-is s v (f .viewed) (x .kind) (x .other) kind-exists other-exists)
 
-  pub blocked-is : (z : ℕ) → blockedBit table (patternOf v w x) p r z ≡ blocked (content s) w (x .kind) (x .turn) (x .other) (x .down) z
-  unfolding blockedBit blocked boundOf
+  pub blocked-is : (z : ℕ) → blockedBit table (patternOf v w x) (turnedTo p (x .turn)) r z ≡ blocked (content s) w (x .kind) (x .turn) (x .other) (x .down) z
+  unfolding blockedBit blockedTurned blocked boundOf
   blocked-is z =
       ap₂ (λ a c. a || (leb 64 z && ltb ((z - 64) / 4 / w .rows) (w .reach * 2 + 1) && c))
       (bound-says (eqb (x .kind) (x .other)) z (64 + (w .reach + x .down) * w .rows * 4 + x .turn))
       (conflict-is (z % 4) ((z - 64) / 4) (omega arith))
 
   -- The string as it is asked for.
-  pub pattern-written : (at n : ℕ) (old new : List ℕ) → Written at n (allowed (getD (v .rotations) (x .other) 0)) (blockedBit table (patternOf v w x) p r) old new
+  pub pattern-written : (at n : ℕ) (old new : List ℕ) → Written at n (allowed (getD (v .rotations) (x .other) 0)) (blockedBit table (patternOf v w x) (turnedTo p (x .turn)) r) old new
       → Written at n (allowed (kindAt (content s .kinds) (x .other) .rotations)) (blocked (content s) w (x .kind) (x .turn) (x .other) (x .down)) old new
   pattern-written at n old new t =
       record {
@@ -216,17 +209,20 @@ module _ (s : List ℕ) (v : View) (table : List ℤ) (b : Boxes) (w : Nofit) (r
         outside = t .outside;
       }
 
-  -- The same of a pattern that is known to be that of the pair.
-  module _ (c : Pattern) (e : c ≡ patternOf v w x) where
-    pub ready-of : Ready table c p r
-    ready-of = subst (λ (c : Pattern). Ready table c p r) (sym e) pattern-ready
+  -- The same of a pattern that is known to be that of the pair, and of the placed piece as it stands turned.
+  module _ (c : Pattern) (e : c ≡ patternOf v w x) (q : Piece) (g : q ≡ turnedTo p (x .turn)) where
+    pub ready-of : Ready c
+    ready-of = subst Ready (sym e) pattern-ready
 
-    pub box-of : BoxIn table p (c .turn) (boxAt b (x .kind) (x .turn))
-    box-of = subst (λ (c : Pattern). BoxIn table p (c .turn) (boxAt b (x .kind) (x .turn))) (sym e) box-placed
+    pub box-of : Boxed table q (boxAt b (x .kind) (x .turn))
+    box-of = subst (λ (q : Piece). Boxed table q (boxAt b (x .kind) (x .turn))) (sym g) box-placed
 
-    pub written-of : (at n : ℕ) (old new : List ℕ) → Written at n (allowed (c .mask)) (blockedBit table c p r) old new
+    pub written-of : (at n : ℕ) (old new : List ℕ) → Written at n (allowed (c .mask)) (blockedBit table c q r) old new
         → Written at n (allowed (kindAt (content s .kinds) (x .other) .rotations)) (blocked (content s) w (x .kind) (x .turn) (x .other) (x .down)) old new
-    written-of at n old new t = pattern-written at n old new (subst (λ (c : Pattern). Written at n (allowed (c .mask)) (blockedBit table c p r) old new) e t)
+    written-of at n old new t =
+        pattern-written at n old new
+        (subst (λ (q : Piece). Written at n (allowed (getD (v .rotations) (x .other) 0)) (blockedBit table (patternOf v w x) q r) old new) g
+        (subst (λ (c : Pattern). Written at n (allowed (c .mask)) (blockedBit table c q r) old new) e t))
 
 -- ---- strings, one after the other
 

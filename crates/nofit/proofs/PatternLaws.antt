@@ -1,6 +1,6 @@
 -- What the strings of the no-fit patterns and the parities of the columns say of the model's conflict. Assumes nothing.
 use mathlib.Core.Bool.{Bool, true, false, not, cond, _&&_, _||_, and-assoc}
-use mathlib.Core.List.{List, [], _∷_}
+use mathlib.Core.List.{List}
 use mathlib.Core.Logic.{_⊎_, inl, inr}
 use mathlib.Core.Path.{_≡_, refl, sym, ap, ap₂, _∙_}
 use Prim.Native.Nat.{ℕ, suc, _+_, _-_, _*_, _/_, _%_, _≤_, _<_}
@@ -10,22 +10,19 @@ use borrow.Author.Tests.{ltb-true, le-leb, lt-leb, le-ltb, lt-ltb, eq-eqb, ne-eq
 use lib.Arith.{digits-div, digits-mod}
 use lib.Dec.{leb, ltb, eqb}
 use lib.IntN.{ℤ, pos, _-ℤ_}
-use lib.ListN.{length, getD}
 use Rattle.integers.proofs.Linear.{integers, parts--ℤ}
 use Rattle.words.specs.Bits.{testBit}
 use Rattle.words.proofs.Bit.{testBit-first}
 use Rattle.words.proofs.Cases.{le-or-lt}
 use Rattle.model.specs.Candidate.{placedParts, admitted, isCandidate}
-use Rattle.model.specs.Content.{Part, Job, kindAt, kindCount}
+use Rattle.model.specs.Content.{Job, kindAt, kindCount}
 use Rattle.model.specs.Format.{content, refusal}
 use Rattle.model.specs.Gap.{pairGap}
 use Rattle.model.specs.Grid.{Placement, rows, columns, placementOf}
 use Rattle.model.specs.Layout.{entry, entryOf, entryKind, conflict}
 use Rattle.model.specs.Problem.{Problem, under}
-use Rattle.model.proofs.AcceptedKinds.{kind-ranges}
 use Rattle.model.proofs.Lists.{and-left, and-right}
-use Rattle.model.proofs.Moves.{Vertexed}
-use Rattle.candidates.proofs.PreparedLaws.{conflict-placed}
+use Rattle.model.proofs.Turning.{vertexed, conflict-placed}
 use Rattle.nofit.specs.Patterns.{offsetConflict, fromMiddle, Needed, blocked, MeasuresOf}
 use Rattle.nofit.specs.declared.places.Nofit.{Nofit}
 
@@ -115,14 +112,6 @@ same-way x a c m g e =
     omega (integers, parts--ℤ (pos (x * g)) (pos (m * g)), parts--ℤ (pos (c * g)) (pos (a * g)))
 
 module _ (s : List ℕ) (e : refusal s ≡ 0) where
-  -- Every part of a kind has a vertex.
-  pub kind-vertexed : (t : ℕ) → t < kindCount (content s .kinds) → Vertexed (kindAt (content s .kinds) t .parts)
-  kind-vertexed t h = go (kindAt (content s .kinds) t .parts) (λ i l. kind-ranges s e t h .corners i l .0)
-    where
-      go : (Ps : List Part) → ((i : ℕ) → i < length Ps → 3 ≤ length (getD Ps i [])) → Vertexed Ps
-      go [] k = tt
-      go (P ∷ Ps) k = (omega (arith, k 0 (omega arith)), go Ps (λ i l. k (suc i) (omega arith)))
-
   -- The conflict of two placed pieces is that at the offset from the one dot to the other.
   pub conflict-offset : (margin t u : ℕ) (a c : Placement) → t < kindCount (content s .kinds) → u < kindCount (content s .kinds)
       → offsetConflict (content s) t (a .rotation) u (c .rotation) (pos (c .column * content s .sheet .g) -ℤ pos (a .column * content s .sheet .g))
@@ -131,7 +120,7 @@ module _ (s : List ℕ) (e : refusal s ≡ 0) where
   unfolding offsetConflict conflict entryKind placedParts
   conflict-offset margin t u a c ht hu =
       let j : Job = content s in
-      conflict-placed (pairGap (j .classes) (kindAt (j .kinds) t) (kindAt (j .kinds) u)) (j .sheet) a c (kindAt (j .kinds) t .parts) (kindAt (j .kinds) u .parts) (kind-vertexed t ht) (kind-vertexed u hu)
+      conflict-placed (pairGap (j .classes) (kindAt (j .kinds) t) (kindAt (j .kinds) u)) (j .sheet) a c (kindAt (j .kinds) t .parts) (kindAt (j .kinds) u .parts) (vertexed s e t) (vertexed s e u)
 
 -- The place of a candidate.
 module _ (j : Problem) (t n : ℕ) (k : isCandidate j t n ≡ true) where

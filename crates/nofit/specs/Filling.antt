@@ -1,4 +1,4 @@
--- Filling the table of no-fit strings: what a string is made of, its bits by the pieces as they stand in the table of turned vertices, and a run of
+-- Filling the table of no-fit strings: what a string is made of, its bits by the pieces as they stand in the table of turned parts, and a run of
 -- words written whole.
 use mathlib.Core.Bool.{Bool, true, cond, _&&_, _||_}
 use mathlib.Core.List.{List, map}
@@ -7,22 +7,22 @@ use mathlib.Core.Path.{_≡_}
 use Prim.Native.Nat.{ℕ, _+_, _-_, _*_, _/_, _%_, _≤_, _<_, max}
 use lib.Dec.{leb, ltb, eqb}
 use lib.IntN.{ℤ}
-use lib.ListN.{length, getD}
+use lib.ListN.{getD}
 use Rattle.words.specs.Bits.{testBit}
 use Rattle.words.specs.Sets.{member}
 use Rattle.model.specs.Geometry.{piecesConflict}
 use Rattle.model.specs.Lists.{concat}
-use Rattle.model.proofs.Moves.{Vertexed}
 use Rattle.polygons.specs.Boxes.{extentsOf}
 use Rattle.polygons.specs.Flat.{shifted}
 use Rattle.polygons.specs.declared.extents.Extents.{Extents}
+use Rattle.geometry.specs.Pieces.{Standing, partsIn}
+use Rattle.geometry.specs.declared.pieces.Piece.{Piece}
 use Rattle.job.specs.View.{Viewed}
 use Rattle.job.specs.declared.View.{View}
 use Rattle.shapes.specs.Boxes.{boxAt, BoxesOf}
-use Rattle.shapes.specs.Pieces.{Fitting, partsIn}
+use Rattle.shapes.specs.Pieces.{turnedTo, Turnable}
 use Rattle.shapes.specs.Turned.{TurnedOf}
 use Rattle.shapes.specs.declared.boxes.Boxes.{Boxes}
-use Rattle.shapes.specs.declared.pieces.Piece.{Piece}
 use Rattle.nofit.specs.Patterns.{fromMiddle, aboveString, belowString, MeasuresOf}
 use Rattle.nofit.specs.declared.places.Nofit.{Nofit}
 use Rattle.nofit.specs.declared.patterns.Dot.{Dot}
@@ -35,25 +35,28 @@ use Rattle.nofit.specs.declared.patterns.Pattern.{Pattern}
 abbrev pub dotOf : ℕ → ℕ → Dot
 dotOf rows n = record { column = n / rows; row = n % rows }
 
--- The piece p is in conflict with the piece r, turned k quarter turns, at the offset of a dot.
-unfoldable pub conflictAtDot : List ℤ → Pattern → Piece → Piece → ℕ → Dot → Bool
-conflictAtDot table s p r k d =
-    piecesConflict (s .gap) (partsIn table p (s .turn))
-    (map (map (shifted (fromMiddle (s .step) (s .reach) (d .column)) (fromMiddle (s .step) (s .lift) (d .row)))) (partsIn table r k))
+-- The pieces p and r, as they stand turned, are in conflict at the offset of a dot.
+unfoldable pub conflictAtDot : List ℤ → Pattern → Piece → Piece → Dot → Bool
+conflictAtDot table s p r d =
+    piecesConflict (s .gap) (partsIn table p)
+    (map (map (shifted (fromMiddle (s .step) (s .reach) (d .column)) (fromMiddle (s .step) (s .lift) (d .row)))) (partsIn table r))
 
 -- Bit z is set: it is below the bound, or its dot is one of the string's and in conflict.
-unfoldable pub blockedAtDot : List ℤ → Pattern → Piece → Piece → ℕ → ℕ → Dot → Bool
-blockedAtDot table s p r k z d = ltb z (s .below) || (ltb (d .column) (s .reach * 2 + 1) && conflictAtDot table s p r k d)
+unfoldable pub blockedAtDot : List ℤ → Pattern → Piece → Piece → ℕ → Dot → Bool
+blockedAtDot table s p r z d = ltb z (s .below) || (ltb (d .column) (s .reach * 2 + 1) && conflictAtDot table s p r d)
 
 -- The same by the bit's number alone.
-unfoldable pub blockedBit : List ℤ → Pattern → Piece → Piece → ℕ → Bool
-blockedBit table s p r z =
+unfoldable pub blockedTurned : List ℤ → Pattern → Piece → Piece → ℕ → Bool
+blockedTurned table s p r z =
     ltb z (s .below)
-    || (leb 64 z && ltb ((z - 64) / 4 / s .rows) (s .reach * 2 + 1) && conflictAtDot table s p r (z % 4) (dotOf (s .rows) ((z - 64) / 4)))
+    || (leb 64 z && ltb ((z - 64) / 4 / s .rows) (s .reach * 2 + 1) && conflictAtDot table s p r (dotOf (s .rows) ((z - 64) / 4)))
 
--- What a string is filled from.
-pub record Ready (table : List ℤ) (s : Pattern) (p r : Piece) : Type 0 where
-  pub size : length table ≡ 4096
+-- The same with the other piece turned as the bit's number says.
+unfoldable pub blockedBit : List ℤ → Pattern → Piece → Piece → ℕ → Bool
+blockedBit table s p r z = blockedTurned table s p (turnedTo r (z % 4)) z
+
+-- The numbers of a pattern are small.
+pub record Ready (s : Pattern) : Type 0 where
   pub some : 1 ≤ s .rows
   pub few : s .rows ≤ 4000
   pub near : s .reach ≤ 4000
@@ -61,21 +64,17 @@ pub record Ready (table : List ℤ) (s : Pattern) (p r : Piece) : Type 0 where
   pub up : s .rows * s .step ≤ 2000
   pub lifted : s .lift ≤ s .rows
   pub bound : (s .below ≡ 0) ⊎ (64 ≤ s .below)
-  pub turn : s .turn < 4
-  pub first : Fitting p
-  pub second : Fitting r
-  pub corners : Vertexed (partsIn table p (s .turn))
-  pub others : (k : ℕ) → k < 4 → Vertexed (partsIn table r k)
 
--- The box of a piece, turned k quarter turns.
-abbrev pub BoxIn : List ℤ → Piece → ℕ → Extents → Type 0
-BoxIn table p k e = e ≡ extentsOf (concat (partsIn table p k))
+-- The piece stands in the table, and e is its box.
+pub record Boxed (table : List ℤ) (p : Piece) (e : Extents) : Type 0 where
+  pub stands : Standing table p
+  pub box : e ≡ extentsOf (concat (partsIn table p))
 
--- The boxes of the piece of kind u at all rotations.
+-- The piece of kind u stands in the table at all rotations, and these are its boxes.
 pub record BoxesIn (table : List ℤ) (r : Piece) (u : ℕ) (b : Boxes) : Type 0 where
-  pub size : length (b .of) ≡ 32
   pub kind : u < 8
-  pub exact : (k : ℕ) → k < 4 → BoxIn table r k (boxAt b u k)
+  pub turnable : Turnable table r
+  pub boxes : (k : ℕ) → k < 4 → boxAt b u k ≡ extentsOf (concat (partsIn table (turnedTo r k)))
 
 -- ---- words
 
@@ -123,7 +122,6 @@ patternOf v w x =
       reach = w .reach;
       lift = x .down * w .rows;
       below = boundOf w x;
-      turn = x .turn;
       mask = getD (v .rotations) (x .other) 0;
       gap = max (getD (v .gaps) (x .kind) 0) (getD (v .gaps) (x .other) 0);
     }

@@ -13,6 +13,7 @@ use job::View;
 use polygons::extents::Extents;
 use polygons::extents::join;
 use shapes::boxes::Boxes;
+use shapes::boxes::box_at;
 
 // The lowest rotation of a mask. (Only the speed turns on which one it is.)
 fn lowest_turn(mask: usize) -> usize
@@ -29,7 +30,7 @@ fn common_box(view: View, boxes: Boxes) -> Extents
     let masks = view.rotations;
     let of = boxes.of;
     let n = view.kinds * 4;
-    let mut e = of[lowest_turn(masks[0])];
+    let mut e = box_at(boxes, 0, lowest_turn(masks[0]));
     let mut i: usize = 0;
     while i < n {
         if words::bits::test_bit(masks[i / 4] as u64, (i % 4) as u64) {

@@ -7,21 +7,23 @@ ghost use Rattle.words.specs.Bits.{testBit, bitsWhere};
 ghost use Rattle.model.specs.Content.{kindAt};
 ghost use Rattle.model.specs.Format.{content};
 ghost use Rattle.job.specs.View.{Viewed};
-ghost use Rattle.shapes.specs.Boxes.{boxAt, BoxesOf};
+ghost use Rattle.shapes.specs.Boxes.{BoxesOf};
 ghost use Rattle.shapes.specs.Turned.{TurnedOf};
 ghost use Rattle.candidates.specs.Placements.{Bounded};
 ghost use Rattle.nofit.specs.Patterns.{fromMiddle, blocked, StringsOf, ParitiesOf, MeasuresOf, NofitOf};
-ghost use Rattle.nofit.specs.Filling.{dotOf, conflictAtDot, blockedAtDot, blockedBit, Ready, BoxIn, BoxesIn, TurnSet, FirstWord, WordSet, Written, allowed};
+ghost use Rattle.nofit.specs.Filling.{dotOf, conflictAtDot, blockedAtDot, blockedTurned, blockedBit, Ready, Boxed, BoxesIn, TurnSet, FirstWord, WordSet, Written, allowed};
 ghost use Rattle.nofit.specs.Filling.{PairOf, boundOf, patternOf, Small, Fillable, parityBits, ParitiesTo};
 use crate::places::Nofit;
 use candidates::conflicts::pair_gap;
 use geometry::pairs::axes_separate;
+use geometry::pieces::Piece;
+use geometry::pieces::pieces_conflict;
 use job::View;
 use polygons::extents::Extents;
 use shapes::boxes::Boxes;
-use shapes::pieces::Piece;
+use shapes::boxes::box_at;
 use shapes::pieces::piece_of;
-use shapes::pieces::pieces_conflict;
+use shapes::pieces::turned_to;
 use words::bits;
 use words::numbers;
 
@@ -32,14 +34,13 @@ pub struct Dot {
 }
 
 // What a string is made of: the step from dot to dot, the board's rows, how many columns pieces reach, how many rows under the placed piece's a column
-// begins (`lift`), the rotation of the placed piece, the rotations that the other one may have, their gap, and the number below which all is blocked.
+// begins (`lift`), the number below which all is blocked, the rotations that the other piece may have, and the gap of the two.
 pub struct Pattern {
     pub step: usize,
     pub rows: usize,
     pub reach: usize,
     pub lift: usize,
     pub below: usize,
-    pub turn: usize,
     pub mask: u64,
     pub gap: u16,
 }
@@ -60,7 +61,7 @@ fn away(step: usize, middle: usize, n: usize) -> i16
     ((n * step) as i16) - ((middle * step) as i16)
 }
 
-// Whether the pieces are in conflict at the offset of a dot. Boxes that are apart decide most dots.
+// Whether the pieces, as they stand turned, are in conflict at the offset of a dot. Boxes that are apart decide most dots.
 fn conflict_at(
     turned: &[i16],
     s: Pattern,
@@ -68,23 +69,21 @@ fn conflict_at(
     r: Piece,
     e: Extents,
     f: Extents,
-    k: usize,
     d: Dot,
 ) -> bool
-    requires { ⌜ Ready (now turned) s p r × (k < 4) ⌝ }
-    requires { ⌜ BoxIn (now turned) p (s .turn) e × BoxIn (now turned) r k f ⌝ }
+    requires { ⌜ Ready s × (Boxed (now turned) p e × Boxed (now turned) r f) ⌝ }
     requires { ⌜ (d .column < s .reach * 2 + 1) × (d .row < s .rows) ⌝ }
-    ensures { λ b. ⌜ b ≡ conflictAtDot (now (turned .entry)) s p r k d ⌝ }
+    ensures { λ b. ⌜ b ≡ conflictAtDot (now (turned .entry)) s p r d ⌝ }
 {
     let dx = away(s.step, s.reach, d.column);
     let dy = away(s.step, s.lift, d.row);
     if axes_separate(e, f, dx, dy, s.gap) {
         return false;
     }
-    pieces_conflict(turned, p, s.turn, r, k, dx, dy, s.gap)
+    pieces_conflict(turned, p, r, dx, dy, s.gap)
 }
 
-// Whether bit z of a string is set, which belongs to the dot d and the rotation k.
+// Whether bit z of a string is set, which belongs to the dot d and to the other piece as it stands turned.
 fn is_blocked(
     turned: &[i16],
     s: Pattern,
@@ -92,20 +91,18 @@ fn is_blocked(
     r: Piece,
     e: Extents,
     f: Extents,
-    k: usize,
     z: usize,
     d: Dot,
 ) -> bool
-    requires { ⌜ Ready (now turned) s p r × (k < 4) ⌝ }
-    requires { ⌜ BoxIn (now turned) p (s .turn) e × BoxIn (now turned) r k f ⌝ }
+    requires { ⌜ Ready s × (Boxed (now turned) p e × Boxed (now turned) r f) ⌝ }
     requires { ⌜ d .row < s .rows ⌝ }
-    ensures { λ b. ⌜ b ≡ blockedAtDot (now (turned .entry)) s p r k z d ⌝ }
+    ensures { λ b. ⌜ b ≡ blockedAtDot (now (turned .entry)) s p r z d ⌝ }
 {
     if z < s.below {
         return true;
     }
     if d.column < s.reach * 2 + 1 {
-        return conflict_at(turned, s, p, r, e, f, k, d);
+        return conflict_at(turned, s, p, r, e, f, d);
     }
     false
 }
@@ -139,16 +136,7 @@ fn next_dot(rows: usize, d: Dot, n: usize) -> Dot
     }
 }
 
-// The box of kind t, turned k quarter turns.
-fn box_of(boxes: Boxes, t: usize, k: usize) -> Extents
-    requires { ⌜ (t < 8) × (k < 4) ⌝ }
-    ensures { λ r. ⌜ r ≡ boxAt boxes t k ⌝ }
-{
-    let of = boxes.of;
-    of[t * 4 + k]
-}
-
-// The bits of one rotation k of the other piece, in a word behind the first one. The bits of the other rotations stay as they are in w.
+// The bits of one rotation k of the other piece, which stands turned so, in a word behind the first one. The bits of the other rotations stay as they are in w.
 fn turn_word(
     turned: &[i16],
     s: Pattern,
@@ -160,10 +148,9 @@ fn turn_word(
     word: usize,
     w: u64,
 ) -> u64
-    requires { ⌜ Ready (now turned) s p r × (k < 4) ⌝ }
-    requires { ⌜ BoxIn (now turned) p (s .turn) e × BoxIn (now turned) r k f ⌝ }
+    requires { ⌜ (Ready s × (k < 4)) × (Boxed (now turned) p e × Boxed (now turned) r f) ⌝ }
     requires { ⌜ (1 ≤ word) × (word ≤ 200) ⌝ }
-    ensures { λ v. ⌜ TurnSet k 16 (λ i. blockedBit (now (turned .entry)) s p r (word * 64 + i)) w v ⌝ }
+    ensures { λ v. ⌜ TurnSet k 16 (λ i. blockedTurned (now (turned .entry)) s p r (word * 64 + i)) w v ⌝ }
 {
     let first = (word - 1) * 16;
     let mut v = w;
@@ -171,7 +158,7 @@ fn turn_word(
     let mut n: usize = 0;
     while n < 16 {
         let i = n * 4 + k;
-        let on = is_blocked(turned, s, p, r, e, f, k, word * 64 + i, d);
+        let on = is_blocked(turned, s, p, r, e, f, word * 64 + i, d);
         v = bits::assign_bit(v, i as u64, on);
         d = next_dot(s.rows, d, first + n);
         n += 1;
@@ -197,8 +184,7 @@ fn string_word(
     u: usize,
     word: usize,
 ) -> u64
-    requires { ⌜ Ready (now turned) s p r × (word ≤ 200) ⌝ }
-    requires { ⌜ BoxIn (now turned) p (s .turn) e × BoxesIn (now turned) r u boxes ⌝ }
+    requires { ⌜ (Ready s × (word ≤ 200)) × (Boxed (now turned) p e × BoxesIn (now turned) r u boxes) ⌝ }
     ensures { λ v. ⌜ WordSet (allowed (s .mask)) (λ i. blockedBit (now (turned .entry)) s p r (word * 64 + i)) v ⌝ }
 {
     if word == 0 {
@@ -208,7 +194,17 @@ fn string_word(
     let mut k: usize = 0;
     while k < 4 {
         if bits::test_bit(s.mask, k as u64) {
-            v = turn_word(turned, s, p, r, e, box_of(boxes, u, k), k, word, v);
+            v = turn_word(
+                turned,
+                s,
+                p,
+                turned_to(r, k),
+                e,
+                box_at(boxes, u, k),
+                k,
+                word,
+                v,
+            );
         }
         k += 1;
     }
@@ -228,8 +224,7 @@ fn fill_string(
     size: usize,
     bits: &mut [u8],
 )
-    requires { ⌜ Ready (now turned) s p r × ((size ≤ 200) × (at ≤ 100000)) ⌝ }
-    requires { ⌜ BoxIn (now turned) p (s .turn) e × BoxesIn (now turned) r u boxes ⌝ }
+    requires { ⌜ (Ready s × ((size ≤ 200) × (at ≤ 100000))) × (Boxed (now turned) p e × BoxesIn (now turned) r u boxes) ⌝ }
     requires { ⌜ (at + size) * 8 ≤ length (now bits) ⌝ }
     ensures { λ _. ⌜ Written at size (allowed (s .mask)) (blockedBit (now (turned .entry)) s p r) (now (bits .entry)) (now (bits .exit)) ⌝ }
 {
@@ -266,7 +261,6 @@ fn pattern_of(view: View, nofit: Nofit, x: Pair) -> Pattern
         reach: nofit.reach,
         lift: x.down * nofit.rows,
         below: bound_of(nofit, x),
-        turn: x.turn,
         mask: masks[other] as u64,
         gap: pair_gap(view, x.kind, x.other),
     }
@@ -310,10 +304,10 @@ fn fill_pair(
     requires { ⌜ PairOf nofit i x × (i < nofit .held) ⌝ }
     ensures { λ _. ⌜ Written (nofit .first + i * nofit .size) (nofit .size) (allowed (kindAt (content (now (job .entry)) .kinds) (x .other) .rotations)) (blocked (content (now (job .entry))) nofit (x .kind) (x .turn) (x .other) (x .down)) (now (bits .entry)) (now (bits .exit)) ⌝ }
 {
-    let p = piece_of(job, view, x.kind);
+    let p = turned_to(piece_of(job, view, x.kind), x.turn);
     let r = piece_of(job, view, x.other);
     let s = pattern_of(view, nofit, x);
-    let e = box_of(boxes, x.kind, x.turn);
+    let e = box_at(boxes, x.kind, x.turn);
     let at = nofit.first + i * nofit.size;
     fill_string(turned, s, p, r, e, boxes, x.other, at, nofit.size, bits);
 }

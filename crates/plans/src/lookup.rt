@@ -16,7 +16,7 @@ use candidates::conflicts::Placed;
 use candidates::conflicts::larger_gap;
 use candidates::conflicts::placed_of;
 use candidates::placements;
-use shapes::pieces::Piece;
+use geometry::pieces::Piece;
 
 // The piece of a kind.
 pub fn piece_in(job: &[u8], plan: Plan, kind: usize) -> Piece
@@ -33,7 +33,7 @@ pub fn piece_in(job: &[u8], plan: Plan, kind: usize) -> Piece
         i += 1;
     }
     Piece {
-        first: kind * 96,
+        first: kind * 120,
         count: n,
         sizes,
     }

@@ -7,13 +7,13 @@ ghost use Rattle.model.specs.Format.{content};
 ghost use Rattle.model.specs.Search.{copiesLeft};
 ghost use Rattle.model.specs.Services.{workWords};
 ghost use Rattle.job.specs.View.{problemOf, Viewed};
+ghost use Rattle.geometry.specs.Pieces.{Fitting};
 ghost use Rattle.shapes.specs.Boxes.{BoxesOf};
-ghost use Rattle.shapes.specs.Pieces.{Fitting};
 ghost use Rattle.stepping.specs.Levels.{piecesFrom};
 ghost use Rattle.plans.specs.Planned.{KindsOf, CopiesOf, EndsOf, SizesOf, PlanOf};
+use geometry::pieces::Piece;
 use job::View;
 use shapes::boxes::Boxes;
-use shapes::pieces::Piece;
 use shapes::pieces::piece_of;
 
 // The board's rows and step; the margin, which says whose candidates the live sets hold (no function of the walk looks at it: it is the same in every length, so

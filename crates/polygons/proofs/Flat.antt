@@ -5,11 +5,10 @@ use Prim.Native.Nat.{ℕ, zero, suc, _+_, _*_, _/_, _<_}
 use native.Mathlib.Nat.{not-suc-le-zero, add-zero}
 use native.Mathlib.Omega.{arith}
 use lib.IntN.{ℤ, pos}
-use lib.ListN.{length, getD, set, take, drop}
-use lib.Seq.{drop-nil}
-use Rattle.model.specs.Content.{Vertex, vertex, Part}
+use lib.ListN.{length, getD}
+use Rattle.model.specs.Content.{vertex}
 use Rattle.model.specs.Geometry.{vertexAt}
-use Rattle.polygons.specs.Flat.{partOf, coordinateOf, withVertex}
+use Rattle.polygons.specs.Flat.{partOf, coordinateOf}
 
 -- two numbers a vertex
 pub part-length : (l : List ℤ) → length (partOf l) ≡ length l / 2
@@ -36,35 +35,3 @@ pub coordinate-at : (l : List ℤ) (k c : ℕ) → 2 * k + 1 < length l → c < 
 coordinate-at l k zero h g = ap (λ m. getD l m (pos 0)) (add-zero (2 * k)) ∙ sym (ap (λ v. v .x) (part-at l k h))
 coordinate-at l k (suc zero) h g = sym (ap (λ v. v .y) (part-at l k h))
 coordinate-at l k (suc (suc c)) h g = let never : ⊥ = omega arith in absurd never
-
--- ---- parts of a run
-
--- from vertex n on
-pub part-drop : (n : ℕ) (l : List ℤ) → partOf (drop (2 * n) l) ≡ drop n (partOf l)
-unfolding partOf
-part-drop zero l = refl
-part-drop (suc n) [] = ap partOf (drop-nil (2 * suc n))
-part-drop (suc n) (x ∷ []) = let e : 2 * suc n ≡ suc (suc (2 * n)) = omega arith in ap (λ m. partOf (drop m (x ∷ []))) e ∙ ap partOf (drop-nil (suc (2 * n))) ∙ sym (drop-nil (suc n))
-part-drop (suc n) (x ∷ y ∷ l) = let e : 2 * suc n ≡ suc (suc (2 * n)) = omega arith in ap (λ m. partOf (drop m (x ∷ y ∷ l))) e ∙ part-drop n l
-
--- up to vertex n
-pub part-take : (n : ℕ) (l : List ℤ) → partOf (take (2 * n) l) ≡ take n (partOf l)
-unfolding partOf
-part-take zero l = refl
-part-take (suc n) [] = let e : 2 * suc n ≡ suc (suc (2 * n)) = omega arith in ap (λ m. partOf (take m [])) e
-part-take (suc n) (x ∷ []) = let e : 2 * suc n ≡ suc (suc (2 * n)) = omega arith in ap (λ m. partOf (take m (x ∷ []))) e
-part-take (suc n) (x ∷ y ∷ l) =
-    let e : 2 * suc n ≡ suc (suc (2 * n)) = omega arith in ap (λ m. partOf (take m (x ∷ y ∷ l))) e ∙ ap (λ (vs : Part). vertex x y ∷ vs) (part-take n l)
-
--- Writing vertex k replaces it in the part.
-pub part-set : (l : List ℤ) (k : ℕ) (v : Vertex) → 2 * k + 1 < length l → partOf (withVertex l (2 * k) v) ≡ set (partOf l) k v
-unfolding partOf withVertex
-part-set [] k v h = absurd (not-suc-le-zero h)
-part-set (x ∷ []) k v h = let never : ⊥ = omega arith in absurd never
-part-set (x ∷ y ∷ l) zero v h = refl
-part-set (x ∷ y ∷ l) (suc k) v h =
-    let e : 2 * suc k ≡ suc (suc (2 * k)) = omega arith in
-    let f : 2 * suc k + 1 ≡ suc (suc (2 * k + 1)) = omega arith in
-    ap (λ m. partOf (set (set (x ∷ y ∷ l) m (v .x)) (2 * suc k + 1) (v .y))) e
-    ∙ ap (λ m. partOf (set (set (x ∷ y ∷ l) (suc (suc (2 * k))) (v .x)) m (v .y))) f
-    ∙ ap (λ (vs : Part). vertex x y ∷ vs) (part-set l k v (omega arith))

@@ -1,3 +1,2 @@
 pub mod Flat
 pub mod BoxLaws
-pub mod TurnLaws

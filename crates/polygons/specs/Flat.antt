@@ -1,8 +1,7 @@
 -- A part as a flat run of numbers: x and y of the first vertex, x and y of the second, and so on.
 use mathlib.Core.List.{List, [], _∷_}
-use Prim.Native.Nat.{ℕ, zero, suc, _+_}
+use Prim.Native.Nat.{ℕ, zero, suc}
 use lib.IntN.{ℤ}
-use lib.ListN.{set}
 use Rattle.model.specs.Content.{Vertex, vertex, Part}
 use Rattle.model.specs.Geometry.{Direction, vertexAt, following, outwardNormal}
 pub use Rattle.model.specs.Geometry.{shifted}
@@ -21,7 +20,3 @@ coordinateOf (suc c) v = v .y
 -- The outward normal of the edge from vertex k to the next one.
 unfoldable pub normalOf : Part → ℕ → Direction
 normalOf P k = outwardNormal (vertexAt P k) (vertexAt P (following P k))
-
--- The numbers with the vertex v written at i and i + 1.
-unfoldable pub withVertex : List ℤ → ℕ → Vertex → List ℤ
-withVertex l i v = set (set l i (v .x)) (i + 1) (v .y)

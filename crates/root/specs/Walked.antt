@@ -36,7 +36,7 @@ pub record Walked (j : Problem) (budget : ℕ) (work out work′ out′ : List �
   pub written : out′ ≡ withLayout (walkSpent j budget .held) out
   pub behind : drop (workWords j * 8) work′ ≡ drop (workWords j * 8) work
 
--- What a run computes once is the job's own: its view, turned vertices, boxes and plan, and the measures of its table of no-fit strings.
+-- What a run computes once is the job's own: its view, turned parts, boxes and plan, and the measures of its table of no-fit strings.
 pub record Computed (s : List ℕ) (v : View) (turned : List ℤ) (b : Boxes) (p : Plan) (w : Nofit) : Type 0 where
   pub viewed : Viewed s v
   pub table : TurnedOf s turned

@@ -22,12 +22,12 @@ use Rattle.job.specs.View.{problemOf, Viewed}
 use Rattle.job.specs.declared.View.{View}
 use Rattle.shapes.specs.Boxes.{BoxesOf}
 use Rattle.candidates.specs.Conflicts.{placedOf, conflictBetween}
+use Rattle.geometry.specs.declared.pieces.Piece.{Piece}
 use Rattle.shapes.specs.Pieces.{PieceOf}
 use Rattle.candidates.specs.Placements.{offered}
 use Rattle.rows.specs.Rows.{bitOf, wordOf}
 use Rattle.shapes.specs.Turned.{TurnedOf}
 use Rattle.shapes.specs.declared.boxes.Boxes.{Boxes}
-use Rattle.shapes.specs.declared.pieces.Piece.{Piece}
 use Rattle.candidates.proofs.PreparedLaws.{offered-is, numbers-conflict}
 
 -- ---- the words of a row, one after the other

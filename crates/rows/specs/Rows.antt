@@ -4,19 +4,18 @@ use mathlib.Core.List.{List}
 use mathlib.Core.Path.{_≡_}
 use Prim.Native.Nat.{ℕ, _+_, _*_, _<_}
 use lib.IntN.{ℤ}
-use lib.ListN.{length}
 use Rattle.words.specs.Bits.{bitsWhere}
 use Rattle.model.specs.Candidate.{isCandidate}
 use Rattle.model.specs.Content.{kindCount}
 use Rattle.model.specs.Format.{content}
 use Rattle.model.specs.Problem.{under}
 use Rattle.job.specs.declared.View.{View}
+use Rattle.geometry.specs.declared.pieces.Piece.{Piece}
 use Rattle.candidates.specs.Conflicts.{Near, placedOf, conflictBetween}
-use Rattle.shapes.specs.Pieces.{Fitting}
+use Rattle.shapes.specs.Pieces.{Turnable}
 use Rattle.candidates.specs.Placements.{Bounded, offered}
 use Rattle.shapes.specs.declared.boxes.Boxes.{Boxes}
 use Rattle.candidates.specs.declared.conflicts.Placed.{Placed}
-use Rattle.shapes.specs.declared.pieces.Piece.{Piece}
 
 -- "a bit is set where that type's candidate of that number exists and is in conflict"
 unfoldable pub bitOf : View → Boxes → List ℤ → Piece → Placed → Piece → ℕ → ℕ → ℕ → Bool
@@ -36,7 +35,6 @@ pub record RowAsked (s : List ℕ) (m t n u : ℕ) : Type 0 where
 pub record RowReady (v : View) (table : List ℤ) (p : Piece) (a : Placed) (q : Piece) (u : ℕ) : Type 0 where
   pub bounded : Bounded v
   pub kind : u < v .kinds
-  pub size : length table ≡ 4096
-  pub first : Fitting p
+  pub first : Turnable table p
   pub place : Near (v .step) a
-  pub second : Fitting q
+  pub second : Turnable table q

@@ -16,11 +16,11 @@ use candidates::conflicts::conflict_between;
 use candidates::conflicts::pair_gap;
 use candidates::conflicts::placed_of;
 use candidates::placements::is_candidate;
+use geometry::pieces::Piece;
 use job::View;
 use model::Written;
 use shapes::boxes::Boxes;
 use shapes::boxes::boxes_of;
-use shapes::pieces::Piece;
 use shapes::pieces::piece_of;
 use shapes::turned::turn_all;
 

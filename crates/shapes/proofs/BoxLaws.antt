@@ -1,19 +1,15 @@
 -- The box of a piece, part by part. Assumes nothing.
 use mathlib.Core.List.{List, map}
 use mathlib.Core.Path.{_≡_, sym, ap, _∙_}
-use Prim.Native.Nat.{ℕ, zero, suc, _+_, _*_, _≤_, _<_}
+use Prim.Native.Nat.{ℕ, zero, suc, _+_, _≤_, _<_}
 use native.Mathlib.Omega.{arith}
-use lib.IntN.{ℤ}
-use lib.ListN.{length, getD, take, drop, length-take, length-drop, length-append}
+use lib.ListN.{length, length-append}
 use Rattle.model.specs.Content.{Part}
 use Rattle.model.specs.Lists.{concat, rising, below}
 use Rattle.model.proofs.Box.{concat-one}
 use Rattle.model.proofs.Folds.{concat-more, map-below-more}
 use Rattle.polygons.specs.Boxes.{extentsOf, joined}
 use Rattle.polygons.proofs.BoxLaws.{extents-append}
-use Rattle.polygons.proofs.Flat.{part-length}
-use Rattle.shapes.specs.Pieces.{Fitting, partIn}
-use Rattle.shapes.specs.declared.pieces.Piece.{Piece}
 
 -- of parts that each have a vertex
 module _ (f : ℕ → Part) (n : ℕ) (some : (i : ℕ) → i < n → 0 < length (f i)) where
@@ -31,10 +27,3 @@ module _ (f : ℕ → Part) (n : ℕ) (some : (i : ℕ) → i < n → 0 < length
       ap (λ (Ps : List Part). extentsOf (concat Ps)) (map-below-more f i)
       ∙ ap extentsOf (concat-more (map f (below i)) (f i))
       ∙ extents-append (concat (map f (below i))) (f i) (concat-some i h (omega arith)) (some i g)
-
--- every part of a piece in the table has a vertex
-pub part-some : (table : List ℤ) (p : Piece) (k : ℕ) → Fitting p → k < 4 → length table ≡ 4096 → (i : ℕ) → i < p .count → 0 < length (partIn table p k i)
-unfolding partIn
-part-some table p k f h size i l =
-    let a : ℕ = k * 1024 + p .first + i * 16 in
-    omega (arith, f .least i l, f .short i l, f .few, f .within, part-length (take (getD (p .sizes) i 0 * 2) (drop a table)), length-take (getD (p .sizes) i 0 * 2) (drop a table), length-drop a table)

@@ -1,5 +1,5 @@
+pub mod QuarterTurns
 pub mod TurnLaws
 pub mod ViewLaws
 pub mod PieceLaws
 pub mod BoxLaws
-pub mod Apart

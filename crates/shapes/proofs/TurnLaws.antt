@@ -1,4 +1,4 @@
--- Turned vertices: the bytes of a vertex, and the table of turned vertices as it is written. Assumes nothing.
+-- Turned parts: the bytes of a vertex, and the table of turned parts as it is written. Assumes nothing.
 use mathlib.Core.List.{List, [], _∷_, _++_, map, map-append}
 use mathlib.Core.Logic.{_⊎_, inl, inr, ⊎-elim}
 use mathlib.Core.Path.{_≡_, refl, sym, ap, ap₂, subst, _∙_}
@@ -8,9 +8,9 @@ use native.Mathlib.Numerals.{add-one}
 use native.Mathlib.Omega.{arith}
 use borrow.Author.Count.{below-none, below-more}
 use lib.Dec.{lit<}
-use lib.IntN.{ℤ, natAbs}
-use lib.ListN.{length, getD, take, drop, set, length-append, length-map}
-use lib.Seq.{sets, sets-eq, take-at, drop-at, drop-append-le, length-take-le, drop-set-lt, drop-set-add, take-set-le, take-take}
+use lib.IntN.{ℤ, pos, natAbs}
+use lib.ListN.{length, getD, take, drop, set, length-append, length-map, List·getD-append}
+use lib.Seq.{sets, sets-eq, set-comm, take-at, take-nil, drop-at, drop-append-le, drop-drop, length-take-le, drop-set-lt, drop-set-add, take-set-le, take-take, getD-take, getD-drop}
 use mir.Syntax.{w8, w16}
 use mir.Val.{Fits, SFits, toZ, ofZ}
 use mir.ValLaws.{toZ-ofZ}
@@ -24,8 +24,10 @@ use Rattle.model.specs.Format.{byteAt, vertices, content}
 use Rattle.model.specs.Geometry.{rotated}
 use Rattle.model.proofs.Records.{length-vertices, byte-behind}
 use Rattle.words.proofs.Cases.{le-or-lt, eq-or-ne}
-use Rattle.polygons.specs.Flat.{partOf, withVertex}
-use Rattle.shapes.specs.Turned.{numbersOf, vertexIn, withPart, slot, Holds, Kept, PartTurned, KindTurned, TurnedOf}
+use Rattle.polygons.specs.Boxes.{extentsOf}
+use Rattle.polygons.specs.Flat.{partOf}
+use Rattle.polygons.specs.declared.extents.Extents.{Extents}
+use Rattle.shapes.specs.Turned.{numbersOf, vertexIn, withPart, sidesOf, withBox, slotOf, withSlot, slot, Holds, Kept, PartTurned, KindTurned, TurnedOf, withVertex}
 
 -- ---- coordinates
 
@@ -133,67 +135,143 @@ run-written l i vs h =
     ∙ ap (λ (r : List ℤ). take (length vs) (r ++ drop (i + length vs) l)) (drop-at (take i l) vs i n)
     ∙ take-at vs (drop (i + length vs) l) (length vs) refl
 
-pub held-written : (l : List ℤ) (k q : ℕ) (P : Part) → slot k q + length P * 2 ≤ length l → Holds (withPart l (slot k q) P) k q P
+-- a number written before a run is written
+set-before : (l : List ℤ) (i j : ℕ) (a : ℤ) (vs : List ℤ) → i < j → set (sets l j vs) i a ≡ sets (set l i a) j vs
+set-before l i j a [] h = refl
+set-before l i j a (v ∷ vs) h =
+    set-before (set l j v) i (suc j) a vs (omega arith) ∙ ap (λ (w : List ℤ). sets w (suc j) vs) (set-comm l j i v a (λ e. omega arith))
+
+-- a box as a run of four numbers
+box-run : (l : List ℤ) (to : ℕ) (e : Extents) → withBox l to e ≡ sets l to (sidesOf e)
+unfolding withBox
+box-run l to e =
+    let b : to + 1 ≡ suc to = omega arith in
+    let c : to + 2 ≡ suc (suc to) = omega arith in
+    let d : to + 3 ≡ suc (suc (suc to)) = omega arith in
+    rw (b, c, d)
+
+-- a box written before a run
+box-before : (l : List ℤ) (to : ℕ) (e : Extents) (ns : List ℤ) → sets (sets l (to + 4) ns) to (sidesOf e) ≡ sets l to (sidesOf e ++ ns)
+box-before l to e ns =
+    let f : to + 4 ≡ suc (suc (suc (suc to))) = omega arith in
+    let m : ℕ = suc (suc (suc (suc to))) in
+    ap (λ n. sets (sets l n ns) to (sidesOf e)) f
+    ∙ ap (λ (w : List ℤ). set (set (set w (suc to) (e .«max_x»)) (suc (suc to)) (e .«min_y»)) (suc (suc (suc to))) (e .«max_y»)) (set-before l to m (e .«min_x») ns (omega arith))
+    ∙ ap (λ (w : List ℤ). set (set w (suc (suc to)) (e .«min_y»)) (suc (suc (suc to))) (e .«max_y»)) (set-before (set l to (e .«min_x»)) (suc to) m (e .«max_x») ns (omega arith))
+    ∙ ap (λ (w : List ℤ). set w (suc (suc (suc to))) (e .«max_y»)) (set-before (set (set l to (e .«min_x»)) (suc to) (e .«max_x»)) (suc (suc to)) m (e .«min_y») ns (omega arith))
+    ∙ set-before (set (set (set l to (e .«min_x»)) (suc to) (e .«max_x»)) (suc (suc to)) (e .«min_y»)) (suc (suc (suc to))) m (e .«max_y») ns (omega arith)
+
+-- A part's vertices written, and then the box that they have before them: the part's slot is written.
+pub slot-written : (l : List ℤ) (to n : ℕ) (P : Part) → n ≡ length P → to + 4 + n * 2 ≤ length l
+    → withBox (withPart l (to + 4) P) to (extentsOf (partOf (take (n * 2) (drop (to + 4) (withPart l (to + 4) P))))) ≡ withSlot l to P
+unfolding slotOf
+slot-written l to n P e h =
+    let m : length (numbersOf P) ≡ n * 2 = omega (arith, length-numbers P) in
+    ap (λ (Q : Part). withBox (withPart l (to + 4) P) to (extentsOf Q))
+    (ap (λ k. partOf (take k (drop (to + 4) (withPart l (to + 4) P)))) (sym m)
+    ∙ ap partOf (run-written l (to + 4) (numbersOf P) (omega (arith, m)))
+    ∙ part-of-numbers P)
+    ∙ box-run (withPart l (to + 4) P) to (extentsOf P)
+    ∙ box-before l to (extentsOf P) (numbersOf P)
+
+length-slot : (P : Part) → length (slotOf P) ≡ 4 + length P * 2
+unfolding slotOf
+length-slot P = let h = length-numbers P in omega arith
+
+pub held-written : (l : List ℤ) (k q : ℕ) (P : Part) → slot k q + (4 + length P * 2) ≤ length l → Holds (withSlot l (slot k q) P) k q P
 held-written l k q P h =
-    ap (λ n. take n (drop (slot k q) (withPart l (slot k q) P))) (sym (length-numbers P))
-    ∙ run-written l (slot k q) (numbersOf P) (rw (length-numbers P) h)
+    ap (λ n. take n (drop (slot k q) (withSlot l (slot k q) P))) (sym (length-slot P))
+    ∙ run-written l (slot k q) (slotOf P) (rw (length-slot P) h)
 
 -- two slots share no number, unless they are the same one
-slots-apart : (k q i r : ℕ) → q < 48 → r < 48 → ((k ≡ i) → (q ≡ r) → ⊥) → (slot k q + 16 ≤ slot i r) ⊎ (slot i r + 16 ≤ slot k q)
+slots-apart : (k q i r : ℕ) → q < 48 → r < 48 → ((k ≡ i) → (q ≡ r) → ⊥) → (slot k q + 20 ≤ slot i r) ⊎ (slot i r + 20 ≤ slot k q)
 slots-apart k q i r hq hr ne = ⊎-elim (λ h. side (eq-or-ne k i) h) (λ h. inr (omega arith)) (le-or-lt k i)
   where
-    side : (k ≡ i) ⊎ (k ≡ i → ⊥) → k ≤ i → (slot k q + 16 ≤ slot i r) ⊎ (slot i r + 16 ≤ slot k q)
+    side : (k ≡ i) ⊎ (k ≡ i → ⊥) → k ≤ i → (slot k q + 20 ≤ slot i r) ⊎ (slot i r + 20 ≤ slot k q)
     side (inr d) h = inl (omega arith)
     side (inl e) h = ⊎-elim (λ g. below (eq-or-ne q r) g) (λ g. inr (omega arith)) (le-or-lt q r)
       where
-        below : (q ≡ r) ⊎ (q ≡ r → ⊥) → q ≤ r → (slot k q + 16 ≤ slot i r) ⊎ (slot i r + 16 ≤ slot k q)
+        below : (q ≡ r) ⊎ (q ≡ r → ⊥) → q ≤ r → (slot k q + 20 ≤ slot i r) ⊎ (slot i r + 20 ≤ slot k q)
         below (inl f) g = absurd (ne e f)
         below (inr d) g = inl (omega arith)
 
 -- a part written into one slot leaves the others as they were
-pub slot-kept : (l : List ℤ) (k q i r m : ℕ) (P : Part) → q < 48 → r < 48 → ((k ≡ i) → (q ≡ r) → ⊥) → length P ≤ 8 → m ≤ 16
-    → take m (drop (slot k q) (withPart l (slot i r) P)) ≡ take m (drop (slot k q) l)
-slot-kept l k q i r m P hq hr ne hp hm = run-kept l (slot i r) (numbersOf P) (slot k q) m (side (slots-apart k q i r hq hr ne))
+pub slot-kept : (l : List ℤ) (k q i r m : ℕ) (P : Part) → q < 48 → r < 48 → ((k ≡ i) → (q ≡ r) → ⊥) → length P ≤ 8 → m ≤ 20
+    → take m (drop (slot k q) (withSlot l (slot i r) P)) ≡ take m (drop (slot k q) l)
+slot-kept l k q i r m P hq hr ne hp hm = run-kept l (slot i r) (slotOf P) (slot k q) m (side (slots-apart k q i r hq hr ne))
   where
-    side : (slot k q + 16 ≤ slot i r) ⊎ (slot i r + 16 ≤ slot k q) → (slot i r + length (numbersOf P) ≤ slot k q) ⊎ (slot k q + m ≤ slot i r)
+    side : (slot k q + 20 ≤ slot i r) ⊎ (slot i r + 20 ≤ slot k q) → (slot i r + length (slotOf P) ≤ slot k q) ⊎ (slot k q + m ≤ slot i r)
     side (inl h) = inr (omega arith)
-    side (inr h) = inl (omega (arith, length-numbers P))
+    side (inr h) = inl (omega (arith, length-slot P))
+
+-- ---- what a slot holds
+
+module _ (table : List ℤ) (k q : ℕ) (P : Part) (h : Holds table k q P) where
+  -- the part
+  pub held-part : (at : ℕ) → at ≡ slot k q + 4 → partOf (take (length P * 2) (drop at table)) ≡ P
+  unfolding slotOf
+  held-part at e =
+      ap (λ n. partOf (take (length P * 2) (drop n table))) e
+      ∙ ap (λ (w : List ℤ). partOf (take (length P * 2) w)) (sym (drop-drop 4 (slot k q) table))
+      ∙ ap partOf (behind (length P * 2) (drop (slot k q) table))
+      ∙ ap (λ (w : List ℤ). partOf (drop 4 w)) h
+      ∙ part-of-numbers P
+    where
+      four : (n : ℕ) (w : List ℤ) → take n (drop 4 w) ≡ drop 4 (take (suc (suc (suc (suc n)))) w)
+      four n [] = take-nil n
+      four n (a ∷ []) = take-nil n
+      four n (a ∷ b ∷ []) = take-nil n
+      four n (a ∷ b ∷ c ∷ []) = take-nil n
+      four n (a ∷ b ∷ c ∷ d ∷ w) = refl
+
+      behind : (n : ℕ) (w : List ℤ) → take n (drop 4 w) ≡ drop 4 (take (4 + n) w)
+      behind n w = let e : suc (suc (suc (suc n))) ≡ 4 + n = omega arith in four n w ∙ ap (λ m. drop 4 (take m w)) e
+
+  -- number j of its box
+  pub held-side : (at j : ℕ) → at ≡ slot k q + j → j < 4 → getD table at (pos 0) ≡ getD (sidesOf (extentsOf P)) j (pos 0)
+  unfolding slotOf
+  held-side at j e l =
+      ap (λ n. getD table n (pos 0)) e
+      ∙ sym (getD-drop (slot k q) table j (pos 0))
+      ∙ sym (getD-take (4 + length P * 2) (drop (slot k q) table) j (pos 0) (omega arith))
+      ∙ ap (λ (w : List ℤ). getD w j (pos 0)) h
+      ∙ List·getD-append (sidesOf (extentsOf P)) (numbersOf P) (pos 0) j l
 
 -- ---- a part turned into its slots, one plane after the other
 
-pub record TurnedTo (P : Part) (q : ℕ) (old new : List ℤ) (k : ℕ) : Type 0 where
+pub record PlanesTurned (P : Part) (q : ℕ) (old new : List ℤ) (k : ℕ) : Type 0 where
   pub held : (i : ℕ) → i < k → Holds new i q (map (rotated i) P)
   pub kept : (r : ℕ) → r < 48 → (r ≡ q → ⊥) → Kept old new r
 
-pub turned-none : (P : Part) (q : ℕ) (old : List ℤ) → TurnedTo P q old old 0
+pub turned-none : (P : Part) (q : ℕ) (old : List ℤ) → PlanesTurned P q old old 0
 turned-none P q old = record { held = below-none _; kept = λ r h d k l. refl }
 
 module _ (P : Part) (q : ℕ) (few : length P ≤ 8) (small : q < 48) where
   rotated-length : (i : ℕ) → length (map (rotated i) P) ≡ length P
   rotated-length i = length-map P (rotated i)
 
-  pub turned-more : (old mid new : List ℤ) (k : ℕ) → length mid ≡ 4096 → k < 4 → TurnedTo P q old mid k → new ≡ withPart mid (slot k q) (map (rotated k) P)
-      → TurnedTo P q old new (k + 1)
+  pub turned-more : (old mid new : List ℤ) (k : ℕ) → length mid ≡ 4096 → k < 4 → PlanesTurned P q old mid k → new ≡ withSlot mid (slot k q) (map (rotated k) P)
+      → PlanesTurned P q old new (k + 1)
   turned-more old mid new k size h t e =
       let few-k : length (map (rotated k) P) ≤ 8 = rw (rotated-length k) few in
       record {
         held =
             below-more _ k
             (λ i l.
-            ap (λ (w : List ℤ). take (length (map (rotated i) P) * 2) (drop (slot i q) w)) e
-            ∙ slot-kept mid i q k q (length (map (rotated i) P) * 2) (map (rotated k) P) small small (λ p _. omega arith) few-k
+            ap (λ (w : List ℤ). take (4 + length (map (rotated i) P) * 2) (drop (slot i q) w)) e
+            ∙ slot-kept mid i q k q (4 + length (map (rotated i) P) * 2) (map (rotated k) P) small small (λ p _. omega arith) few-k
             (omega (arith, rotated-length i))
             ∙ t .held i l)
-            (ap (λ (w : List ℤ). take (length (map (rotated k) P) * 2) (drop (slot k q) w)) e
+            (ap (λ (w : List ℤ). take (4 + length (map (rotated k) P) * 2) (drop (slot k q) w)) e
             ∙ held-written mid k q (map (rotated k) P) (omega (arith, rotated-length k)));
         kept =
             λ r l d i g.
-            ap (λ (w : List ℤ). take 16 (drop (slot i r) w)) e
-            ∙ slot-kept mid i r k q 16 (map (rotated k) P) l small (λ _ p. d p) few-k (omega arith)
+            ap (λ (w : List ℤ). take 20 (drop (slot i r) w)) e
+            ∙ slot-kept mid i r k q 20 (map (rotated k) P) l small (λ _ p. d p) few-k (omega arith)
             ∙ t .kept r l d i g;
       }
 
-pub turned-all : (P : Part) (q : ℕ) (old new : List ℤ) (k : ℕ) → 4 ≤ k → TurnedTo P q old new k → PartTurned P q old new
+pub turned-all : (P : Part) (q : ℕ) (old new : List ℤ) (k : ℕ) → 4 ≤ k → PlanesTurned P q old new k → PartTurned P q old new
 turned-all P q old new k h t = record { held = λ i l. t .held i (omega arith); kept = t .kept }
 
 -- ---- all parts of a kind, one after the other
@@ -201,9 +279,9 @@ turned-all P q old new k h t = record { held = λ i l. t .held i (omega arith); 
 -- what a slot holds it holds as long as it is kept
 pub holds-kept : (old new : List ℤ) (k q : ℕ) (P : Part) → length P ≤ 8 → k < 4 → Kept old new q → Holds old k q P → Holds new k q P
 holds-kept old new k q P few h e held =
-    let narrow : (w : List ℤ) → take (length P * 2) (drop (slot k q) w) ≡ take (length P * 2) (take 16 (drop (slot k q) w)) =
-    λ w. sym (take-take (length P * 2) 16 (drop (slot k q) w) (omega arith)) in
-    narrow new ∙ ap (take (length P * 2)) (e k h) ∙ sym (narrow old) ∙ held
+    let narrow : (w : List ℤ) → take (4 + length P * 2) (drop (slot k q) w) ≡ take (4 + length P * 2) (take 20 (drop (slot k q) w)) =
+    λ w. sym (take-take (4 + length P * 2) 20 (drop (slot k q) w) (omega arith)) in
+    narrow new ∙ ap (take (4 + length P * 2)) (e k h) ∙ sym (narrow old) ∙ held
 
 module _ (s : List ℕ) (t : ℕ) where
   -- part i of the kind

@@ -1,15 +1,19 @@
-// The vertices of every part at each of the four quarter turns, computed once for a call.
+// Every part at each of the four quarter turns, its vertices and its box, computed once for a call.
 ghost use mathlib.Core.List.{map};
 ghost use mathlib.Core.Path.{_≡_};
 ghost use Prim.Native.Nat.{_+_, _*_, _≤_, _<_};
-ghost use lib.ListN.{length, drop};
+ghost use lib.ListN.{length, take, drop};
 ghost use Rattle.model.specs.Content.{kindCount};
 ghost use Rattle.model.specs.Format.{content, byteAt, vertices};
 ghost use Rattle.model.specs.Geometry.{rotated};
 ghost use Rattle.job.specs.View.{Viewed};
-ghost use Rattle.polygons.specs.Flat.{withVertex};
-ghost use Rattle.shapes.specs.Turned.{vertexIn, withPart, PartTurned, KindTurned, TurnedOf};
+ghost use Rattle.polygons.specs.Boxes.{extentsOf};
+ghost use Rattle.polygons.specs.Flat.{partOf};
+ghost use Rattle.shapes.specs.Turned.{vertexIn, withPart, withBox, withSlot, PartTurned, KindTurned, TurnedOf, withVertex};
+use crate::quarter_turns::put_rotated;
 use job::View;
+use polygons::extents::Extents;
+use polygons::extents::bounds;
 
 // The byte at i, as a number that can be counted with.
 pub fn byte(s: &[u8], i: usize) -> usize
@@ -33,7 +37,7 @@ fn turn_vertex(job: &[u8], from: usize, k: usize, turned: &mut [i16], to: usize)
 {
     let x = integers::signed_byte(job, from);
     let y = integers::signed_byte(job, from + 1);
-    polygons::put_rotated(turned, to, x, y, k);
+    put_rotated(turned, to, x, y, k);
 }
 
 // The n vertices whose bytes begin at `from`, turned k quarter turns, into the table from `to` on.
@@ -48,6 +52,41 @@ fn turn_vertices(job: &[u8], from: usize, n: usize, k: usize, turned: &mut [i16]
     }
 }
 
+// The box of the n vertices in the slot that begins at `at`.
+fn slot_bounds(turned: &[i16], at: usize, n: usize) -> Extents
+    requires { ⌜ (n ≤ 8) × ((at ≤ 4096) × (at + 4 + n * 2 ≤ length (now turned))) ⌝ }
+    ensures { λ r. ⌜ r ≡ extentsOf (partOf (take (n * 2) (drop (at + 4) (now (turned .entry))))) ⌝ }
+{
+    let from = at + 4;
+    let to = from + n * 2;
+    bounds(&turned[from..to])
+}
+
+// A box, into the table from `at` on.
+fn put_box(turned: &mut [i16], at: usize, e: Extents)
+    requires { ⌜ (at ≤ 4096) × (at + 4 ≤ length (now turned)) ⌝ }
+    ensures { λ _. ⌜ now (turned .exit) ≡ withBox (now (turned .entry)) at e ⌝ }
+{
+    let left = e.min_x;
+    let right = e.max_x;
+    let bottom = e.min_y;
+    let top = e.max_y;
+    turned[at] = left;
+    turned[at + 1] = right;
+    turned[at + 2] = bottom;
+    turned[at + 3] = top;
+}
+
+// A part of n vertices whose bytes begin at `from`, turned k quarter turns, into the slot that begins at `at`: first its vertices, then, in front of them, their box.
+fn turn_slot(job: &[u8], from: usize, n: usize, k: usize, turned: &mut [i16], at: usize)
+    requires { ⌜ ((k < 4) × (n ≤ 8)) × ((from + n * 2 ≤ length (now job)) × ((at ≤ 4096) × (at + 4 + n * 2 ≤ length (now turned)))) ⌝ }
+    ensures { λ _. ⌜ now (turned .exit) ≡ withSlot (now (turned .entry)) at (map (rotated k) (vertices n (drop from (now (job .entry))))) ⌝ }
+{
+    turn_vertices(job, from, n, k, turned, at + 4);
+    let e = slot_bounds(turned, at, n);
+    put_box(turned, at, e);
+}
+
 // A part of n vertices whose bytes begin at `from`, at all four rotations, into slot q of each plane.
 fn turn_part(job: &[u8], from: usize, n: usize, turned: &mut [i16], q: usize)
     requires { ⌜ ((n ≤ 8) × (q < 48)) × ((from + n * 2 ≤ length (now job)) × (length (now turned) ≡ 4096)) ⌝ }
@@ -55,7 +94,7 @@ fn turn_part(job: &[u8], from: usize, n: usize, turned: &mut [i16], q: usize)
 {
     let mut k: usize = 0;
     while k < 4 {
-        turn_vertices(job, from, n, k, turned, k * 1024 + q * 16);
+        turn_slot(job, from, n, k, turned, k * 1024 + q * 20);
         k += 1;
     }
 }

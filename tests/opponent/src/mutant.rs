@@ -79,6 +79,15 @@ pub const NAMES: &[&str] = &[
     "thirteen_after_eight",
     "thirteen_after_nine",
     "work_cleared_at_thirteen",
+    // Corners turned, and boxes taken, before pairs of parts are compared.
+    "corner_turned_once_more",
+    "corners_of_the_next_turn",
+    "one_turn_for_both",
+    "box_of_another_turn",
+    "box_of_the_first_part",
+    "boxes_without_the_gap",
+    "reach_of_a_later_corner",
+    "last_corner_not_asked",
     // The impostors that document 01 names.
     "stopped_at_once",
     "invented_steps",

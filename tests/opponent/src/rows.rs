@@ -91,11 +91,25 @@ impl<'a> Board<'a> {
         }
     }
 
+    /// The second piece of a pair. The mistakes: its corners are those of the turn after its own, or of the turn of
+    /// the first piece. Candidates and lengths are right.
+    fn second(&self, kind: usize, turn: usize, turn_of_first: usize) -> &Turned {
+        let turn = if mutant::is("corners_of_the_next_turn") {
+            (turn + 1) % 4
+        } else if mutant::is("one_turn_for_both") {
+            turn_of_first
+        } else {
+            turn
+        };
+        &self.turned[kind][turn]
+    }
+
     pub fn conflict(&self, kind: usize, number: usize, other: usize, at: usize) -> bool {
         let (a, b) = (place(self.job, number), place(self.job, at));
         let dx = (b.column as i32 - a.column as i32) * self.job.step;
         let dy = (b.row as i32 - a.row as i32) * self.job.step;
-        in_conflict(&self.turned[kind][a.turn], &self.turned[other][b.turn], dx, dy, self.pair_gap(kind, other))
+        let (one, two) = (&self.turned[kind][a.turn], self.second(other, b.turn, a.turn));
+        in_conflict(one, two, dx, dy, self.pair_gap(kind, other))
     }
 
     /// A pair test for each candidate of the other type. Gives the number of tests.
@@ -199,6 +213,7 @@ fn offset_table(board: &Board, kind: usize, turn: usize, other: usize, other_tur
     if !one.allowed || !two.allowed {
         return Vec::new();
     }
+    let two = board.second(other, other_turn, turn);
     let gap = board.pair_gap(kind, other);
     let mut table = vec![false; 4 * job.columns * job.rows];
     for columns in 1..2 * job.columns {

@@ -1,6 +1,6 @@
 -- `rows::fill_for` meets its contract. Assumes nothing.
 use mathlib.Core.List.{List, map}
-use mathlib.Core.Path.{_≡_, sym, ap, subst, _∙_}
+use mathlib.Core.Path.{sym, ap, subst, _∙_}
 use Prim.Native.Nat.{ℕ, _+_, _*_, _/_}
 use native.Mathlib.Omega.{arith}
 use denote.Ref.{now}
@@ -9,6 +9,7 @@ use Rattle.words.specs.Number.{filled}
 use Rattle.model.specs.Lists.{below}
 use Rattle.model.specs.Services.{withWords, rowBit, rowWords}
 use Rattle.job.specs.View.{problemOf}
+use Rattle.shapes.proofs.PieceLaws.{piece-turnable}
 use Rattle.candidates.specs.Conflicts.{Near}
 use Rattle.rows.specs.Rows.{wordOf}
 use Rattle.rows.proofs.AnswerLaws.{few-dots, word-count}
@@ -60,12 +61,11 @@ fill-requires c κs =
       record {
         bounded = b;
         kind = rw (x .view .kinds) (e .pre .0 .1 .other);
-        size = e .pre .0 .0 .turned .size;
-        first = first .piece-of .ensures .fitting;
+        first = piece-turnable s (now (e .args .turned)) (e .args .kind) (first .piece-of .result) (e .pre .0 .0 .turned) (first .piece-of .ensures) (e .pre .0 .1 .kind);
         place = subst (Near (v .step)) (sym (place .placed-of .ensures))
             (candidate-near v (e .args .boxes) (e .args .kind) (e .args .number) b
             (offered-is s v (e .args .boxes) x (e .pre .0 .0 .boxes) (e .args .kind) (e .pre .0 .1 .kind) (e .args .number) ∙ e .pre .0 .1 .candidate));
-        second = second .piece-of2 .ensures .fitting;
+        second = piece-turnable s (now (e .args .turned)) (e .args .other) (second .piece-of2 .result) (e .pre .0 .0 .turned) (second .piece-of2 .ensures) (e .pre .0 .1 .other);
       },
       (omega arith, rw (word-count s v x) (e .pre .1)),
     )

@@ -31,11 +31,8 @@ placed-of-requires c κs = search needs
 conflict-between-requires : tie.Need-conflict-between-requires
 conflict-between-requires c κs =
     let e = c .before .before .before in (
-      (
-        (e .pre .first, e .pre .place),
-        (e .pre .second, subst (Near (e .args .view .step)) (sym (c .placed-of .ensures)) (candidate-near (e .args .view) (e .args .boxes) (e .args .u) (e .args .m) (e .pre .bounded) (exists (c .before)))),
-      ),
-      e .pre .size,
+      (e .pre .first, e .pre .place),
+      (e .pre .second, subst (Near (e .args .view .step)) (sym (c .placed-of .ensures)) (candidate-near (e .args .view) (e .args .boxes) (e .args .u) (e .args .m) (e .pre .bounded) (exists (c .before)))),
     )
 
 returns-2 : tie.Need-returns-2

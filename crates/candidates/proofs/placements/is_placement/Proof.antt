@@ -1,6 +1,6 @@
 -- `candidates::placements::is_placement` meets its contract. Assumes nothing.
 use mathlib.Core.Bool.{true}
-use mathlib.Core.Path.{_≡_}
+use mathlib.Core.Path.{_≡_, ap, _∙_}
 use Prim.Native.Nat.{_<_}
 use native.Mathlib.Omega.{arith}
 use borrow.Author.Tests.{lt-ltb}
@@ -8,6 +8,7 @@ use lib.Dec.{ltb}
 use lib.ListN.{getD}
 use Rattle.words.specs.Bits.{testBit}
 use Rattle.candidates.specs.Placements.{fitsAt, placeable}
+use Rattle.polygons.specs.declared.extents.Extents.{Extents}
 use Rattle.shapes.specs.Boxes.{boxAt}
 use Rattle.candidates.proofs.PlacementLaws.{past-board, on-dots, turn-refused, turn-allowed, refused-turn, allowed}
 use borrow.Author.Needs.{needs}
@@ -49,29 +50,21 @@ returns-2 c =
     refused-turn (ltb (e .args .column) (e .args .view .columns)) (ltb (e .args .row) (e .args .view .rows)) _
     (fitsAt (e .args .view) (boxAt (e .args .boxes) (e .args .kind) (e .args .rotation)) (e .args .column) (e .args .row)) (turn-refused (getD (e .args .view .rotations) (e .args .kind) 0) (e .args .rotation) _ (e .pre .0 .rotations _ (e .pre .1)) (c .before .test-bit .ensures) (c .if2 .taken))
 
-mul-stays-on-board : tie.Need-mul-stays-on-board
-mul-stays-on-board c = search needs
-
-add-stays-on-board : tie.Need-add-stays-on-board
-add-stays-on-board c = omega (arith, turn (c .before))
-
-mul-stays-on-board-2 : tie.Need-mul-stays-on-board-2
-mul-stays-on-board-2 c = omega (arith, turn (c .before))
-
-array-copy-out-stays-on-board : tie.Need-array-copy-out-stays-on-board
-array-copy-out-stays-on-board c = omega (arith, turn (c .before))
+box-at-requires : tie.Need-box-at-requires
+box-at-requires c κs =
+    let e = c .before .before .before .before .before .before in
+    (omega (arith, e .pre .0 .kinds, e .pre .1), turn c .0)
 
 stays-on-board-requires : tie.Need-stays-on-board-requires
-stays-on-board-requires c κs =
-    let e = c .before .before .before .before .before .before .before .before in
-    (e .pre .0, dots (c .before .before .before .before .before))
+stays-on-board-requires c κs = (c .before .before .before .before .before .before .before .pre .0, dots (c .before .before .before .before))
 
 returns-3 : tie.Need-returns-3
 unfolding placeable
 returns-3 c =
-    let e = c .before .before .before .before .before .before .before .before .before in
-    let on = dots (c .before .before .before .before .before .before) in
-    allowed _ _ _ _ _ (lt-ltb _ _ (on .0)) (lt-ltb _ _ (on .1)) (turn (c .before .before .before) .1) (c .stays-on-board .ensures)
+    let e = c .before .before .before .before .before .before .before .before in
+    let on = dots (c .before .before .before .before .before) in
+    allowed _ _ _ _ _ (lt-ltb _ _ (on .0)) (lt-ltb _ _ (on .1)) (turn (c .before .before) .1)
+    (c .stays-on-board .ensures ∙ ap (λ (b : Extents). fitsAt (e .args .view) b (e .args .column) (e .args .row)) (c .before .box-at .ensures))
 
 pub is-placement-spec : {M : Type 1} → statement M
 is-placement-spec =
@@ -82,9 +75,6 @@ is-placement-spec =
     array-read-test-bit
     test-bit-requires
     returns-2
-    mul-stays-on-board
-    add-stays-on-board
-    mul-stays-on-board-2
-    array-copy-out-stays-on-board
+    box-at-requires
     stays-on-board-requires
     returns-3)

@@ -1,14 +1,16 @@
--- `geometry::edges::edges_separate` meets its contract: the outer loop has tried the edges before k, and none of their normals separates; the inner loop has found no vertex before i beyond
--- the limit. A vertex beyond it gives the direction up; when there is none, the direction separates and the label is left. Assumes nothing.
+-- `geometry::edges::edges_separate` meets its contract: the outer loop has tried the edges before k, and none of their normals separates. The edge's own vertex refutes a normal if q does not lie
+-- beyond it; otherwise the inner loop has found no vertex before i beyond the limit. A vertex beyond it gives the direction up; when there is none, the direction separates and the label is
+-- left. Assumes nothing.
 use mathlib.Core.Bool.{Bool, true, false}
 use mathlib.Core.List.{map}
+use mathlib.Core.Logic.{⊎-elim}
 use mathlib.Core.Path.{_≡_, refl, sym, _∙_, ap}
 use Prim.Native.Nat.{ℕ, _+_, _-_, _/_, _≤_, _<_, zero-le}
 use native.Mathlib.Omega.{arith}
 use borrow.Author.Count.{below-none, below-more}
 use borrow.Author.Needs.{sfits-of}
 use denote.Ref.{now}
-use lib.IntN.{ℤ, _-ℤ_}
+use lib.IntN.{ℤ, _+ℤ_, _-ℤ_}
 use lib.ListN.{length}
 use lib.Signed.{leZ, _≤ℤ_}
 use mir.Syntax.{w16, w32, w64}
@@ -18,20 +20,21 @@ use Rattle.integers.proofs.Machine.{read₂}
 use Rattle.integers.proofs.Order.{leZ-true, leZ-false}
 use Rattle.model.specs.Content.{Vertex, vertex, Part}
 use Rattle.model.specs.Geometry.{Direction, along, direction, vertexAt, outwardNormal, normals}
-use Rattle.model.specs.Lists.{any, largestZ}
+use Rattle.model.specs.Lists.{any, largestZ, smallestZ}
 use Rattle.polygons.specs.Flat.{partOf, normalOf}
-use Rattle.geometry.specs.Reach.{clears}
-use Rattle.geometry.proofs.EdgeLaws.{normal-at, Remaining, remaining-all, remaining-next, remaining-found, remaining-none, all-within, one-beyond}
 use Rattle.polygons.proofs.Flat.{part-length}
+use Rattle.geometry.specs.Clears.{leadOf, clears}
+use Rattle.geometry.proofs.EdgeLaws.{normal-at, Remaining, remaining-all, remaining-next, remaining-found, remaining-none, all-within, one-beyond, one-within, refuted, lead-across}
+use Rattle.geometry.proofs.Sizes.{ahead-fits, ahead-gives, behind-fits, behind-gives}
 use Rattle.geometry.proofs.edges.edges_separate.Statement.{statement}
 use Rattle.geometry.proofs.edges.edges_separate.Tie as tie
 
 abbrev Inv-loop : tie.InvT-loop
-Inv-loop p px py q qx qy gap n found₀ k m a b limit i₀ found i =
+Inv-loop p px py q qx qy gap n found₀ k m a b ahead limit i₀ found i =
     (i < n) × (found ≡ false) × ((j : ℕ) → j < i → along (direction (toZ w32 a) (toZ w32 b)) (vertexAt (partOf p) j) ≤ℤ toZ w64 limit)
 
 abbrev μ-loop : tie.MeasureT-loop
-μ-loop p px py q qx qy gap n found₀ k m a b limit i₀ found i = n - i
+μ-loop p px py q qx qy gap n found₀ k m a b ahead limit i₀ found i = n - i
 
 abbrev Inv-directions : tie.InvT-directions
 Inv-directions p px py q qx qy gap n found₀ k₀ found k =
@@ -43,21 +46,21 @@ abbrev μ-directions : tie.MeasureT-directions
 
 -- ---- what is known of one direction
 
--- the function's entry, the edge, the limit along its normal, and the test of a direction
-abbrev entry : tie.After-reach Inv-loop μ-loop Inv-directions μ-directions → tie.Start Inv-loop μ-loop Inv-directions μ-directions
-entry r = r .before .before .before .before .before .before
+-- the function's entry, the edge, its normal, and the test of a direction
+abbrev entry : tie.After-vertex-along Inv-loop μ-loop Inv-directions μ-directions → tie.Start Inv-loop μ-loop Inv-directions μ-directions
+entry v = v .before .before .before .before .before .before .before
 
-abbrev part : tie.After-reach Inv-loop μ-loop Inv-directions μ-directions → Part
-part r = partOf (now (entry r .args .p))
+abbrev first : tie.After-vertex-along Inv-loop μ-loop Inv-directions μ-directions → Part
+first v = partOf (now (entry v .args .p))
 
-abbrev edge : tie.After-reach Inv-loop μ-loop Inv-directions μ-directions → ℕ
-edge r = r .before .before .before .before .before .directions .k
+abbrev second : tie.After-vertex-along Inv-loop μ-loop Inv-directions μ-directions → Part
+second v = partOf (now (entry v .args .q))
 
-abbrev bearing : tie.After-reach Inv-loop μ-loop Inv-directions μ-directions → Direction
-bearing r = direction (toZ w32 (ofZ w32 (r .before .before .difference .result))) (toZ w32 (ofZ w32 (r .before .difference2 .result)))
+abbrev edge : tie.After-vertex-along Inv-loop μ-loop Inv-directions μ-directions → ℕ
+edge v = v .before .before .before .before .before .before .directions .k
 
-abbrev bound : tie.After-reach Inv-loop μ-loop Inv-directions μ-directions → ℤ
-bound r = toZ w64 (ofZ w64 (r .reach .result))
+abbrev bearing : tie.After-vertex-along Inv-loop μ-loop Inv-directions μ-directions → Direction
+bearing v = direction (toZ w32 (ofZ w32 (v .before .before .before .difference .result))) (toZ w32 (ofZ w32 (v .before .before .difference2 .result)))
 
 abbrev offset : tie.Start Inv-loop μ-loop Inv-directions μ-directions → Vertex
 offset e = vertex (toZ w16 (ofZ w16 (e .args .qx)) -ℤ toZ w16 (ofZ w16 (e .args .px))) (toZ w16 (ofZ w16 (e .args .qy)) -ℤ toZ w16 (ofZ w16 (e .args .py)))
@@ -65,22 +68,33 @@ offset e = vertex (toZ w16 (ofZ w16 (e .args .qx)) -ℤ toZ w16 (ofZ w16 (e .arg
 abbrev test : tie.Start Inv-loop μ-loop Inv-directions μ-directions → Direction → Bool
 test e = clears (e .args .gap) (partOf (now (e .args .p))) (partOf (now (e .args .q))) (offset e)
 
--- the direction is the edge's normal
-is-normal : (r : tie.After-reach Inv-loop μ-loop Inv-directions μ-directions) → bearing r ≡ normalOf (part r) (edge r)
-unfolding outwardNormal
-is-normal r =
-    (λ i. direction ((toZ-ofZ w32 (r .before .before .difference .result) (sfits-of (r .before .before .difference .ok)) ∙ r .before .before .difference .ensures) i)
-    ((toZ-ofZ w32 (r .before .difference2 .result) (sfits-of (r .before .difference2 .ok)) ∙ r .before .difference2 .ensures) i))
-    ∙ normal-at (part r) (edge r) (r .before .before .before .next-vertex .result) (r .before .before .before .next-vertex .ensures .0)
+-- the numbers that are compared: vertex k, the furthest, the lead, and the least of q
+abbrev near : tie.After-vertex-along Inv-loop μ-loop Inv-directions μ-directions → ℤ
+near v = along (bearing v) (vertexAt (first v) (edge v))
 
--- so whether all vertices stay within the limit is whether it separates
-verdict : (r : tie.After-reach Inv-loop μ-loop Inv-directions μ-directions) (b : Bool) → leZ (largestZ (map (along (bearing r)) (part r))) (bound r) ≡ b
-    → test (entry r) (normalOf (part r) (edge r)) ≡ b
+abbrev far : tie.After-vertex-along Inv-loop μ-loop Inv-directions μ-directions → ℤ
+far v = largestZ (map (along (bearing v)) (first v))
+
+abbrev ahead : tie.After-vertex-along Inv-loop μ-loop Inv-directions μ-directions → ℤ
+ahead v = leadOf (entry v .args .gap) (offset (entry v)) (bearing v)
+
+abbrev low : tie.After-vertex-along Inv-loop μ-loop Inv-directions μ-directions → ℤ
+low v = smallestZ (map (along (bearing v)) (second v))
+
+-- the direction is the edge's normal
+is-normal : (v : tie.After-vertex-along Inv-loop μ-loop Inv-directions μ-directions) → bearing v ≡ normalOf (first v) (edge v)
+unfolding outwardNormal
+is-normal v =
+    let b = v .before .before in
+    let a = b .before in
+    (λ i. direction ((toZ-ofZ w32 (a .difference .result) (sfits-of (a .difference .ok)) ∙ a .difference .ensures) i)
+    ((toZ-ofZ w32 (b .difference2 .result) (sfits-of (b .difference2 .ok)) ∙ b .difference2 .ensures) i))
+    ∙ normal-at (first v) (edge v) (a .before .next-vertex .result) (a .before .next-vertex .ensures .0)
+
+-- so the furthest and the lead against the least is the test
+verdict : (v : tie.After-vertex-along Inv-loop μ-loop Inv-directions μ-directions) (b : Bool) → leZ (far v +ℤ ahead v) (low v) ≡ b → test (entry v) (normalOf (first v) (edge v)) ≡ b
 unfolding clears
-verdict r b e =
-    ap (test (entry r)) (sym (is-normal r))
-    ∙ ap (leZ (largestZ (map (along (bearing r)) (part r)))) (sym (toZ-ofZ w64 (r .reach .result) (sfits-of (r .reach .ok)) ∙ r .reach .ensures))
-    ∙ e
+verdict v b e = ap (test (entry v)) (sym (is-normal v)) ∙ e
 
 -- the offset, free of the bits of the parameters
 is-offset : (e : tie.Start Inv-loop μ-loop Inv-directions μ-directions) → offset e ≡ vertex (e .args .qx -ℤ e .args .px) (e .args .qy -ℤ e .args .py)
@@ -92,17 +106,38 @@ answer : (e : tie.Start Inv-loop μ-loop Inv-directions μ-directions) (b : Bool
     → b ≡ any (clears (e .args .gap) (partOf (now (e .args .p))) (partOf (now (e .args .q))) (vertex (e .args .qx -ℤ e .args .px) (e .args .qy -ℤ e .args .py))) (normals (partOf (now (e .args .p))))
 answer e b h = sym h ∙ ap (λ v. any (clears (e .args .gap) (partOf (now (e .args .p))) (partOf (now (e .args .q))) v) (normals (partOf (now (e .args .p))))) (is-offset e)
 
+-- q against vertex k, which lies no further than the furthest
+nearby : (c : tie.After-lies-beyond Inv-loop μ-loop Inv-directions μ-directions) → c .lies-beyond .result ≡ leZ (near (c .before) +ℤ ahead (c .before)) (low (c .before))
+nearby c =
+    let v = c .before in
+    c .lies-beyond .ensures ∙ ap (λ z. leZ z (low v)) (ahead-gives (v .vertex-along .ensures) (v .before .lead .ensures))
+
+within : (v : tie.After-vertex-along Inv-loop μ-loop Inv-directions μ-directions) → near v ≤ℤ far v
+within v =
+    let n = part-length (now (entry v .args .p)) in
+    one-within (along (bearing v)) (first v) (edge v) (omega arith)
+
+-- the limit, and the furthest against it
+abbrev bound : tie.After-lowest Inv-loop μ-loop Inv-directions μ-directions → ℤ
+bound l = toZ w64 (ofZ w64 (toZ w64 (ofZ w64 (l .lowest .result)) -ℤ toZ w64 (ofZ w64 (l .before .before .before .before .lead .result))))
+
+limited : (l : tie.After-lowest Inv-loop μ-loop Inv-directions μ-directions) (b : Bool) → leZ (far (l .before .before .before)) (bound l) ≡ b
+    → leZ (far (l .before .before .before) +ℤ ahead (l .before .before .before)) (low (l .before .before .before)) ≡ b
+limited l b e =
+    let v = l .before .before .before in
+    sym (lead-across (far v) (ahead v) (low v)) ∙ ap (leZ (far v)) (sym (behind-gives (l .lowest .ensures) (v .before .lead .ensures))) ∙ e
+
 -- where the vertex lies along it
-reached : (v : tie.After-vertex-along Inv-loop μ-loop Inv-directions μ-directions)
-    → toZ w64 (ofZ w64 (v .vertex-along .result)) ≡ along (bearing (v .before .before)) (vertexAt (part (v .before .before)) (v .before .loop .i))
-reached v = toZ-ofZ w64 (v .vertex-along .result) (sfits-of (v .vertex-along .ok)) ∙ v .vertex-along .ensures .value
+reached : (v : tie.After-vertex-along2 Inv-loop μ-loop Inv-directions μ-directions)
+    → toZ w64 (ofZ w64 (v .vertex-along2 .result)) ≡ along (bearing (v .before .before .before .before .before)) (vertexAt (first (v .before .before .before .before .before)) (v .before .loop .i))
+reached v = toZ-ofZ w64 (v .vertex-along2 .result) (sfits-of (v .vertex-along2 .ok)) ∙ v .vertex-along2 .ensures .value
 
 -- the vertex stays within the limit, and so do all up to it
-kept : (t : tie.Then1 Inv-loop μ-loop Inv-directions μ-directions) (j : ℕ) → j < t .before .before .loop .i + 1
-    → along (bearing (t .before .before .before)) (vertexAt (part (t .before .before .before)) j) ≤ℤ bound (t .before .before .before)
+kept : (t : tie.Then2 Inv-loop μ-loop Inv-directions μ-directions) (j : ℕ) → j < t .before .before .loop .i + 1
+    → along (bearing (t .before .before .before .before .before .before)) (vertexAt (first (t .before .before .before .before .before .before)) j) ≤ℤ bound (t .before .before .before)
 kept t =
     below-more _ _ (t .before .before .loop .inv .2)
-    (leZ-true _ _ (ap (λ s. leZ s (bound (t .before .before .before))) (sym (reached (t .before))) ∙ t .if1 .taken))
+    (leZ-true _ _ (ap (λ s. leZ s (bound (t .before .before .before))) (sym (reached (t .before))) ∙ t .if2 .taken))
 
 -- ---- the needs
 
@@ -118,14 +153,29 @@ difference-requires c κs = (c .next-vertex .ensures .1, omega arith, omega arit
 difference-requires-2 : tie.Need-difference-requires-2 Inv-loop μ-loop Inv-directions μ-directions
 difference-requires-2 c κs = (omega arith, c .before .next-vertex .ensures .1, omega arith)
 
-reach-requires : tie.Need-reach-requires Inv-loop μ-loop Inv-directions μ-directions
-reach-requires c κs = tt
-
-loop-holds : tie.Need-loop-holds Inv-loop μ-loop Inv-directions μ-directions
-loop-holds c = (omega arith, c .before .before .before .before .before .directions .inv .2, below-none _)
+lead-requires : tie.Need-lead-requires Inv-loop μ-loop Inv-directions μ-directions
+lead-requires c κs = tt
 
 vertex-along-requires : tie.Need-vertex-along-requires Inv-loop μ-loop Inv-directions μ-directions
 vertex-along-requires c κs = omega arith
+
+add-lies-beyond : tie.Need-add-lies-beyond Inv-loop μ-loop Inv-directions μ-directions
+add-lies-beyond c = ahead-fits (c .vertex-along .ensures) (c .before .lead .ensures)
+
+lies-beyond-requires : tie.Need-lies-beyond-requires Inv-loop μ-loop Inv-directions μ-directions
+lies-beyond-requires c κs = tt
+
+lowest-requires : tie.Need-lowest-requires Inv-loop μ-loop Inv-directions μ-directions
+lowest-requires c κs = tt
+
+sub-limit : tie.Need-sub-limit Inv-loop μ-loop Inv-directions μ-directions
+sub-limit c = behind-fits (c .lowest .ensures) (c .before .before .before .before .lead .ensures)
+
+loop-holds : tie.Need-loop-holds Inv-loop μ-loop Inv-directions μ-directions
+loop-holds c = (omega arith, c .before .before .before .before .before .before .before .before .before .directions .inv .2, below-none _)
+
+vertex-along-requires-2 : tie.Need-vertex-along-requires-2 Inv-loop μ-loop Inv-directions μ-directions
+vertex-along-requires-2 c κs = omega arith
 
 add-i : tie.Need-add-i Inv-loop μ-loop Inv-directions μ-directions
 add-i c = omega arith
@@ -142,18 +192,34 @@ add-k c = omega arith
 directions-less : tie.Need-directions-less Inv-loop μ-loop Inv-directions μ-directions
 directions-less c = omega arith
 
+-- the direction does not separate
+next : (v : tie.After-vertex-along Inv-loop μ-loop Inv-directions μ-directions) → leZ (far v +ℤ ahead v) (low v) ≡ false → Remaining (test (entry v)) (first v) (edge v + 1)
+next v e =
+    let n = part-length (now (entry v .args .p)) in
+    remaining-next (test (entry v)) (first v) (edge v) (omega arith) (verdict v false e) (v .before .before .before .before .before .before .directions .inv .3)
+
 directions-again : tie.Need-directions-again Inv-loop μ-loop Inv-directions μ-directions
 directions-again c =
-    let r = c .before .before .before in
-    let n = part-length (now (entry r .args .p)) in
-    let beyond = leZ-false _ _ (ap (λ s. leZ s (bound r)) (sym (reached (c .before))) ∙ c .if1 .left) in (
+    let v = c .before .before in
+    let more = v .before .before .before .before .before .directions-test .taken in
+    ⊎-elim
+    (λ w.
+    let l : tie.After-lowest Inv-loop μ-loop Inv-directions μ-directions = record { before = record { before = c .before; if1 = w .0 }; lowest = w .1 } in
+    let r : tie.After-vertex-along2 Inv-loop μ-loop Inv-directions μ-directions = record { before = record { before = l; loop = w .2 }; vertex-along2 = w .3 } in
+    let n = part-length (now (entry v .args .p)) in
+    let beyond = leZ-false _ _ (ap (λ s. leZ s (bound l)) (sym (reached r)) ∙ w .4 .left) in (
       refl,
-      omega arith,
-      c .before .before .loop .inv .1,
-      remaining-next (test (entry r)) (part r) (edge r) (omega arith)
-          (verdict r false (one-beyond (along (bearing r)) (part r) (bound r) (c .before .before .loop .i) (omega arith) beyond))
-          (r .before .before .before .before .before .directions .inv .3),
-    )
+      omega (arith, more, v .before .before .before .before .before .before .directions .inv .0),
+      w .5 ∙ w .2 .inv .1,
+      next v (limited l false (one-beyond (along (bearing v)) (first v) (bound l) (w .2 .i) (omega (arith, w .2 .inv .0)) beyond)),
+    ))
+    (λ w. (
+      refl,
+      omega (arith, more, v .before .before .before .before .before .before .directions .inv .0),
+      w .1 ∙ v .before .before .before .before .before .before .directions .inv .2,
+      next v (refuted (near v) (far v) (ahead v) (low v) (within v) (sym (nearby (c .before)) ∙ w .0 .left)),
+    ))
+    (c .if1 .came)
 
 returns : tie.Need-returns Inv-loop μ-loop Inv-directions μ-directions
 returns c =
@@ -163,12 +229,13 @@ returns c =
 
 returns-2 : tie.Need-returns-2 Inv-loop μ-loop Inv-directions μ-directions
 returns-2 c =
-    let r = c .before .before .before .before in
-    let n = part-length (now (entry r .args .p)) in
-    answer (entry r) true
-    (remaining-found (test (entry r)) (part r) (edge r) (omega arith)
-    (verdict r true (all-within (along (bearing r)) (part r) (bound r) (omega arith) (λ j h. kept (c .before) j (omega arith))))
-    (r .before .before .before .before .before .directions .inv .3))
+    let l = c .before .before .before .before in
+    let v = l .before .before .before in
+    let n = part-length (now (entry v .args .p)) in
+    answer (entry v) true
+    (remaining-found (test (entry v)) (first v) (edge v) (omega arith)
+    (verdict v true (limited l true (all-within (along (bearing v)) (first v) (bound l) (omega arith) (λ j h. kept (c .before) j (omega arith)))))
+    (v .before .before .before .before .before .before .directions .inv .3))
 
 pub edges-separate-spec : {M : Type 1} → statement M
 edges-separate-spec =
@@ -182,9 +249,14 @@ edges-separate-spec =
     next-vertex-requires
     difference-requires
     difference-requires-2
-    reach-requires
-    loop-holds
+    lead-requires
     vertex-along-requires
+    add-lies-beyond
+    lies-beyond-requires
+    lowest-requires
+    sub-limit
+    loop-holds
+    vertex-along-requires-2
     add-i
     loop-less
     loop-again

@@ -4,6 +4,7 @@ use denote.Ref.{now}
 use Rattle.candidates.specs.Conflicts.{Near, placed, conflictBetween}
 use Rattle.candidates.proofs.PreparedLaws.{gap-is}
 use Rattle.candidates.proofs.PreparedLaws.{bounded, conflict-is}
+use Rattle.shapes.proofs.PieceLaws.{piece-turnable}
 use Rattle.layouts.specs.Entries.{asEntry}
 use Rattle.layouts.proofs.ClearanceLaws.{of-kind, of-view, turned-once, near}
 use borrow.Author.Needs.{needs}
@@ -45,12 +46,12 @@ conflict-between-requires c κs =
     let e = c .before .before .before .before .before .before in
     let x = e .pre .0 .0 in
     let s = now (e .args .job) in
-    let v = e .args .view in (
-      (
-        (c .before .before .before .before .piece-of .ensures .fitting, subst (Near (v .step)) (sym (c .before .place-of .ensures)) (near s v x (asEntry (e .args .e)) (e .pre .1 .0))),
-        (c .before .before .before .piece-of2 .ensures .fitting, subst (Near (v .step)) (sym (c .place-of2 .ensures)) (near s v x (asEntry (e .args .f)) (e .pre .1 .1))),
-      ),
-      e .pre .0 .1 .size,
+    let v = e .args .view in
+    let t = now (e .args .turned) in
+    let first = c .before .before .before .before in
+    let second = c .before .before .before in (
+      (piece-turnable s t (e .args .e .kind) (first .piece-of .result) (e .pre .0 .1) (first .piece-of .ensures) (of-kind s v x (asEntry (e .args .e)) (e .pre .1 .0)), subst (Near (v .step)) (sym (c .before .place-of .ensures)) (near s v x (asEntry (e .args .e)) (e .pre .1 .0))),
+      (piece-turnable s t (e .args .f .kind) (second .piece-of2 .result) (e .pre .0 .1) (second .piece-of2 .ensures) (of-kind s v x (asEntry (e .args .f)) (e .pre .1 .1)), subst (Near (v .step)) (sym (c .place-of2 .ensures)) (near s v x (asEntry (e .args .f)) (e .pre .1 .1))),
     )
 
 returns : tie.Need-returns

@@ -3,6 +3,7 @@ use mathlib.Core.Path.{sym, ap₂, _∙_, subst}
 use Prim.Native.Nat.{_<_}
 use Rattle.model.specs.Content.{kindCount}
 use Rattle.model.specs.Format.{content}
+use Rattle.shapes.proofs.PieceLaws.{piece-turnable}
 use Rattle.candidates.specs.Conflicts.{Near, conflictBetween}
 use Rattle.candidates.specs.declared.conflicts.Placed.{Placed}
 use Rattle.plans.proofs.PlanLaws.{candidate-kind, near}
@@ -36,7 +37,12 @@ pair-gap-requires c κs = (c .before .before .before .pre .0 .0, first (c .befor
 
 conflict-between-requires : tie.Need-conflict-between-requires
 conflict-between-requires c κs =
-    (((c .before .before .piece-in .ensures .fitting, from-near (c .before .before .before .before)), (c .before .piece-in2 .ensures .fitting, place-near (c .before .before .before .before))), c .before .before .before .before .pre .0 .1 .size)
+    let s = c .before .before .before .before in
+    let p = c .before .before .piece-in in
+    let q = c .before .piece-in2 in (
+      (piece-turnable (s .args .job .now) (s .args .turned .now) (s .args .t) (p .result) (s .pre .0 .1) (p .ensures) (first s), from-near s),
+      (piece-turnable (s .args .job .now) (s .args .turned .now) (s .args .u) (q .result) (s .pre .0 .1) (q .ensures) (second s), place-near s),
+    )
 
 returns : tie.Need-returns
 returns c =

@@ -25,11 +25,8 @@ array-read-lowest-turn c = search needs
 lowest-turn-requires : tie.Need-lowest-turn-requires Inv-loop μ-loop
 lowest-turn-requires c κs = search needs
 
-mul-e : tie.Need-mul-e Inv-loop μ-loop
-mul-e c = search needs
-
-array-copy-out-e : tie.Need-array-copy-out-e Inv-loop μ-loop
-array-copy-out-e c = search needs
+box-at-requires : tie.Need-box-at-requires Inv-loop μ-loop
+box-at-requires c κs = search needs
 
 loop-holds : tie.Need-loop-holds Inv-loop μ-loop
 loop-holds c = (omega arith, below-none _)
@@ -82,8 +79,7 @@ common-box-spec =
     mul-n
     array-read-lowest-turn
     lowest-turn-requires
-    mul-e
-    array-copy-out-e
+    box-at-requires
     loop-holds
     mul-test-bit
     array-read-test-bit

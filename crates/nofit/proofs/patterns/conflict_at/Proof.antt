@@ -12,8 +12,9 @@ use Rattle.model.specs.Content.{Part}
 use Rattle.model.specs.Geometry.{piecesConflict}
 use Rattle.polygons.specs.Flat.{shifted}
 use Rattle.geometry.specs.Apart.{boxesApart}
-use Rattle.shapes.specs.Pieces.{partsIn}
-use Rattle.shapes.proofs.Apart.{boxes-apart}
+use Rattle.geometry.specs.Pieces.{partsIn}
+use Rattle.geometry.proofs.BoxesApart.{boxes-apart}
+use Rattle.geometry.proofs.PieceLaws.{standing-vertexed}
 use Rattle.nofit.specs.Patterns.{fromMiddle}
 use Rattle.nofit.specs.Filling.{conflictAtDot}
 use Rattle.nofit.proofs.FillingLaws.{twice-middle, no-further}
@@ -29,21 +30,21 @@ abbrev up : (e : tie.Start) → ℤ
 up e = fromMiddle (e .args .s .step) (e .args .s .lift) (e .args .d .row)
 
 abbrev placed : (e : tie.Start) → List Part
-placed e = partsIn (now (e .args .turned)) (e .args .p) (e .args .s .turn)
+placed e = partsIn (now (e .args .turned)) (e .args .p)
 
 abbrev other : (e : tie.Start) → List Part
-other e = partsIn (now (e .args .turned)) (e .args .r) (e .args .k)
+other e = partsIn (now (e .args .turned)) (e .args .r)
 
 away-requires : tie.Need-away-requires
 away-requires c κs =
     let s = c .args .s in
-    (twice-middle (c .args .d .column) (s .reach) (s .step) (c .pre .1 .1 .0) (c .pre .0 .0 .across), c .pre .0 .0 .across)
+    (twice-middle (c .args .d .column) (s .reach) (s .step) (c .pre .1 .0) (c .pre .0 .0 .across), c .pre .0 .0 .across)
 
 away-requires-2 : tie.Need-away-requires-2
 away-requires-2 c κs =
     let s = c .before .args .s in
     let ready = c .before .pre .0 .0 in
-    (omega (arith, no-further (c .before .args .d .row) (s .rows) (s .step) (omega (arith, c .before .pre .1 .1 .1)) (ready .up)), no-further (s .lift) (s .rows) (s .step) (ready .lifted) (ready .up))
+    (omega (arith, no-further (c .before .args .d .row) (s .rows) (s .step) (omega (arith, c .before .pre .1 .1)) (ready .up)), no-further (s .lift) (s .rows) (s .step) (ready .lifted) (ready .up))
 
 -- what the two calls give
 along-is : (c : tie.After-away) → toZ w16 (ofZ w16 (c .away .result)) ≡ along (c .before)
@@ -58,9 +59,13 @@ axes-separate-requires c κs = search needs
 returns : tie.Need-returns
 unfolding conflictAtDot
 returns c =
-    let e = c .before .before .before .before .pre in
-    sym (boxes-apart (c .before .before .before .before .args .s .gap) (placed (c .before .before .before .before)) (other (c .before .before .before .before)) (along (c .before .before .before .before)) (up (c .before .before .before .before)) (e .0 .0 .corners) (e .0 .0 .others (c .before .before .before .before .args .k) (e .0 .1))
-    ((λ j. boxesApart (c .before .before .before .before .args .s .gap) (sym (e .1 .0 .0) j) (sym (e .1 .0 .1) j) (sym (along-is (c .before .before .before)) j) (sym (up-is (c .before .before)) j)) ∙ sym (c .before .axes-separate .ensures) ∙ c .if1 .taken))
+    let second = c .before .before in
+    let first = second .before in
+    let e = first .before in
+    let p = e .pre .0 .1 .0 in
+    let r = e .pre .0 .1 .1 in
+    sym (boxes-apart (e .args .s .gap) (placed e) (other e) (along e) (up e) (standing-vertexed (now (e .args .turned)) (e .args .p) (p .stands)) (standing-vertexed (now (e .args .turned)) (e .args .r) (r .stands))
+    ((λ j. boxesApart (e .args .s .gap) (sym (p .box) j) (sym (r .box) j) (sym (along-is first) j) (sym (up-is second) j)) ∙ sym (c .before .axes-separate .ensures) ∙ c .if1 .taken))
 
 pieces-conflict-requires : tie.Need-pieces-conflict-requires
 pieces-conflict-requires c κs = search needs
@@ -68,8 +73,10 @@ pieces-conflict-requires c κs = search needs
 returns-2 : tie.Need-returns-2
 unfolding conflictAtDot
 returns-2 c =
-    c .pieces-conflict .ensures
-    ∙ ap₂ (λ x y. piecesConflict (c .before .before .before .before .before .args .s .gap) (placed (c .before .before .before .before .before)) (map (map (shifted x y)) (other (c .before .before .before .before .before)))) (along-is (c .before .before .before .before)) (up-is (c .before .before .before))
+    let second = c .before .before .before in
+    let first = second .before in
+    let e = first .before in
+    c .pieces-conflict .ensures ∙ ap₂ (λ x y. piecesConflict (e .args .s .gap) (placed e) (map (map (shifted x y)) (other e))) (along-is first) (up-is second)
 
 pub conflict-at-spec : {M : Type 1} → statement M
 conflict-at-spec =

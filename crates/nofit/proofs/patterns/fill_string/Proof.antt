@@ -21,19 +21,19 @@ loop-holds : tie.Need-loop-holds Inv-loop μ-loop
 loop-holds c = (omega arith, refl, written-none (c .before .args .at) _ _ (now (c .before .args .bits)))
 
 string-word-requires : tie.Need-string-word-requires Inv-loop μ-loop
-string-word-requires c κs = ((c .before .before .before .pre .0 .0, omega (arith, c .before .before .before .pre .0 .1 .0)), c .before .before .before .pre .1 .0)
+string-word-requires c κs = let e = c .before .before .before in ((e .pre .0 .0 .0, omega (arith, e .pre .0 .0 .1 .0)), e .pre .0 .1)
 
 add-put-u64 : tie.Need-add-put-u64 Inv-loop μ-loop
-add-put-u64 c = omega (arith, c .before .before .before .before .before .pre .0 .1)
+add-put-u64 c = omega (arith, c .before .before .before .before .before .pre .0 .0 .1)
 
 mul-put-u64 : tie.Need-mul-put-u64 Inv-loop μ-loop
-mul-put-u64 c = omega (arith, c .before .before .before .before .before .pre .0 .1)
+mul-put-u64 c = omega (arith, c .before .before .before .before .before .pre .0 .0 .1)
 
 put-u64-requires : tie.Need-put-u64-requires Inv-loop μ-loop
-put-u64-requires c κs = omega (arith, c .before .before .before .loop .inv .1, c .before .before .before .before .before .pre .1 .1)
+put-u64-requires c κs = omega (arith, c .before .before .before .loop .inv .1, c .before .before .before .before .before .pre .1)
 
 add-k : tie.Need-add-k Inv-loop μ-loop
-add-k c = omega (arith, c .before .before .before .before .before .before .before .before .pre .0 .1)
+add-k c = omega (arith, c .before .before .before .before .before .before .before .before .pre .0 .0 .1)
 
 loop-less : tie.Need-loop-less Inv-loop μ-loop
 loop-less c = search needs
@@ -44,7 +44,7 @@ loop-again c =
       omega arith,
       search needs,
       written-next (c .before .before .before .before .before .before .before .before .args .at) (c .before .before .before .before .before .before .loop .k) (allowed (s .mask)) (blockedBit (now (c .before .before .before .before .before .before .before .before .args .turned)) s (c .before .before .before .before .before .before .before .before .args .p) (c .before .before .before .before .before .before .before .before .args .r)) (now (c .before .before .before .before .before .before .before .before .args .bits)) (c .before .before .before .before .before .before .loop .bits) _ (c .before .before .before .before .string-word .result)
-          (c .before .before .before .before .before .before .loop .inv .2) (omega (arith, c .before .before .before .before .before .before .loop .inv .1, c .before .before .before .before .before .before .before .before .pre .1 .1)) (search needs)
+          (c .before .before .before .before .before .before .loop .inv .2) (omega (arith, c .before .before .before .before .before .before .loop .inv .1, c .before .before .before .before .before .before .before .before .pre .1)) (search needs)
           (allowed-word (s .mask) (c .before .before .before .before .before .before .loop .k) _ (c .before .before .before .before .string-word .result) (c .before .before .before .before .string-word .ensures)) (c .before .before .put-u64 .ensures),
     )
 

@@ -7,7 +7,7 @@ use Rattle.nofit.proofs.patterns.is_blocked.Statement.{statement}
 use Rattle.nofit.proofs.patterns.is_blocked.Tie as tie
 
 returns : tie.Need-returns
-returns c = below-bit (now (c .before .before .args .turned)) (c .before .before .args .s) (c .before .before .args .p) (c .before .before .args .r) (c .before .before .args .k) (c .before .before .args .z) (c .before .before .args .d) (omega arith)
+returns c = below-bit (now (c .before .before .args .turned)) (c .before .before .args .s) (c .before .before .args .p) (c .before .before .args .r) (c .before .before .args .z) (c .before .before .args .d) (omega arith)
 
 mul-if2 : tie.Need-mul-if2
 mul-if2 c = search needs
@@ -19,10 +19,10 @@ conflict-at-requires : tie.Need-conflict-at-requires
 conflict-at-requires c κs = search needs
 
 returns-2 : tie.Need-returns-2
-returns-2 c = dot-bit (now (c .before .before .before .before .before .before .args .turned)) (c .before .before .before .before .before .before .args .s) (c .before .before .before .before .before .before .args .p) (c .before .before .before .before .before .before .args .r) (c .before .before .before .before .before .before .args .k) (c .before .before .before .before .before .before .args .z) (c .before .before .before .before .before .before .args .d) (c .conflict-at .result) (omega arith) (omega arith) (c .conflict-at .ensures)
+returns-2 c = dot-bit (now (c .before .before .before .before .before .before .args .turned)) (c .before .before .before .before .before .before .args .s) (c .before .before .before .before .before .before .args .p) (c .before .before .before .before .before .before .args .r) (c .before .before .before .before .before .before .args .z) (c .before .before .before .before .before .before .args .d) (c .conflict-at .result) (omega arith) (omega arith) (c .conflict-at .ensures)
 
 returns-3 : tie.Need-returns-3
-returns-3 c = past-bit (now (c .before .before .before .before .before .args .turned)) (c .before .before .before .before .before .args .s) (c .before .before .before .before .before .args .p) (c .before .before .before .before .before .args .r) (c .before .before .before .before .before .args .k) (c .before .before .before .before .before .args .z) (c .before .before .before .before .before .args .d) (omega arith) (omega arith)
+returns-3 c = past-bit (now (c .before .before .before .before .before .args .turned)) (c .before .before .before .before .before .args .s) (c .before .before .before .before .before .args .p) (c .before .before .before .before .before .args .r) (c .before .before .before .before .before .args .z) (c .before .before .before .before .before .args .d) (omega arith) (omega arith)
 
 pub is-blocked-spec : {M : Type 1} → statement M
 is-blocked-spec =

@@ -31,7 +31,6 @@ returns c =
       reach = w .reach;
       lift = x .down * w .rows;
       below = c .before .bound-of .ensures j;
-      turn = x .turn;
       mask = getD (v .rotations) (x .other) 0;
       gap = c .pair-gap .ensures j;
     }

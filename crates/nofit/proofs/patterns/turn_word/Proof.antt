@@ -4,7 +4,7 @@ use Prim.Native.Nat.{_+_, _-_, _*_, _%_, _^_, _≤_, _<_}
 use native.Mathlib.Omega.{arith}
 use denote.Ref.{now}
 use Rattle.words.specs.Bits.{assignedBit}
-use Rattle.nofit.specs.Filling.{dotOf, blockedAtDot, blockedBit, TurnSet}
+use Rattle.nofit.specs.Filling.{dotOf, blockedAtDot, blockedTurned, TurnSet}
 use Rattle.nofit.proofs.FillingLaws.{row-within, blocked-at, turn-none, turn-next}
 use borrow.Author.Needs.{needs}
 use Rattle.nofit.proofs.patterns.turn_word.Statement.{statement}
@@ -12,7 +12,7 @@ use Rattle.nofit.proofs.patterns.turn_word.Tie as tie
 
 abbrev Inv-loop : tie.InvT-loop
 Inv-loop turned s p r e f k word w first v₀ d₀ n₀ v d n =
-    (n ≤ 16) × (v < 2 ^ 64) × (d ≡ dotOf (s .rows) ((word - 1) * 16 + n)) × TurnSet k n (λ i. blockedBit turned s p r (word * 64 + i)) w v
+    (n ≤ 16) × (v < 2 ^ 64) × (d ≡ dotOf (s .rows) ((word - 1) * 16 + n)) × TurnSet k n (λ i. blockedTurned turned s p r (word * 64 + i)) w v
 
 abbrev μ-loop : tie.MeasureT-loop
 μ-loop turned s p r e f k word w first v₀ d₀ n₀ v d n = 16 - n
@@ -24,7 +24,7 @@ mul-first : tie.Need-mul-first Inv-loop μ-loop
 mul-first c = search needs
 
 dot-of-requires : tie.Need-dot-of-requires Inv-loop μ-loop
-dot-of-requires c κs = c .pre .0 .0 .some
+dot-of-requires c κs = c .pre .0 .0 .0 .some
 
 loop-holds : tie.Need-loop-holds Inv-loop μ-loop
 loop-holds c =
@@ -45,7 +45,8 @@ add-is-blocked c = search needs
 
 is-blocked-requires : tie.Need-is-blocked-requires Inv-loop μ-loop
 is-blocked-requires c κs =
-    (c .before .before .before .pre .0, (c .before .before .before .pre .1 .0, row-within (c .before .before .before .args .s .rows) ((c .before .before .before .args .word - 1) * 16 + c .before .loop .n) (c .before .loop .d) (c .before .before .before .pre .0 .0 .some) (c .before .loop .inv .2)))
+    let e = c .before .before .before in
+    ((e .pre .0 .0 .0, e .pre .0 .1), row-within (e .args .s .rows) ((e .args .word - 1) * 16 + c .before .loop .n) (c .before .loop .d) (e .pre .0 .0 .0 .some) (c .before .loop .inv .2))
 
 assign-bit-requires : tie.Need-assign-bit-requires Inv-loop μ-loop
 assign-bit-requires c κs = search needs
@@ -54,7 +55,7 @@ add-next-dot : tie.Need-add-next-dot Inv-loop μ-loop
 add-next-dot c = search needs
 
 next-dot-requires : tie.Need-next-dot-requires Inv-loop μ-loop
-next-dot-requires c κs = ((c .before .before .before .before .before .pre .0 .0 .some, omega arith), c .before .before .before .loop .inv .2)
+next-dot-requires c κs = ((c .before .before .before .before .before .pre .0 .0 .0 .some, omega arith), c .before .before .before .loop .inv .2)
 
 add-n : tie.Need-add-n Inv-loop μ-loop
 add-n c = search needs
@@ -73,16 +74,16 @@ loop-again c =
       omega arith,
       search needs,
       c .next-dot .ensures ∙ ap (dotOf (s .rows)) next,
-      turn-next k n _ (c .before .before .before .before .before .before .args .w) (c .before .before .before .before .loop .v) (c .before .assign-bit .result) (c .before .before .is-blocked .result) (c .before .before .before .before .before .before .pre .0 .1) (c .before .before .before .before .loop .inv .3)
-          (c .before .before .is-blocked .ensures ∙ ap (blockedAtDot (now (c .before .before .before .before .before .before .args .turned)) s (c .before .before .before .before .before .before .args .p) (c .before .before .before .before .before .before .args .r) k (word * 64 + (n * 4 + k))) (c .before .before .before .before .loop .inv .2)
-          ∙ blocked-at (now (c .before .before .before .before .before .before .args .turned)) s (c .before .before .before .before .before .before .args .p) (c .before .before .before .before .before .before .args .r) word n k (c .before .before .before .before .before .before .pre .1 .1 .0) (c .before .before .before .before .before .before .pre .0 .1))
+      turn-next k n _ (c .before .before .before .before .before .before .args .w) (c .before .before .before .before .loop .v) (c .before .assign-bit .result) (c .before .before .is-blocked .result) (c .before .before .before .before .before .before .pre .0 .0 .1) (c .before .before .before .before .loop .inv .3)
+          (c .before .before .is-blocked .ensures ∙ ap (blockedAtDot (now (c .before .before .before .before .before .before .args .turned)) s (c .before .before .before .before .before .before .args .p) (c .before .before .before .before .before .before .args .r) (word * 64 + (n * 4 + k))) (c .before .before .before .before .loop .inv .2)
+          ∙ blocked-at (now (c .before .before .before .before .before .before .args .turned)) s (c .before .before .before .before .before .before .args .p) (c .before .before .before .before .before .before .args .r) word n k (c .before .before .before .before .before .before .pre .1 .0) (c .before .before .before .before .before .before .pre .0 .0 .1))
           (c .before .assign-bit .ensures ∙ ap (assignedBit (c .before .before .is-blocked .result) (c .before .before .before .before .loop .v)) m),
     )
 
 returns : tie.Need-returns Inv-loop μ-loop
 returns c =
     let n : c .before .loop .n ≡ 16 = omega arith in
-    subst (λ m. TurnSet (c .before .before .before .args .k) m (λ i. blockedBit (now (c .before .before .before .args .turned)) (c .before .before .before .args .s) (c .before .before .before .args .p) (c .before .before .before .args .r) (c .before .before .before .args .word * 64 + i)) (c .before .before .before .args .w) (c .before .loop .v)) n (c .before .loop .inv .3)
+    subst (λ m. TurnSet (c .before .before .before .args .k) m (λ i. blockedTurned (now (c .before .before .before .args .turned)) (c .before .before .before .args .s) (c .before .before .before .args .p) (c .before .before .before .args .r) (c .before .before .before .args .word * 64 + i)) (c .before .before .before .args .w) (c .before .loop .v)) n (c .before .loop .inv .3)
 
 pub turn-word-spec : {M : Type 1} → statement M
 turn-word-spec =

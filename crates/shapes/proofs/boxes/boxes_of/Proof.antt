@@ -1,6 +1,6 @@
 -- `shapes::boxes::boxes_of` meets its contract. Assumes nothing.
 use mathlib.Core.List.{List}
-use mathlib.Core.Path.{_≡_, refl, ap, _∙_}
+use mathlib.Core.Path.{_≡_, refl, sym, ap, subst, _∙_}
 use Prim.Native.Nat.{ℕ, _+_, _-_, _*_, _/_, _%_, _≤_, _<_}
 use native.Mathlib.Omega.{arith}
 use borrow.Author.Count.{below-none}
@@ -10,8 +10,11 @@ use lib.ListN.{length, getD, length-set}
 use Rattle.model.specs.Content.{Part}
 use Rattle.model.specs.Lists.{concat}
 use Rattle.polygons.specs.Boxes.{extentsOf}
+use Rattle.geometry.specs.Pieces.{Standing, partsIn}
+use Rattle.geometry.specs.declared.pieces.Piece.{Piece}
 use Rattle.shapes.specs.Boxes.{noBox, turnedVertices}
-use Rattle.shapes.proofs.PieceLaws.{written-more, parts-turned}
+use Rattle.shapes.specs.Pieces.{Turnable}
+use Rattle.shapes.proofs.PieceLaws.{written-more, parts-turned, piece-turnable}
 use Rattle.shapes.proofs.ViewLaws.{few-kinds}
 use Rattle.shapes.proofs.boxes.boxes_of.Statement.{statement}
 use Rattle.shapes.proofs.boxes.boxes_of.Tie as tie
@@ -39,8 +42,18 @@ piece-of-requires c κs =
     let e = c .before .before .before .before in
     (e .pre .0, omega (arith, e .pre .0 .view .kinds))
 
+-- the piece stands in the table at each rotation
+stands : (c : tie.After-piece-of Inv-loop μ-loop) → Turnable (now (c .before .before .before .before .before .args .turned)) (c .piece-of .result)
+stands c =
+    let e = c .before .before .before .before .before in
+    piece-turnable (now (e .args .job)) (now (e .args .turned)) (c .before .before .loop .n / 4) (c .piece-of .result) (e .pre .1) (c .piece-of .ensures) (omega (arith, e .pre .0 .view .kinds))
+
+turned-to-requires : tie.Need-turned-to-requires Inv-loop μ-loop
+turned-to-requires c κs = (stands c .plane, omega arith)
+
 piece-box-requires : tie.Need-piece-box-requires Inv-loop μ-loop
-piece-box-requires c κs = ((c .piece-of .ensures .fitting, omega arith), c .before .before .before .before .before .pre .1 .size)
+piece-box-requires c κs =
+    subst (Standing (now (c .before .before .before .before .before .before .args .turned))) (sym (c .turned-to .ensures)) (stands (c .before) .stands (c .before .before .before .loop .n % 4) (omega arith))
 
 mul-of : tie.Need-mul-of Inv-loop μ-loop
 mul-of c = omega arith
@@ -56,15 +69,18 @@ loop-less c = omega arith
 
 loop-again : tie.Need-loop-again Inv-loop μ-loop
 loop-again c =
-    let at = c .before .before .before in
+    let turned = c .before in
+    let piece = turned .before in
+    let at = piece .before .before in
     let e = at .before .before .before in
     let n = at .loop .n in (
       omega arith,
       simp length-set (at .loop .inv .1),
       written-more noBox (at .loop .of) n _ (λ m. extentsOf (turnedVertices (now (e .args .job)) (m / 4) (m % 4))) (omega arith) (at .loop .inv .2)
           (c .piece-box .ensures
+          ∙ ap (λ (p : Piece). extentsOf (concat (partsIn (now (e .args .turned)) p))) (turned .turned-to .ensures)
           ∙ ap (λ (Ps : List Part). extentsOf (concat Ps))
-          (parts-turned (now (e .args .job)) (now (e .args .turned)) (n / 4) (c .before .piece-of .result) (n % 4) (e .pre .1) (c .before .piece-of .ensures) (omega (arith, e .pre .0 .view .kinds)) (omega arith))),
+          (parts-turned (now (e .args .job)) (now (e .args .turned)) (n / 4) (piece .piece-of .result) (e .pre .1) (piece .piece-of .ensures) (omega (arith, e .pre .0 .view .kinds)) (n % 4) (omega arith))),
     )
 
 returns : tie.Need-returns Inv-loop μ-loop
@@ -91,6 +107,7 @@ boxes-of-spec =
     loop-holds
     mul-loop
     piece-of-requires
+    turned-to-requires
     piece-box-requires
     mul-of
     array-set-from-of

@@ -6,13 +6,13 @@ use borrow.Author.Needs.{needs}
 use lib.ListN.{length, drop}
 use Rattle.model.specs.Format.{vertices}
 use Rattle.model.proofs.Records.{length-vertices}
-use Rattle.shapes.proofs.TurnLaws.{TurnedTo, turned-none, turned-more, turned-all}
+use Rattle.shapes.proofs.TurnLaws.{PlanesTurned, turned-none, turned-more, turned-all}
 use Rattle.shapes.proofs.turned.turn_part.Statement.{statement}
 use Rattle.shapes.proofs.turned.turn_part.Tie as tie
 
 abbrev Inv-loop : tie.InvT-loop
 Inv-loop job from n turned₀ q k₀ turned k =
-    (k ≤ 4) × (length turned ≡ 4096) × TurnedTo (vertices n (drop from job)) q turned₀ turned k
+    (k ≤ 4) × (length turned ≡ 4096) × PlanesTurned (vertices n (drop from job)) q turned₀ turned k
 
 abbrev μ-loop : tie.MeasureT-loop
 μ-loop job from n turned₀ q k₀ turned k = 4 - k
@@ -20,17 +20,17 @@ abbrev μ-loop : tie.MeasureT-loop
 loop-holds : tie.Need-loop-holds Inv-loop μ-loop
 loop-holds c = (omega arith, omega arith, turned-none _ _ _)
 
-mul-turn-vertices : tie.Need-mul-turn-vertices Inv-loop μ-loop
-mul-turn-vertices c = search needs
+mul-turn-slot : tie.Need-mul-turn-slot Inv-loop μ-loop
+mul-turn-slot c = search needs
 
-mul-turn-vertices-2 : tie.Need-mul-turn-vertices-2 Inv-loop μ-loop
-mul-turn-vertices-2 c = search needs
+mul-turn-slot-2 : tie.Need-mul-turn-slot-2 Inv-loop μ-loop
+mul-turn-slot-2 c = search needs
 
-add-turn-vertices : tie.Need-add-turn-vertices Inv-loop μ-loop
-add-turn-vertices c = search needs
+add-turn-slot : tie.Need-add-turn-slot Inv-loop μ-loop
+add-turn-slot c = search needs
 
-turn-vertices-requires : tie.Need-turn-vertices-requires Inv-loop μ-loop
-turn-vertices-requires c κs = search needs
+turn-slot-requires : tie.Need-turn-slot-requires Inv-loop μ-loop
+turn-slot-requires c κs = search needs
 
 add-k : tie.Need-add-k Inv-loop μ-loop
 add-k c = search needs
@@ -47,7 +47,7 @@ loop-again c =
       omega arith,
       search needs,
       turned-more (vertices (start .args .n) (drop (start .args .from) (start .args .job .now))) (start .args .q) (omega arith) (omega arith) (start .args .turned .now) (at .loop .turned) _
-          (at .loop .k) (at .loop .inv .1) (omega arith) (at .loop .inv .2) (call .turn-vertices .ensures),
+          (at .loop .k) (at .loop .inv .1) (omega arith) (at .loop .inv .2) (call .turn-slot .ensures),
     )
 
 same-length : tie.Need-same-length Inv-loop μ-loop
@@ -63,10 +63,10 @@ turn-part-spec =
     Inv-loop
     μ-loop
     loop-holds
-    mul-turn-vertices
-    mul-turn-vertices-2
-    add-turn-vertices
-    turn-vertices-requires
+    mul-turn-slot
+    mul-turn-slot-2
+    add-turn-slot
+    turn-slot-requires
     add-k
     loop-less
     loop-again

@@ -3,7 +3,7 @@ use mathlib.Core.Path.{ap, _∙_}
 use borrow.Author.Needs.{needs, sfits-of}
 use Rattle.model.specs.Format.{byteAt}
 use Rattle.model.specs.Geometry.{rotated}
-use Rattle.polygons.specs.Flat.{withVertex}
+use Rattle.shapes.specs.Turned.{withVertex}
 use Rattle.shapes.proofs.TurnLaws.{byte-small, vertex-as-is}
 use Rattle.shapes.proofs.turned.turn_vertex.Statement.{statement}
 use Rattle.shapes.proofs.turned.turn_vertex.Tie as tie

@@ -7,8 +7,7 @@ use borrow.Author.Needs.{needs}
 use lib.ListN.{length, drop}
 use Rattle.model.specs.Format.{vertices}
 use Rattle.model.specs.Geometry.{rotated}
-use Rattle.polygons.specs.Flat.{withVertex}
-use Rattle.shapes.specs.Turned.{vertexIn, withPart}
+use Rattle.shapes.specs.Turned.{vertexIn, withPart, withVertex}
 use Rattle.shapes.proofs.TurnLaws.{written-none, written-more}
 use Rattle.shapes.proofs.turned.turn_vertices.Statement.{statement}
 use Rattle.shapes.proofs.turned.turn_vertices.Tie as tie

@@ -1,4 +1,4 @@
--- `geometry::turns::put_rotated` meets its contract: the two stores are the definition's. Assumes nothing.
+-- `shapes::quarter_turns::put_rotated` meets its contract: the two stores are the definition's. Assumes nothing.
 use mathlib.Core.Path.{_≡_, _∙_}
 use Prim.Native.Nat.{ℕ, _+_, _%_, _<_}
 use native.Mathlib.Omega.{arith}
@@ -12,10 +12,10 @@ use mir.ValLaws.{toZ-ofZ}
 use Rattle.integers.proofs.Machine.{read₂}
 use Rattle.model.specs.Content.{vertex}
 use Rattle.model.specs.Geometry.{rotated}
-use Rattle.polygons.specs.Flat.{withVertex}
-use Rattle.polygons.proofs.TurnLaws.{one-turn-less}
-use Rattle.polygons.proofs.turns.put_rotated.Statement.{statement}
-use Rattle.polygons.proofs.turns.put_rotated.Tie as tie
+use Rattle.shapes.specs.Turned.{withVertex}
+use Rattle.shapes.proofs.QuarterTurns.{one-turn-less}
+use Rattle.shapes.proofs.quarter_turns.put_rotated.Statement.{statement}
+use Rattle.shapes.proofs.quarter_turns.put_rotated.Tie as tie
 
 -- the bounds of the parameters, as they are read from their bits
 bound-x : (s : tie.Start) → natAbs (toZ w16 (ofZ w16 (s .args .x))) < 32768

@@ -20,8 +20,8 @@ use Rattle.polygons.specs.Boxes.{extentsOf, joined}
 use Rattle.polygons.specs.Flat.{shifted}
 use Rattle.polygons.specs.declared.extents.Extents.{Extents}
 use Rattle.polygons.proofs.BoxLaws.{extents-append}
-use Rattle.geometry.specs.Apart.{boxesApart, apartAt}
-use Rattle.geometry.proofs.PairLaws.{apart-moved, first-held}
+use Rattle.geometry.specs.Apart.{boxesApart}
+use Rattle.geometry.proofs.PairLaws.{apart-boxes, apart-moved}
 
 -- ---- boxes within boxes
 
@@ -126,10 +126,9 @@ parts-inside (P ∷ Q ∷ Ps) h e i =
 
 -- ---- pieces
 
--- parts whose boxes are apart are separated
-separated-boxes : (gap : ℕ) (P Q : Part) (dx dy : ℤ) → 0 < length Q → boxesApart gap (extentsOf P) (extentsOf Q) dx dy ≡ true → separated gap P (map (shifted dx dy) Q) ≡ true
-unfolding apartAt
-separated-boxes gap P Q dx dy h e = sym (apart-moved gap P Q dx dy h) ∙ sym (first-held (boxesApart gap (extentsOf P) (extentsOf Q) dx dy) _ _ e)
+-- Parts whose boxes are apart are separated.
+pub separated-boxes : (gap : ℕ) (P Q : Part) (dx dy : ℤ) → 0 < length Q → boxesApart gap (extentsOf P) (extentsOf Q) dx dy ≡ true → separated gap P (map (shifted dx dy) Q) ≡ true
+separated-boxes gap P Q dx dy h e = sym (apart-moved gap P Q dx dy h) ∙ apart-boxes gap P Q dx dy e
 
 module _ (gap : ℕ) (E F : Extents) (dx dy : ℤ) (apart : boxesApart gap E F dx dy ≡ true) where
   -- one part against all of the other piece

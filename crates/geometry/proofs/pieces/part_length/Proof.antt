@@ -1,8 +1,8 @@
--- `shapes::pieces::part_length` meets its contract. Assumes nothing.
+-- `geometry::pieces::part_length` meets its contract. Assumes nothing.
 use native.Mathlib.Omega.{arith}
 use borrow.Author.Needs.{needs}
-use Rattle.shapes.proofs.pieces.part_length.Statement.{statement}
-use Rattle.shapes.proofs.pieces.part_length.Tie as tie
+use Rattle.geometry.proofs.pieces.part_length.Statement.{statement}
+use Rattle.geometry.proofs.pieces.part_length.Tie as tie
 
 mul-result : tie.Need-mul-result
 mul-result c = search needs

@@ -1,4 +1,4 @@
--- `shapes::pieces::part_conflicts` meets its contract. The invariant: none of the parts passed is in conflict. Assumes nothing.
+-- `geometry::pieces::part_conflicts` meets its contract. The invariant: none of the parts passed is in conflict. Assumes nothing.
 use mathlib.Core.Bool.{Bool, true, false}
 use mathlib.Core.List.{map}
 use mathlib.Core.Path.{_≡_, sym, ap, _∙_}
@@ -10,29 +10,29 @@ use lib.IntN.{ℤ}
 use mir.Syntax.{w16}
 use mir.Val.{toZ, ofZ}
 use Rattle.integers.proofs.Machine.{read₂}
-use Rattle.shapes.proofs.PieceLaws.{conflictAt, none-yet, none-more, some-below, part-conflicts-below}
+use Rattle.geometry.proofs.PieceLaws.{conflictAt, none-yet, none-more, some-below, part-conflicts-below}
 use Rattle.model.specs.Lists.{any, below}
 use Rattle.polygons.specs.Flat.{shifted}
-use Rattle.shapes.specs.Pieces.{partIn, partsIn, partConflicts}
-use Rattle.shapes.proofs.pieces.part_conflicts.Statement.{statement}
-use Rattle.shapes.proofs.pieces.part_conflicts.Tie as tie
+use Rattle.geometry.specs.Pieces.{partIn, partsIn, partConflicts}
+use Rattle.geometry.proofs.pieces.part_conflicts.Statement.{statement}
+use Rattle.geometry.proofs.pieces.part_conflicts.Tie as tie
 
 abbrev Inv-loop : tie.InvT-loop
-Inv-loop turned p k i q l dx dy gap n m₀ m = (m ≤ n) × (any (conflictAt gap (partIn turned p k i) turned q l (toZ w16 dx) (toZ w16 dy)) (below m) ≡ false)
+Inv-loop table p i q dx dy gap n m₀ m = (m ≤ n) × (any (conflictAt gap (partIn table p i) table q (toZ w16 dx) (toZ w16 dy)) (below m) ≡ false)
 
 abbrev μ-loop : tie.MeasureT-loop
-μ-loop turned p k i q l dx dy gap n m₀ m = n - m
+μ-loop table p i q dx dy gap n m₀ m = n - m
 
 -- the test of one part, as the loop makes it
 abbrev test : tie.Start Inv-loop μ-loop → ℤ → ℤ → ℕ → Bool
-test e dx dy = conflictAt (e .args .gap) (partIn (now (e .args .turned)) (e .args .p) (e .args .k) (e .args .i)) (now (e .args .turned)) (e .args .q) (e .args .l) dx dy
+test e dx dy = conflictAt (e .args .gap) (partIn (now (e .args .table)) (e .args .p) (e .args .i)) (now (e .args .table)) (e .args .q) dx dy
 
 answer : (e : tie.Start Inv-loop μ-loop) (b : Bool) → any (test e (toZ w16 (ofZ w16 (e .args .dx))) (toZ w16 (ofZ w16 (e .args .dy)))) (below (e .args .q .count)) ≡ b
-    → b ≡ partConflicts (e .args .gap) (partIn (now (e .args .turned)) (e .args .p) (e .args .k) (e .args .i)) (map (map (shifted (e .args .dx) (e .args .dy))) (partsIn (now (e .args .turned)) (e .args .q) (e .args .l)))
+    → b ≡ partConflicts (e .args .gap) (partIn (now (e .args .table)) (e .args .p) (e .args .i)) (map (map (shifted (e .args .dx) (e .args .dy))) (partsIn (now (e .args .table)) (e .args .q)))
 answer e b h =
     sym h
     ∙ read₂ w16 (e .args .dx) (e .args .dy) (e .fits .dx) (e .fits .dy) (λ x y. any (test e x y) (below (e .args .q .count)))
-    ∙ part-conflicts-below (e .args .gap) (partIn (now (e .args .turned)) (e .args .p) (e .args .k) (e .args .i)) (now (e .args .turned)) (e .args .q) (e .args .l) (e .args .dx) (e .args .dy)
+    ∙ part-conflicts-below (e .args .gap) (partIn (now (e .args .table)) (e .args .p) (e .args .i)) (now (e .args .table)) (e .args .q) (e .args .dx) (e .args .dy)
 
 loop-holds : tie.Need-loop-holds Inv-loop μ-loop
 loop-holds c = (omega arith, none-yet _)

@@ -1,4 +1,4 @@
--- `shapes::pieces::parts_conflict` meets its contract. Assumes nothing.
+-- `geometry::pieces::not_separated` meets its contract. Assumes nothing.
 use mathlib.Core.Bool.{not}
 use mathlib.Core.List.{map}
 use mathlib.Core.Path.{ap, ap₂, _∙_}
@@ -10,13 +10,16 @@ use Rattle.integers.proofs.Machine.{read₂}
 use Rattle.model.specs.Content.{Part}
 use Rattle.model.specs.Geometry.{separated}
 use Rattle.polygons.specs.Flat.{shifted}
-use Rattle.shapes.specs.Pieces.{partIn}
-use Rattle.shapes.proofs.PieceLaws.{part-window}
-use Rattle.shapes.proofs.pieces.parts_conflict.Statement.{statement}
-use Rattle.shapes.proofs.pieces.parts_conflict.Tie as tie
+use Rattle.geometry.specs.Pieces.{partIn}
+use Rattle.geometry.proofs.PieceLaws.{part-window}
+use Rattle.geometry.proofs.pieces.not_separated.Statement.{statement}
+use Rattle.geometry.proofs.pieces.not_separated.Tie as tie
 
 part-start-requires : tie.Need-part-start-requires
 part-start-requires c κs = search needs
+
+add-a : tie.Need-add-a
+add-a c = search needs
 
 part-length-requires : tie.Need-part-length-requires
 part-length-requires c κs = search needs
@@ -26,6 +29,9 @@ add-b c = search needs
 
 part-start-requires-2 : tie.Need-part-start-requires-2
 part-start-requires-2 c κs = search needs
+
+add-c : tie.Need-add-c
+add-c c = search needs
 
 part-length-requires-2 : tie.Need-part-length-requires-2
 part-length-requires-2 c κs = search needs
@@ -63,23 +69,25 @@ separated-requires c κs = search needs
 returns : tie.Need-returns
 returns c =
     let e = c .before .before .before .before .before .before .before .args in
-    let first = partIn (now (e .turned)) (e .p) (e .k) (e .i) in
-    let second = partIn (now (e .turned)) (e .q) (e .l) (e .m) in
+    let first = partIn (now (e .table)) (e .p) (e .i) in
+    let second = partIn (now (e .table)) (e .q) (e .m) in
     ap not
     (c .separated .ensures
     ∙ ap₂ (λ (P Q : Part). separated (e .gap) P (map (shifted (toZ w16 (ofZ w16 (e .dx))) (toZ w16 (ofZ w16 (e .dy)))) Q))
-    (part-window (now (e .turned)) (e .p) (e .k) (e .i) _ _ (c .before .before .before .before .before .before .part-start .ensures .0) (c .before .before .before .before .before .part-length .ensures .0))
-    (part-window (now (e .turned)) (e .q) (e .l) (e .m) _ _ (c .before .before .before .before .part-start2 .ensures .0) (c .before .before .before .part-length2 .ensures .0))
+    (part-window (now (e .table)) (e .p) (e .i) _ _ (c .before .before .before .before .before .before .part-start .ensures .0) (c .before .before .before .before .before .part-length .ensures .0))
+    (part-window (now (e .table)) (e .q) (e .m) _ _ (c .before .before .before .before .part-start2 .ensures .0) (c .before .before .before .part-length2 .ensures .0))
     ∙ read₂ w16 (e .dx) (e .dy) (c .before .before .before .before .before .before .before .fits .dx) (c .before .before .before .before .before .before .before .fits .dy) (λ x y. separated (e .gap) first (map (shifted x y) second)))
 
-pub parts-conflict-spec : {M : Type 1} → statement M
-parts-conflict-spec =
+pub not-separated-spec : {M : Type 1} → statement M
+not-separated-spec =
     tie.close
     (tie.spec
     part-start-requires
+    add-a
     part-length-requires
     add-b
     part-start-requires-2
+    add-c
     part-length-requires-2
     add-d
     mul-separated

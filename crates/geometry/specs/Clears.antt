@@ -1,5 +1,5 @@
--- The test of one direction with the second part where it stands and its move added afterwards: every vertex of a part moves equally far along
--- a direction, so that is done once a direction and not once a vertex.
+-- The test of one direction with both parts where they stand and the move of the second taken off the gap: every vertex of a part moves equally far
+-- along a direction, so that is done once a direction and not once a vertex.
 use mathlib.Core.Bool.{Bool}
 use mathlib.Core.List.{map}
 use mathlib.Core.Path.{_≡_}
@@ -10,13 +10,13 @@ use Rattle.model.specs.Content.{Vertex, Part}
 use Rattle.model.specs.Geometry.{Direction, along, clearance}
 use Rattle.model.specs.Lists.{largestZ, smallestZ}
 
--- How far a part may lie along d and still be separated by d from Q moved by e.
-unfoldable pub reachOf : ℕ → Part → Vertex → Direction → ℤ
-reachOf gap Q e d = smallestZ (map (along d) Q) +ℤ along d e -ℤ clearance gap d
+-- How much further along d than P the part Q must lie for Q moved by e to clear P by the gap.
+unfoldable pub leadOf : ℕ → Vertex → Direction → ℤ
+leadOf gap e d = clearance gap d -ℤ along d e
 
--- No vertex of P lies further along d than that.
+-- d separates P from Q moved by e.
 unfoldable pub clears : ℕ → Part → Part → Vertex → Direction → Bool
-clears gap P Q e d = leZ (largestZ (map (along d) P)) (reachOf gap Q e d)
+clears gap P Q e d = leZ (largestZ (map (along d) P) +ℤ leadOf gap e d) (smallestZ (map (along d) Q))
 
 -- A result and a bound of its size, so that a caller can add to it.
 pub record Small (z : ℤ) (k : ℕ) (r : ℤ) : Type 0 where

@@ -5,7 +5,7 @@ ghost use lib.IntN.{natAbs};
 ghost use lib.ListN.{length};
 ghost use Rattle.model.specs.Content.{vertex};
 ghost use Rattle.model.specs.Geometry.{rotated};
-ghost use Rattle.polygons.specs.Flat.{withVertex};
+ghost use Rattle.shapes.specs.Turned.{withVertex};
 
 // The x of the vertex (x, y) after so many quarter turns.
 fn rotated_x(x: i16, y: i16, rotation: usize) -> i16

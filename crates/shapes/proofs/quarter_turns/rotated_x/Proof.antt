@@ -1,4 +1,4 @@
--- `geometry::turns::rotated_x` meets its contract: each arm is one number of quarter turns, and the opposite does not wrap. Assumes nothing.
+-- `shapes::quarter_turns::rotated_x` meets its contract: each arm is one number of quarter turns, and the opposite does not wrap. Assumes nothing.
 use mathlib.Core.Path.{refl, _∙_}
 use native.Mathlib.Omega.{arith}
 use borrow.Author.Needs.{needs}
@@ -6,9 +6,9 @@ use lib.IntN.{pos, _-ℤ_}
 use mir.Syntax.{w16}
 use mir.ValLaws.{toZ-ofZ}
 use Rattle.integers.proofs.Machine.{op-gives}
-use Rattle.polygons.proofs.TurnLaws.{turned-0, turned-1, turned-2, turned-3, opposite-16}
-use Rattle.polygons.proofs.turns.rotated_x.Statement.{statement}
-use Rattle.polygons.proofs.turns.rotated_x.Tie as tie
+use Rattle.shapes.proofs.QuarterTurns.{turned-0, turned-1, turned-2, turned-3, opposite-16}
+use Rattle.shapes.proofs.quarter_turns.rotated_x.Statement.{statement}
+use Rattle.shapes.proofs.quarter_turns.rotated_x.Tie as tie
 
 sub-result : tie.Need-sub-result
 sub-result c = search (opposite-16, needs)

@@ -1,4 +1,4 @@
--- `shapes::pieces::pieces_conflict` meets its contract. The invariant: none of the parts passed is in conflict. Assumes nothing.
+-- `geometry::pieces::pieces_conflict` meets its contract. The invariant: none of the parts passed is in conflict. Assumes nothing.
 use mathlib.Core.Bool.{Bool, true, false}
 use mathlib.Core.List.{map}
 use mathlib.Core.Path.{_≡_, sym, ap, _∙_}
@@ -11,29 +11,29 @@ use mir.Syntax.{w16}
 use mir.Val.{toZ, ofZ}
 use Rattle.integers.proofs.Machine.{read₂}
 use Rattle.model.specs.Geometry.{piecesConflict}
-use Rattle.shapes.proofs.PieceLaws.{none-yet, none-more, some-below, pieces-conflict-below}
+use Rattle.geometry.proofs.PieceLaws.{none-yet, none-more, some-below, pieces-conflict-below}
 use Rattle.model.specs.Lists.{any, below}
 use Rattle.polygons.specs.Flat.{shifted}
-use Rattle.shapes.specs.Pieces.{partIn, partsIn, partConflicts}
-use Rattle.shapes.proofs.pieces.pieces_conflict.Statement.{statement}
-use Rattle.shapes.proofs.pieces.pieces_conflict.Tie as tie
+use Rattle.geometry.specs.Pieces.{partIn, partsIn, partConflicts}
+use Rattle.geometry.proofs.pieces.pieces_conflict.Statement.{statement}
+use Rattle.geometry.proofs.pieces.pieces_conflict.Tie as tie
 
 abbrev Inv-loop : tie.InvT-loop
-Inv-loop turned p k q l dx dy gap n i₀ i = (i ≤ n) × (any (λ m. partConflicts gap (partIn turned p k m) (map (map (shifted (toZ w16 dx) (toZ w16 dy))) (partsIn turned q l))) (below i) ≡ false)
+Inv-loop table p q dx dy gap n i₀ i = (i ≤ n) × (any (λ m. partConflicts gap (partIn table p m) (map (map (shifted (toZ w16 dx) (toZ w16 dy))) (partsIn table q))) (below i) ≡ false)
 
 abbrev μ-loop : tie.MeasureT-loop
-μ-loop turned p k q l dx dy gap n i₀ i = n - i
+μ-loop table p q dx dy gap n i₀ i = n - i
 
 -- the test of one part, as the loop makes it
 abbrev test : tie.Start Inv-loop μ-loop → ℤ → ℤ → ℕ → Bool
-test e dx dy = λ m. partConflicts (e .args .gap) (partIn (now (e .args .turned)) (e .args .p) (e .args .k) m) (map (map (shifted dx dy)) (partsIn (now (e .args .turned)) (e .args .q) (e .args .l)))
+test e dx dy = λ m. partConflicts (e .args .gap) (partIn (now (e .args .table)) (e .args .p) m) (map (map (shifted dx dy)) (partsIn (now (e .args .table)) (e .args .q)))
 
 answer : (e : tie.Start Inv-loop μ-loop) (b : Bool) → any (test e (toZ w16 (ofZ w16 (e .args .dx))) (toZ w16 (ofZ w16 (e .args .dy)))) (below (e .args .p .count)) ≡ b
-    → b ≡ piecesConflict (e .args .gap) (partsIn (now (e .args .turned)) (e .args .p) (e .args .k)) (map (map (shifted (e .args .dx) (e .args .dy))) (partsIn (now (e .args .turned)) (e .args .q) (e .args .l)))
+    → b ≡ piecesConflict (e .args .gap) (partsIn (now (e .args .table)) (e .args .p)) (map (map (shifted (e .args .dx) (e .args .dy))) (partsIn (now (e .args .table)) (e .args .q)))
 answer e b h =
     sym h
     ∙ read₂ w16 (e .args .dx) (e .args .dy) (e .fits .dx) (e .fits .dy) (λ x y. any (test e x y) (below (e .args .p .count)))
-    ∙ pieces-conflict-below (e .args .gap) (now (e .args .turned)) (e .args .p) (e .args .k) (map (map (shifted (e .args .dx) (e .args .dy))) (partsIn (now (e .args .turned)) (e .args .q) (e .args .l)))
+    ∙ pieces-conflict-below (e .args .gap) (now (e .args .table)) (e .args .p) (map (map (shifted (e .args .dx) (e .args .dy))) (partsIn (now (e .args .table)) (e .args .q)))
 
 loop-holds : tie.Need-loop-holds Inv-loop μ-loop
 loop-holds c = (omega arith, none-yet _)
