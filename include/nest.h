@@ -36,6 +36,7 @@ extern "C" {
 #define NEST_MAX_CLASSES       8
 #define NEST_MAX_RANK        255
 #define NEST_MAX_GAP          63
+#define NEST_COMMON_CUT      128 /* added to a gap, it marks the class as common cut */
 #define NEST_MAX_TYPES         8
 #define NEST_MAX_PIECES       12
 #define NEST_MAX_PARTS         6 /* of a type, at least 1 */
@@ -55,13 +56,17 @@ extern "C" {
  *          6 and  7   length of the type list in bytes           12 and 13  the mark, 44 42 hexadecimal
  *
  * Board record, 6 bytes:  W (2), L (2), g (2).
- * Class, 3 bytes:         id (0 to 7), rank (0 to 255), gap (0 to 63). No id and no rank occurs twice.
+ * Class, 3 bytes:         id (0 to 7), rank (0 to 255), gap byte: a gap of 0 to 63, or 128 plus such a gap, which
+ *                         marks the class as common cut. No id and no rank occurs twice.
  * Type:                   demand (1 to 12), turn mask (1 to 15; bit k allows k quarter turns), class mask
  *                         (bit i names the class of id i), number of parts (1 to 6), then the parts.
  * Part:                   number of corners (3 to 8), then x and y of each corner as signed bytes, -127 to
  *                         127, anticlockwise; every other corner lies strictly left of each edge.
  *
- * The order of the classes in a job changes no result.
+ * The gap of a type is that of its best-ranked class (smallest rank number), marked or not, and 0 if it names
+ * none. The gap between two pieces is 0 if some common-cut class is named by the types of both, otherwise it is
+ * the larger of the two types' gaps. Two copies of one type share every class that it names. The order of the
+ * classes in a job changes no result.
  * ------------------------------------------------------------------------------------------------------ */
 
 #define NEST_TRAILER_BYTES        14
@@ -77,6 +82,7 @@ extern "C" {
 #define NEST_MARK_SECOND        0x42
 #define NEST_BOARD_BYTES           6
 #define NEST_CLASS_BYTES           3
+#define NEST_CLASS_NUMBERS         4 /* that read gives of a class: id, rank, gap, mark */
 
 /* ------------------------------------------------------------------------------------------------------
  * Candidates
@@ -121,8 +127,8 @@ extern "C" {
 #define NEST_MAX_WORK_BYTES   (NEST_MAX_TYPES * NEST_MAX_PIECES * NEST_MAX_SET_WORDS * NEST_WORD_BYTES)
 #define NEST_MAX_LAYOUT_BYTES (NEST_MAX_PIECES * NEST_ENTRY_NUMBERS * NEST_NUMBER_BYTES)
 #define NEST_MAX_ROW_BYTES    (NEST_MAX_SET_WORDS * NEST_WORD_BYTES)
-/* Read writes 6 numbers, 3 a class (at most 24) and one for each byte of the type list (at most 1004). */
-#define NEST_MAX_READ_BYTES   ((6 + 3 * NEST_MAX_CLASSES + NEST_MAX_JOB_BYTES) * NEST_NUMBER_BYTES)
+/* Read writes 6 numbers, 4 a class (at most 32) and one for each byte of the type list (at most 1004). */
+#define NEST_MAX_READ_BYTES   ((6 + NEST_CLASS_NUMBERS * NEST_MAX_CLASSES + NEST_MAX_JOB_BYTES) * NEST_NUMBER_BYTES)
 
 /* ------------------------------------------------------------------------------------------------------
  * Results
@@ -153,7 +159,7 @@ enum nest_number {
     NEST_BAD_MARK = 2,     /* wrong mark or stated length */
     NEST_BAD_SECTIONS = 3, /* a section ends past the trailer's offset, or two sections share a byte */
     NEST_BAD_BOARD = 4,    /* a board field out of range, or more than 1024 dots */
-    NEST_BAD_CLASSES = 5,  /* an id, gap or count out of range, an id or a rank twice */
+    NEST_BAD_CLASSES = 5,  /* an id, gap byte (64 to 127, above 191) or count out of range, an id or a rank twice */
     NEST_BAD_TYPES = 6,    /* a type field, count or sum out of range, a class named that is absent, or
                               records that do not fill the type list exactly */
     NEST_BAD_PART = 7,     /* a part not sound, or a corner at -128 */
@@ -183,7 +189,8 @@ enum nest_verdict {
  * Read a job. Writes its content as two-byte numbers, a negative coordinate as 65,536 plus it, in this order:
  *
  *   W, L, g,
- *   the number of classes, then id, rank and gap of each class by rising id,
+ *   the number of classes, then id, rank, gap (0 to 63) and mark (1 for common cut, else 0) of each class by
+ *       rising id,
  *   the number of types, then for each type: demand, turn mask, class mask, number of parts,
  *       and for each part: the number of corners, then x and y of each corner,
  *   N.

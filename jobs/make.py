@@ -64,6 +64,9 @@ def job(width, length, step, types, classes=(), order="board classes types", ski
     return body + trailer + b"\x44\x42"
 
 
+# A class is its id, its rank and its gap byte: the gap, and this added if the class is marked as common cut.
+COMMON_CUT = 128
+
 # The bracket of two classes: coating (rank 2, gap 1) comes before packing (rank 7, gap 3).
 COATING, PACKING = (4, 2, 1), (1, 7, 3)
 TWO_CLASSES = 1 << 4 | 1 << 1
@@ -93,6 +96,14 @@ JOBS = {
     "classes-other-order": (
         "The same job with its two class records exchanged: the same output.",
         brackets([PACKING, COATING]),
+    ),
+    "common-cut": (
+        "The squares of `two-squares-gap`, but gap byte 129: gap 1, marked as common cut. They share the class and touch.",
+        job(2, 5, 1, [piece(2, [SQUARE], classes=1)], [(0, 0, COMMON_CUT + 1)]),
+    ),
+    "common-cut-and-another": (
+        "Two squares in a common cut of gap 2 and one in no class: the two touch, the third stands 2 apart.",
+        job(2, 8, 1, [piece(2, [SQUARE], classes=1), piece(1, [SQUARE])], [(0, 5, COMMON_CUT + 2)]),
     ),
     "turned-bar": (
         "A bar of length 3 on a board of length 1: only one quarter turn is allowed, and it fits.",
@@ -152,6 +163,10 @@ JOBS = {
     "refused-4-dots": (
         "L 512, W 1, step 1: 1026 dots.",
         job(1, 512, 1, [piece(1, [rectangle(0, 0, 1, 1)])]),
+    ),
+    "refused-5-gap-byte": (
+        "A gap byte of 64: neither a gap nor that of a common cut.",
+        job(2, 4, 1, [piece(2, [SQUARE], classes=1)], [(0, 0, 64)]),
     ),
     "refused-6-absent-class": (
         "A type names the class of id 3, and the job has none of that id.",

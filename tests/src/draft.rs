@@ -17,7 +17,7 @@ pub struct Draft {
     pub width: u16,
     pub length: u16,
     pub step: u16,
-    /// Id, rank and gap, in file order.
+    /// Id, rank and gap byte, in file order; a gap byte of 128 to 191 marks the class as common cut.
     pub classes: Vec<[u8; 3]>,
     pub types: Vec<DraftType>,
     /// Bytes put after the last type record, as part of the type list.

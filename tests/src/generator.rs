@@ -15,14 +15,15 @@ pub struct Made {
 }
 
 pub fn make(noise: &mut Noise) -> Made {
-    match noise.below(20) {
+    match noise.below(22) {
         0..=5 => sound(noise, small_draft, usual_margin),
         6 => sound(noise, narrow_draft, margin_past_a_side),
         7 => sound(noise, roomy_draft, usual_margin),
         8..=9 => sound(noise, crowded_draft, usual_margin),
         10 => sound(noise, large_draft, usual_margin),
-        11..=15 => spoilt(noise),
-        16..=18 => spoilt_twice(noise),
+        11..=12 => sound(noise, common_cut_draft, usual_margin),
+        13..=17 => spoilt(noise),
+        18..=20 => spoilt_twice(noise),
         _ => hit_at_random(noise),
     }
 }
@@ -158,6 +159,46 @@ pub fn crowded_draft(noise: &mut Noise) -> Draft {
     draft
 }
 
+/// One type of several copies, or two types, on a board where a gap soon takes too much room. Which classes they name
+/// is picked from a list; ranks and gaps fall as they may.
+pub fn common_cut_draft(noise: &mut Noise) -> Draft {
+    let (width, length) = (noise.between(1, 3) as u16, noise.between(4, 9) as u16);
+    let mut draft = Draft::new(width, length, 1);
+    let classes = ids_and_ranks(noise, 4);
+    let with_marks = classes.iter().zip([MARK_OF_A_CUT, MARK_OF_A_CUT, 0, 0]);
+    draft.classes = with_marks.map(|(&[id, rank], mark)| [id, rank, mark + noise.pick(&[0, 1, 1, 2, 3])]).collect();
+    let kinds = noise.pick(&[1, 2, 2, 2]);
+    for places in &NAMED_BY_TWO[noise.below(NAMED_BY_TWO.len())][..kinds] {
+        let size = noise.between(1, 2);
+        let mut kind = random_type(noise, size, |noise, size| vec![random_part(noise, size, 0, 0)]);
+        kind.demand = if kinds == 1 { noise.between(2, 3) } else { noise.between(1, 2) } as u8;
+        kind.class_mask = places.iter().fold(0, |mask, &place| mask | 1 << classes[place][0]);
+        draft.types.push(kind);
+    }
+    noise.shuffle(&mut draft.classes);
+    noise.shuffle(&mut draft.types);
+    draft
+}
+
+/// Which of four classes each of two types names; the first two classes are marked.
+const NAMED_BY_TWO: [[&[usize]; 2]; 12] = [
+    // A cut is shared, alone or beside others.
+    [&[0], &[0]],
+    [&[0, 2], &[0, 3]],
+    [&[0, 2], &[0, 2]],
+    [&[0, 2], &[0]],
+    [&[0, 1], &[0]],
+    [&[0, 1, 2], &[0, 3]],
+    // A cut is named by one of them.
+    [&[0], &[]],
+    [&[0], &[2]],
+    [&[0, 2], &[2]],
+    [&[0, 2, 3], &[3]],
+    // Each has a cut, but not the same.
+    [&[0], &[1]],
+    [&[0, 2], &[1, 3]],
+];
+
 /// Up to 1024 dots, 8 types and 12 pieces, with parts of every size.
 pub fn large_draft(noise: &mut Noise) -> Draft {
     let (width, length, step) = noise.pick(&[
@@ -195,19 +236,33 @@ pub fn large_draft(noise: &mut Noise) -> Draft {
     draft
 }
 
+/// Added to a gap, it marks the class as common cut.
+const MARK_OF_A_CUT: u8 = 128;
+
 fn random_classes(noise: &mut Noise, most_gap: i64) -> Vec<[u8; 3]> {
+    let count = noise.pick(&[0, 1, 2, 3, 5, 8]);
+    ids_and_ranks(noise, count).iter().map(|&[id, rank]| [id, rank, random_gap(noise, most_gap)]).collect()
+}
+
+/// Ids and ranks of so many classes; no id and no rank twice.
+fn ids_and_ranks(noise: &mut Noise, count: usize) -> Vec<[u8; 2]> {
     let mut ids: Vec<u8> = (0..8).collect();
     noise.shuffle(&mut ids);
-    let count = noise.pick(&[0, 1, 2, 3, 5, 8]);
-    let mut classes: Vec<[u8; 3]> = Vec::new();
+    let mut classes: Vec<[u8; 2]> = Vec::new();
     while classes.len() < count {
         let rank = if noise.one_in(2) { noise.byte() } else { noise.below(12) as u8 };
         if classes.iter().all(|c| c[1] != rank) {
-            let gap = if noise.one_in(8) { 63 } else { noise.between(0, most_gap) };
-            classes.push([ids[classes.len()], rank, gap as u8]);
+            classes.push([ids[classes.len()], rank]);
         }
     }
     classes
+}
+
+/// A gap byte that may be, with a mark or without.
+fn random_gap(noise: &mut Noise, most_gap: i64) -> u8 {
+    let gap = if noise.one_in(8) { noise.between(62, 63) } else { noise.between(0, most_gap) };
+    let mark = if noise.one_in(3) { MARK_OF_A_CUT } else { 0 };
+    mark + gap as u8
 }
 
 /// Some of the classes that there are.
@@ -335,8 +390,8 @@ fn spoil_board(noise: &mut Noise, draft: &mut Draft) {
 }
 
 fn spoil_classes(noise: &mut Noise, draft: &mut Draft) {
-    let cause = noise.below(5);
-    if cause == 4 {
+    let cause = noise.below(6);
+    if cause == 5 {
         // Nine and more, which cannot have nine ids; or as many as a byte can count.
         let count = noise.pick(&[9, 9, 10, 255]);
         draft.classes = (0..count).map(|i| [i as u8, i as u8, 1]).collect();
@@ -347,11 +402,13 @@ fn spoil_classes(noise: &mut Noise, draft: &mut Draft) {
         draft.classes = random_classes(noise, 2);
     }
     let (one, other) = (draft.classes[0], noise.between(1, draft.classes.len() as i64 - 1) as usize);
+    // 64 to 127 or 192 to 255.
+    let bad_gap = 64 | noise.byte();
     let place = &mut draft.classes[other];
     match cause {
         0 => place[0] = noise.pick(&[8, 9, 128, 255]),
-        1 => place[2] = noise.pick(&[64, 65, 128, 255]),
-        2 => place[0] = one[0],
+        1 | 2 => place[2] = noise.pick(&[64, 127, 192, 255, bad_gap]),
+        3 => place[0] = one[0],
         _ => place[1] = one[1],
     }
 }

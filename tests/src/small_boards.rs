@@ -1,18 +1,23 @@
-//! The section "Small boards" of document 01, marked and unmarked, with what it says of each; and small boards under
-//! a margin, with what document 02 makes of them, worked out by hand.
+//! The section "Small boards" of document 01, marked and unmarked, with what it says of each; and small boards that
+//! are refused, under a margin and of common cut, with what documents 01 and 02 make of them, worked out by hand.
 
 use crate::draft::{encode, Arrangement, Draft};
 
 pub enum Claim {
     /// What a program that passes this margin and budget would print.
     Run { margin: u64, budget: u32, printed: &'static str },
-    /// Conflict of the piece of type 0 on one dot with type 0 on another, unturned; or what refuses the row.
-    Conflict { margin: u64, one: (usize, usize), other: (usize, usize), holds: Result<bool, u8> },
+    /// Conflict of the first type on one dot with the second on another, unturned; or what refuses the row.
+    Conflict { margin: u64, types: (usize, usize), one: Dot, other: Dot, holds: Result<bool, u8> },
     /// The length of a layout; or what refuses it.
     Check { margin: u64, layout: &'static [u16], length: Result<u16, u8> },
     /// The refusal number that read gives, 0 if it accepts the job.
     Reads(u8),
+    /// The numbers that read writes.
+    Gives(Vec<u16>),
 }
+
+/// Column and row.
+pub type Dot = (usize, usize);
 
 pub struct SmallBoard {
     pub name: &'static str,
@@ -42,8 +47,8 @@ fn squares(width: u16, length: u16) -> Draft {
     Draft::new(width, length, 1).with(2, 1, 0, &[SQUARE])
 }
 
-fn squares_with_gap(width: u16, length: u16, gap: u8) -> Draft {
-    Draft::new(width, length, 1).classes(&[[0, 0, gap]]).with(2, 1, 1, &[SQUARE])
+fn squares_with_gap(width: u16, length: u16, gap_byte: u8) -> Draft {
+    Draft::new(width, length, 1).classes(&[[0, 0, gap_byte]]).with(2, 1, 1, &[SQUARE])
 }
 
 fn run(budget: u32, printed: &'static str) -> Claim {
@@ -54,39 +59,60 @@ fn run_under(margin: u64, printed: &'static str) -> Claim {
     Claim::Run { margin, budget: u32::MAX, printed }
 }
 
-fn conflict(one: (usize, usize), other: (usize, usize), holds: bool) -> Claim {
-    Claim::Conflict { margin: 0, one, other, holds: Ok(holds) }
+fn conflict(one: Dot, other: Dot, holds: bool) -> Claim {
+    conflict_of((0, 0), one, other, holds)
+}
+
+fn conflict_of(types: (usize, usize), one: Dot, other: Dot, holds: bool) -> Claim {
+    Claim::Conflict { margin: 0, types, one, other, holds: Ok(holds) }
+}
+
+fn check(layout: &'static [u16], length: Result<u16, u8>) -> Claim {
+    Claim::Check { margin: 0, layout, length }
 }
 
 impl Claim {
     pub fn margin(&self) -> u64 {
         match self {
             Claim::Run { margin, .. } | Claim::Conflict { margin, .. } | Claim::Check { margin, .. } => *margin,
-            Claim::Reads(_) => 0,
+            Claim::Reads(_) | Claim::Gives(_) => 0,
         }
     }
 }
 
 pub fn small_boards() -> Vec<SmallBoard> {
     let mut boards = boards_of_the_paper();
+    boards.extend(boards_refused());
     boards.extend(boards_under_a_margin());
+    boards.extend(boards_of_common_cut());
+    boards.extend(boards_with_a_shared_cut());
+    boards.extend(boards_without_a_shared_cut());
+    boards.extend(boards_of_gap_bytes());
     boards
+}
+
+/// Two squares that touch.
+const TOUCHING: &[u16] = &[0, 0, 0, 0, 0, 2, 0, 0];
+const NESTED: &str = "shortest 4 3\n0 0 0 0\n0 2 0 0\n";
+
+/// What holds of two squares that may touch, on W 2 and L 4 or 5.
+fn as_printed() -> Vec<Claim> {
+    let held = "stopped 4 2\n0 0 0 0\n0 2 0 0\n";
+    let budgets = [run(u32::MAX, NESTED), run(3, NESTED), run(2, held), run(1, "stopped - 1\n")];
+    budgets.into_iter().chain([check(TOUCHING, Ok(4))]).collect()
 }
 
 fn boards_of_the_paper() -> Vec<SmallBoard> {
     let most = u32::MAX;
-    let nested = "shortest 4 3\n0 0 0 0\n0 2 0 0\n";
-    let held = "stopped 4 2\n0 0 0 0\n0 2 0 0\n";
-    let budgets = || vec![run(most, nested), run(3, nested), run(2, held), run(1, "stopped - 1\n")];
     let two_ranks = |classes: &[[u8; 3]]| Draft::new(2, 5, 1).classes(classes).with(2, 1, 3, &[SQUARE]);
     let gap_1 = || vec![run(most, "shortest 5 4\n0 0 0 0\n0 3 0 0\n")];
     vec![
-        SmallBoard { name: "the printed job", bytes: PRINTED.to_vec(), claims: budgets() },
-        board("W 2, L 4", squares(2, 4), budgets()),
+        SmallBoard { name: "the printed job", bytes: PRINTED.to_vec(), claims: as_printed() },
+        board("W 2, L 4", squares(2, 4), as_printed()),
         board("L 3", squares(2, 3), vec![run(most, "none 2\n")]),
         board("L 1", squares(2, 1), vec![run(most, "none 0\n"), run(0, "none 0\n")]),
         board("gap 1, L 5", squares_with_gap(2, 5, 1), gap_1()),
-        board("gap 1, L 4", squares_with_gap(2, 4, 1), vec![run(most, "none 3\n")]),
+        board("gap 1, L 4", squares_with_gap(2, 4, 1), vec![run(most, "none 3\n"), check(TOUCHING, Err(11))]),
         board(
             "squares that meet, squares that overlap",
             squares(4, 6),
@@ -119,8 +145,17 @@ fn boards_of_the_paper() -> Vec<SmallBoard> {
     ]
 }
 
+/// What random jobs seldom have.
+fn boards_refused() -> Vec<SmallBoard> {
+    let absent_class_last = cornered(-128).with(1, 1, 1, &[SQUARE]);
+    vec![
+        board("1025 dots", squares(40, 24), vec![Claim::Reads(4)]),
+        board("cause for 7 before cause for 6", absent_class_last, vec![Claim::Reads(6)]),
+    ]
+}
+
 fn boards_under_a_margin() -> Vec<SmallBoard> {
-    let row = |margin, one, other, holds| Claim::Conflict { margin, one, other, holds };
+    let row = |margin, one, other, holds| Claim::Conflict { margin, types: (0, 0), one, other, holds };
     let check = |margin, length| Claim::Check { margin, layout: &[0, 1, 1, 0, 0, 3, 1, 0], length };
     vec![
         // Corners in 1 to 5 by 1 to 3: three columns and one row are left, as on W 2, L 4.
@@ -167,6 +202,132 @@ fn boards_under_a_margin() -> Vec<SmallBoard> {
         board("a margin above the width", Draft::new(2, 20, 1).with(1, 1, 0, &[FAR]), vec![run_under(3, "none 0\n")]),
         board("a margin and a job, both refused", cornered(-128), vec![run_under(64, "refused 7\n")]),
     ]
+}
+
+/// Two squares of one type: they share every class that it names.
+fn boards_of_common_cut() -> Vec<SmallBoard> {
+    let better_ranked = [[0, 1, 3], [2, 9, 129]];
+    vec![
+        board("common cut, L 4", squares_with_gap(2, 4, 129), as_printed()),
+        board("common cut, L 3", squares_with_gap(2, 3, 129), vec![run(u32::MAX, "none 2\n")]),
+        // A column more, from which a square reaches past the first layout's length.
+        board("common cut, L 5", squares_with_gap(2, 5, 129), as_printed()),
+        board(
+            "common cut behind a better-ranked class",
+            Draft::new(2, 4, 1).classes(&better_ranked).with(2, 1, 0b101, &[SQUARE]),
+            as_printed(),
+        ),
+        board(
+            "common cut on a larger board",
+            squares_with_gap(4, 6, 129),
+            vec![
+                conflict((0, 0), (2, 0), false),
+                conflict((0, 0), (0, 2), false),
+                conflict((0, 0), (1, 0), true),
+                // What is left between the clamps is as large as W 2, L 4.
+                run_under(1, "shortest 6 3\n0 1 1 0\n0 3 1 0\n"),
+            ],
+        ),
+    ]
+}
+
+/// A square each of two types, whose masks name these of the classes.
+fn two_types(length: u16, classes: &[[u8; 3]], masks: [u8; 2]) -> Draft {
+    let [one, other] = masks;
+    Draft::new(2, length, 1).classes(classes).with(1, 1, one, &[SQUARE]).with(1, 1, other, &[SQUARE])
+}
+
+/// Where a marked class is shared, the squares nest on L 4 as two of one type do.
+fn boards_with_a_shared_cut() -> Vec<SmallBoard> {
+    let touch = || {
+        vec![
+            run(u32::MAX, "shortest 4 3\n0 0 0 0\n1 2 0 0\n"),
+            check(&[0, 0, 0, 0, 1, 2, 0, 0], Ok(4)),
+            check(&[0, 0, 0, 0, 1, 1, 0, 0], Err(11)),
+            conflict_of((0, 1), (0, 0), (2, 0), false),
+            conflict_of((1, 0), (0, 0), (2, 0), false),
+            conflict_of((0, 1), (0, 0), (1, 0), true),
+        ]
+    };
+    let ranked_last = [[0, 9, 129], [1, 1, 3], [2, 2, 3]];
+    let not_marked = [[0, 9, 1], [1, 1, 3], [2, 2, 3]];
+    vec![
+        board("two types in a cut", two_types(4, &[[0, 0, 129]], [1, 1]), touch()),
+        board("a cut behind a class of each", two_types(4, &ranked_last, [0b011, 0b101]), touch()),
+        // 3 apart: the second stands 5 columns behind the first, which is then tried on the four columns between them.
+        board(
+            "a class behind a class of each",
+            two_types(7, &not_marked, [0b011, 0b101]),
+            vec![run(u32::MAX, "shortest 7 6\n0 0 0 0\n1 5 0 0\n")],
+        ),
+        board("a cut behind a class of one", two_types(4, &[[0, 1, 3], [2, 9, 129]], [0b101, 0b100]), touch()),
+        board("a cut shared of two", two_types(4, &[[3, 1, 131], [6, 2, 130]], [1 << 3 | 1 << 6, 1 << 6]), touch()),
+    ]
+}
+
+/// Where none is shared, the squares below are to be 2 apart: the second stands 4 columns behind the first, which is
+/// then tried on the three columns between them.
+fn boards_without_a_shared_cut() -> Vec<SmallBoard> {
+    let apart = || {
+        vec![
+            run(u32::MAX, "shortest 6 5\n0 0 0 0\n1 4 0 0\n"),
+            check(&[0, 0, 0, 0, 1, 4, 0, 0], Ok(6)),
+            check(&[0, 0, 0, 0, 1, 3, 0, 0], Err(11)),
+            conflict_of((0, 1), (0, 0), (4, 0), false),
+            conflict_of((0, 1), (0, 0), (3, 0), true),
+            conflict_of((1, 0), (0, 0), (3, 0), true),
+        ]
+    };
+    let smaller_cut = [[0, 5, 129], [1, 7, 2]];
+    vec![
+        board("a cut of gap 1, a class of gap 2", two_types(6, &smaller_cut, [0b01, 0b10]), apart()),
+        board("the same, 1 too short", two_types(5, &smaller_cut, [0b01, 0b10]), vec![run(u32::MAX, "none 4\n")]),
+        board("a cut of gap 2, a class of gap 1", two_types(6, &[[0, 5, 130], [1, 7, 1]], [0b01, 0b10]), apart()),
+        board("a cut of gap 2, no class", two_types(6, &[[0, 5, 130]], [1, 0]), apart()),
+        board("a cut each", two_types(6, &[[0, 5, 129], [1, 7, 130]], [0b01, 0b10]), apart()),
+        board("a cut of one, a class of both", two_types(6, &[[0, 5, 130], [1, 9, 0]], [0b11, 0b10]), apart()),
+        board("a cut behind the class that counts", two_types(6, &[[0, 9, 131], [1, 5, 2]], [0b11, 0]), apart()),
+        // Two of the first type touch, and the second is 2 apart from the nearer.
+        board(
+            "two in a cut, one in no class",
+            Draft::new(2, 8, 1).classes(&[[0, 5, 130]]).with(2, 1, 1, &[SQUARE]).with(1, 1, 0, &[SQUARE]),
+            vec![run(u32::MAX, "shortest 8 14\n0 0 0 0\n0 2 0 0\n1 6 0 0\n")],
+        ),
+    ]
+}
+
+/// The limits of the gap byte: what read says of each, and how two squares of the class nest on W 2, L 4.
+fn boards_of_gap_bytes() -> Vec<SmallBoard> {
+    let accepted = [
+        ("gap byte 0", 0, [0, 0], NESTED),
+        ("gap byte 63", 63, [63, 0], "none 3\n"),
+        ("gap byte 128", 128, [0, 1], NESTED),
+        ("gap byte 129", 129, [1, 1], NESTED),
+        ("gap byte 190", 190, [62, 1], NESTED),
+        ("gap byte 191", 191, [63, 1], NESTED),
+    ];
+    let refused = [("gap byte 64", 64), ("gap byte 127", 127), ("gap byte 192", 192), ("gap byte 255", 255)];
+    let content = |[gap, mark]: [u16; 2]| {
+        let class = [0, 0, gap, mark];
+        [&[2, 4, 1, 1], &class[..], &[1, 2, 1, 1, 1, 4, 0, 0, 2, 0, 2, 2, 0, 2, 2]].concat()
+    };
+    let mut boards = vec![board(
+        "three classes",
+        Draft::new(2, 4, 1).classes(&[[5, 200, 191], [2, 7, 63], [0, 9, 128]]).with(2, 1, 0b100101, &[SQUARE]),
+        vec![
+            Claim::Gives(vec![
+                2, 4, 1, 3, 0, 9, 0, 1, 2, 7, 63, 0, 5, 200, 63, 1, 1, 2, 1, 37, 1, 4, 0, 0, 2, 0, 2, 2, 0, 2, 2,
+            ]),
+            run(u32::MAX, NESTED),
+        ],
+    )];
+    boards.extend(accepted.map(|(name, byte, told, printed)| {
+        board(name, squares_with_gap(2, 4, byte), vec![Claim::Gives(content(told)), run(u32::MAX, printed)])
+    }));
+    boards.extend(refused.map(|(name, byte)| {
+        board(name, squares_with_gap(2, 4, byte), vec![Claim::Reads(5), run(u32::MAX, "refused 5\n")])
+    }));
+    boards
 }
 
 fn cornered(x: i8) -> Draft {

@@ -1,5 +1,5 @@
 -- What a prepared call's view, turned parts and boxes say of the model: placements, extents, conflicts and rows. Assumes nothing.
-use mathlib.Core.Bool.{Bool, true, false, _&&_, and-assoc}
+use mathlib.Core.Bool.{Bool, true, false, cond, _&&_, and-assoc}
 use mathlib.Core.List.{List, [], _∷_, map}
 use mathlib.Core.Logic.{_⊎_, ⊎-elim}
 use mathlib.Core.Path.{_≡_, refl, sym, ap, ap₂, _∙_}
@@ -14,9 +14,9 @@ use Rattle.words.specs.Bits.{testBit}
 use Rattle.words.proofs.Bit.{testBit-above}
 use Rattle.words.proofs.Cases.{le-or-lt}
 use Rattle.model.specs.Candidate.{placedParts, placedVertices, onBoard, admitted, isCandidate, extent}
-use Rattle.model.specs.Content.{Vertex, Part, Board, kindAt, kindCount}
+use Rattle.model.specs.Content.{Vertex, Part, Board, SpacingClass, Kind, kindAt, kindCount}
 use Rattle.model.specs.Format.{content, refusal}
-use Rattle.model.specs.Gap.{pairGap}
+use Rattle.model.specs.Gap.{kindGap, shareCut, pairGap}
 use Rattle.model.specs.Geometry.{rotated, moved}
 use Rattle.model.specs.Grid.{Placement, placement, rows, columns, dots, numberLimit, placementOf}
 use Rattle.model.specs.Layout.{entry, entryOf, entryKind, conflict}
@@ -36,7 +36,7 @@ use Rattle.geometry.specs.declared.pieces.Piece.{Piece}
 use Rattle.shapes.specs.Boxes.{boxAt, turnedVertices, BoxesOf}
 use Rattle.shapes.specs.Pieces.{PieceOf}
 use Rattle.candidates.specs.Placements.{Bounded, within, fitsAt, placeable, offered, extentAt}
-use Rattle.candidates.specs.Conflicts.{placedOf, Near, conflictBetween}
+use Rattle.candidates.specs.Conflicts.{placedOf, Near, conflictBetween, gapBetween, viewGap}
 use Rattle.shapes.specs.Turned.{TurnedOf}
 use Rattle.shapes.specs.declared.boxes.Boxes.{Boxes}
 use Rattle.candidates.specs.declared.conflicts.Placed.{Placed}
@@ -64,6 +64,12 @@ pub sheet-range : (s : List ℕ) → refusal s ≡ 0 → (content s .sheet .W �
 unfolding content
 sheet-range s e = let f = board-fits s (no-cause s e .no4) in (f .widthMost, f .lengthMost, f .stepMost)
 
+-- The gaps of two kinds, and whether they share a common-cut class, make the gap of the pair.
+pub gap-of-pair : (cs : List SpacingClass) (k l : Kind) (g h : ℕ) (shared : Bool) → g ≡ kindGap cs k → h ≡ kindGap cs l → shared ≡ shareCut cs k l
+    → gapBetween g h shared ≡ pairGap cs k l
+unfolding gapBetween pairGap
+gap-of-pair cs k l g h shared eg eh e = ap₂ (λ t d. cond t 0 d) e (ap₂ max eg eh)
+
 module _ (s : List ℕ) (v : View) (x : Viewed s v) where
   pub bounded : Bounded v
   unfolding rows columns
@@ -83,11 +89,11 @@ module _ (s : List ℕ) (v : View) (x : Viewed s v) where
         gaps = λ t h. rw (kind-in s v x t (rw (x .view .kinds) at h) .gap) (gap-most s (x .accepted) (kindAt (content s .kinds) t));
       }
 
-  -- The larger of the two gaps in the view is the pair's.
+  -- The gap of two kinds in the view is the pair's.
   pub gap-is : (t u : ℕ) → t < kindCount (content s .kinds) → u < kindCount (content s .kinds)
-      → max (getD (v .gaps) t 0) (getD (v .gaps) u 0) ≡ pairGap (content s .classes) (kindAt (content s .kinds) t) (kindAt (content s .kinds) u)
-  unfolding pairGap
-  gap-is t u ht hu = ap₂ max (kind-in s v x t ht .gap) (kind-in s v x u hu .gap)
+      → viewGap v t u ≡ pairGap (content s .classes) (kindAt (content s .kinds) t) (kindAt (content s .kinds) u)
+  gap-is t u ht hu =
+      gap-of-pair (content s .classes) (kindAt (content s .kinds) t) (kindAt (content s .kinds) u) _ _ _ (kind-in s v x t ht .gap) (kind-in s v x u hu .gap) (x .view .cuts t u ht hu)
 
   -- the vertices of a kind
   module _ (t : ℕ) (h : t < kindCount (content s .kinds)) where

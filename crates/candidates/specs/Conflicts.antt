@@ -1,10 +1,12 @@
 -- Two pieces on their dots, and their conflict, as the code computes it. The laws say that it is the model's `conflict`.
-use mathlib.Core.Bool.{Bool}
+use mathlib.Core.Bool.{Bool, cond}
 use mathlib.Core.List.{List, map}
-use Prim.Native.Nat.{ℕ, _*_, _/_, _%_, _≤_, _<_}
+use Prim.Native.Nat.{ℕ, _*_, _/_, _%_, _≤_, _<_, max}
 use lib.IntN.{ℤ, pos, _-ℤ_}
+use lib.ListN.{getD}
 use Rattle.model.specs.Geometry.{piecesConflict}
 use Rattle.polygons.specs.Flat.{shifted}
+use Rattle.job.specs.Gaps.{masksMeet}
 use Rattle.job.specs.View.{Viewed}
 use Rattle.job.specs.declared.View.{View}
 use Rattle.shapes.specs.Boxes.{BoxesOf}
@@ -40,3 +42,11 @@ unfoldable pub conflictBetween : List ℤ → ℕ → Piece → Placed → Piece
 conflictBetween table step p a q c gap =
     piecesConflict gap (partsIn table (turnedTo p (a .rotation)))
     (map (map (shifted (pos (c .column * step) -ℤ pos (a .column * step)) (pos (c .row * step) -ℤ pos (a .row * step)))) (partsIn table (turnedTo q (c .rotation))))
+
+-- The gap of a pair of kinds, from the gaps of both and whether they share a common-cut class.
+unfoldable pub gapBetween : ℕ → ℕ → Bool → ℕ
+gapBetween g h shared = cond shared 0 (max g h)
+
+-- The gap of a pair of kinds, by a view.
+abbrev pub viewGap : View → ℕ → ℕ → ℕ
+viewGap v t u = gapBetween (getD (v .gaps) t 0) (getD (v .gaps) u 0) (masksMeet (getD (v .cuts) t 0) (getD (v .cuts) u 0))

@@ -1,11 +1,12 @@
 // Conflict of two pieces, each on a dot and at a rotation.
 ghost use mathlib.Core.Path.{_≡_};
-ghost use Prim.Native.Nat.{_*_, _≤_, _<_, max};
+ghost use Prim.Native.Nat.{_*_, _≤_, _<_};
 ghost use lib.IntN.{pos, _-ℤ_};
 ghost use lib.ListN.{getD};
+ghost use Rattle.job.specs.Gaps.{masksMeet};
 ghost use Rattle.shapes.specs.Pieces.{Turnable};
 ghost use Rattle.candidates.specs.Placements.{Bounded};
-ghost use Rattle.candidates.specs.Conflicts.{Near, placedOf, conflictBetween};
+ghost use Rattle.candidates.specs.Conflicts.{Near, placedOf, conflictBetween, gapBetween, viewGap};
 use geometry::pieces::Piece;
 use geometry::pieces::pieces_conflict;
 use job::View;
@@ -63,19 +64,31 @@ pub fn conflict_between(
     )
 }
 
-// The gap of a pair, from the gaps of both: the larger of the two.
-pub fn larger_gap(g: usize, h: usize) -> u16
-    requires { ⌜ (g ≤ 63) × (h ≤ 63) ⌝ }
-    ensures { λ r. ⌜ r ≡ max g h ⌝ }
+// Two kinds share a common-cut class: their masks meet.
+pub fn share_cut(view: View, kind: usize, other: usize) -> bool
+    requires { ⌜ (kind < 8) × (other < 8) ⌝ }
+    ensures { λ r. ⌜ r ≡ masksMeet (getD (view .cuts) kind 0) (getD (view .cuts) other 0) ⌝ }
 {
+    let cuts = view.cuts;
+    cuts[kind] & cuts[other] != 0
+}
+
+// The gap of a pair of kinds, from the gaps of both: none where they share a common-cut class, and otherwise the larger of the two.
+pub fn gap_between(g: usize, h: usize, shared: bool) -> u16
+    requires { ⌜ (g ≤ 63) × (h ≤ 63) ⌝ }
+    ensures { λ r. ⌜ r ≡ gapBetween g h shared ⌝ }
+{
+    if shared {
+        return 0;
+    }
     if g < h { h as u16 } else { g as u16 }
 }
 
 // The gap of a pair of kinds.
 pub fn pair_gap(view: View, kind: usize, other: usize) -> u16
     requires { ⌜ Bounded view × ((kind < view .kinds) × (other < view .kinds)) ⌝ }
-    ensures { λ r. ⌜ r ≡ max (getD (view .gaps) kind 0) (getD (view .gaps) other 0) ⌝ }
+    ensures { λ r. ⌜ r ≡ viewGap view kind other ⌝ }
 {
     let gaps = view.gaps;
-    larger_gap(gaps[kind], gaps[other])
+    gap_between(gaps[kind], gaps[other], share_cut(view, kind, other))
 }

@@ -6,11 +6,11 @@ use Prim.Native.Nat.{ℕ, _+_, _*_, _-_, _≤_}
 use native.Mathlib.Omega.{arith}
 use lib.ListN.{length, take, drop, length-drop}
 use lib.Seq.{length-take-le}
-use Rattle.model.specs.Format.{byteAt, boardAt, classesAt, classesStated, kindsAt, kindsLength, kindsStated, boardOf, classAt, classesOf, distinct, kindBytes, kindsGot, cause4, cause5, cause6}
+use Rattle.model.specs.Format.{byteAt, boardAt, classesAt, classesStated, kindsAt, kindsLength, kindsStated, boardOf, classFrom, classAt, classesOf, distinct, kindBytes, kindsGot, cause4, cause5, cause6}
 use Rattle.model.specs.Lists.{between, below}
 use Rattle.model.proofs.Folds.{map-same}
 use Rattle.frame.specs.Board.{boardFrom, unfitBoard}
-use Rattle.records.specs.Classes.{classFrom, classesFrom, entryAt, allInRange, distinctColumn, classesUnfit}
+use Rattle.records.specs.Classes.{classesFrom, entryAt, allInRange, distinctColumn, classesUnfit}
 use Rattle.records.specs.Kinds.{listUnfit}
 
 pub board-cause : (s : List ℕ) (o : ℕ) → o ≡ boardAt s → unfitBoard (boardFrom s o) ≡ cause4 s

@@ -2,19 +2,19 @@
 use mathlib.Core.Bool.{Bool, true, false, not, cond, _&&_, _||_}
 use mathlib.Core.List.{List, [], _∷_, _++_, map}
 use mathlib.Core.Path.{_≡_, refl, sym, ap, ap₂, _∙_}
-use Prim.Native.Nat.{ℕ, zero, suc, _+_, _*_, _-_, _<_}
+use Prim.Native.Nat.{ℕ, zero, suc, _+_, _*_, _<_}
 use native.Mathlib.Numerals.{add-one}
 use native.Mathlib.Omega.{arith}
 use borrow.Author.Tests.{lt-ltb, le-ltb, ltb-true, eqb-true, eqb-false, eq-eqb, ne-eqb, not-true}
 use lib.Dec.{eqb, ltb}
 use Rattle.words.specs.Bits.{testBit}
 use Rattle.model.specs.Content.{SpacingClass, Kind}
-use Rattle.model.specs.Format.{byteAt, distinct, byRisingId}
+use Rattle.model.specs.Format.{byteAt, gapMeant, classFrom, distinct, byRisingId}
 use Rattle.model.specs.Gap.{names, better, bestFrom, bestRanked, gapOr0}
 use Rattle.model.specs.Lists.{any, keep, concat, rising, below}
 use Rattle.model.proofs.Folds.{keep-append, keep-none}
 use Rattle.model.proofs.Lists.{and-left, and-right}
-use Rattle.records.specs.Classes.{classFrom, classesFrom, entryAt, firstFrom, hasId, indexOf, distinctColumn}
+use Rattle.records.specs.Classes.{classesFrom, entryAt, firstFrom, hasId, indexOf, distinctColumn}
 use Rattle.job.specs.Gaps.{bestOf, offered, offeredId, bestBelow}
 use Rattle.job.specs.declared.gaps.Best.{Best}
 use Rattle.records.proofs.ClassLaws.{risen-more}
@@ -126,11 +126,11 @@ module _ (s : List ℕ) (o n : ℕ) (k : Kind) (d : distinctColumn s o n ≡ tru
   -- One id more.
   offer-found : (i : ℕ) (b : Best) (t : Bool) → ltb (indexOf s o n i) n ≡ t
       → offers b (keep (names k) (cond t (classFrom s (o + indexOf s o n i * 3) ∷ []) []))
-      ≡ cond (t && testBit (k .classes) i) (offered b (byteAt s (o + indexOf s o n i * 3 + 1)) (byteAt s (o + indexOf s o n i * 3 + 2))) b
+      ≡ cond (t && testBit (k .classes) i) (offered b (byteAt s (o + indexOf s o n i * 3 + 1)) (gapMeant (byteAt s (o + indexOf s o n i * 3 + 2)))) b
   unfolding keep offers
   offer-found i b true e =
       one-offered k b (classFrom s (o + indexOf s o n i * 3))
-      ∙ ap (λ m. cond (testBit (k .classes) m) (offered b (byteAt s (o + indexOf s o n i * 3 + 1)) (byteAt s (o + indexOf s o n i * 3 + 2))) b)
+      ∙ ap (λ m. cond (testBit (k .classes) m) (offered b (byteAt s (o + indexOf s o n i * 3 + 1)) (gapMeant (byteAt s (o + indexOf s o n i * 3 + 2)))) b)
       (found-is s o i n (ltb-true _ _ e))
   offer-found i b false e = refl
 
@@ -164,7 +164,7 @@ module _ (s : List ℕ) (o n : ℕ) (k : Kind) (d : distinctColumn s o n ≡ tru
 
 module _ (s : List ℕ) (o n mask id : ℕ) (b : Best) (j : ℕ) (t : Bool) where
   pub offered-yes : (r g : ℕ) (c : Best) → j ≡ indexOf s o n id → t ≡ testBit mask id → (ltb j n && t) ≡ true
-      → r ≡ byteAt s (o + j * 3 + 1) → g ≡ byteAt s (o + j * 3 + 2) → c ≡ offered b r g → c ≡ offeredId s o n mask id b
+      → r ≡ byteAt s (o + j * 3 + 1) → g ≡ gapMeant (byteAt s (o + j * 3 + 2)) → c ≡ offered b r g → c ≡ offeredId s o n mask id b
   unfolding offeredId
   offered-yes r g c ej et e er eg ec =
       let e′ : (ltb (indexOf s o n id) n && testBit mask id) ≡ true = rw (ej, et) at e in

@@ -8,7 +8,7 @@ use lib.ListN.{length, getD, take, drop, length-take, length-drop}
 use lib.Seq.{getD-take, getD-drop, take-all, drop-drop}
 use Rattle.model.specs.Content.{Part, Kind, noKind, kindAt, kindCount, pieceCount}
 use Rattle.model.specs.Format.{byteAt, wordAt, boardAt, got, many, readKind, vertices, kindsAt, kindsLength, kindsStated, kindBytes, kindsGot, content, boardOf, classesAt, classesStated, cause1, cause2, cause3, cause4, cause5, cause6, cause7, refusal}
-use Rattle.model.specs.Gap.{kindGap}
+use Rattle.model.specs.Gap.{kindGap, shareCut}
 use Rattle.model.specs.Lists.{any, sum}
 use Rattle.model.specs.Grid.{rows, columns}
 use Rattle.model.proofs.Causes.{NoCause, none-before, refusal-is, Sections, sections, BoardFits, board-fits, classes-distinct, KindsFit, kinds-fit}
@@ -18,6 +18,7 @@ use Rattle.model.proofs.Records.{byte-behind, length-vertices, vertices-same, p
 use Rattle.frame.specs.Board.{BoardIn}
 use Rattle.frame.specs.declared.board.Board.{Board}
 use Rattle.records.specs.Classes.{classesFrom, distinctColumn}
+use Rattle.job.specs.Gaps.{cutIds, masksMeet}
 use Rattle.job.specs.Places.{FoundAt}
 use Rattle.records.specs.Records.{Reads, valuesOf}
 use Rattle.job.specs.Refusal.{refusalTo6}
@@ -29,6 +30,7 @@ use Rattle.job.specs.View.{PartAt, ViewOf}
 use Rattle.records.specs.Parts.{unfitFrom}
 use Rattle.records.proofs.PartLaws.{unfit-same}
 use Rattle.job.proofs.CauseLaws.{classes-are, ids-distinct, list-is, list-length}
+use Rattle.job.proofs.CutLaws.{share-cut}
 use Rattle.records.proofs.RecordLaws.{tail, reads-from, values-from}
 
 -- A byte of the type list is one of the job.
@@ -114,7 +116,7 @@ kinds-all s t h = ap (any badKind) (take-all t (content s .kinds) h) ∙ sym (ca
 -- The tables in a view.
 abbrev pub tableIn : View → Table
 tableIn v =
-    record { pieces = v .pieces; demands = v .demands; rotations = v .rotations; gaps = v .gaps; parts = v .parts; «part_at» = v .«part_at» }
+    record { pieces = v .pieces; demands = v .demands; rotations = v .rotations; gaps = v .gaps; cuts = v .cuts; parts = v .parts; «part_at» = v .«part_at» }
 
 pub no-six : (s : List ℕ) → refusalTo6 s ≡ 0 → NoCause s
 unfolding refusalTo6
@@ -152,6 +154,11 @@ module _ (s : List ℕ) (e : refusalTo6 s ≡ 0) where
     unfolding gapIn kindGap content
     gap-in o m k eo em = rw (eo, em, ← (classes-are s))
 
+    cut-in : (o m : ℕ) (k l : Kind) → o ≡ classesAt s → m ≡ classesStated s
+        → masksMeet (cutIds (classesFrom s o m) k) (cutIds (classesFrom s o m) l) ≡ shareCut (content s .classes) k l
+    unfolding content
+    cut-in o m k l eo em = share-cut (classesFrom s o m) k l ∙ rw (eo, em, ← (classes-are s))
+
     -- What was read and filled makes the view.
     pub view-is : (o m : ℕ) (v : View) → o ≡ classesAt s → m ≡ classesStated s
         → Built (classesFrom s o m) (take (base + size - base) (drop base s)) base n (length (take (base + size - base) (drop base s))) (tableIn v)
@@ -160,6 +167,8 @@ module _ (s : List ℕ) (e : refusalTo6 s ≡ 0) where
     unfolding content rows columns pieceCount kindAt
     view-is o m v eo em b ew el eg er ec em′ ek =
         let vs : valuesOf (many readKind n (take (base + size - base) (drop base s))) ≡ content s .kinds = values-from _ _ _ got-list in
+        let stored : (t : ℕ) → t < kindCount (content s .kinds) → Stored (classesFrom s o m) (take (base + size - base) (drop base s)) base (tableIn v) t (kindAt (content s .kinds) t) =
+        λ t h. subst (λ l. Stored (classesFrom s o m) (take (base + size - base) (drop base s)) base (tableIn v) t (getD l t noKind)) vs (b .stored t (let q = kind-count in omega arith)) in
         record {
           width = ew;
           len = el;
@@ -169,8 +178,9 @@ module _ (s : List ℕ) (e : refusalTo6 s ≡ 0) where
           margin = em′;
           kinds = ek ∙ sym kind-count;
           pieces = b .demanded ∙ ap (λ l. sum (map (λ k. k .demand) l)) vs;
+          cuts = λ t u h l. ap₂ masksMeet (stored t h .cuts) (stored u l .cuts) ∙ cut-in o m _ _ eo em;
           kind = λ t h.
-              let st = subst (λ l. Stored (classesFrom s o m) (take (base + size - base) (drop base s)) base (tableIn v) t (getD l t noKind)) vs (b .stored t (let q = kind-count in omega arith)) in
+              let st = stored t h in
               record {
                 demand = st .demand;
                 rotations = st .rotations;
@@ -196,6 +206,7 @@ clamped v m =
       demands = v .demands;
       rotations = v .rotations;
       gaps = v .gaps;
+      cuts = v .cuts;
       parts = v .parts;
       «part_at» = v .«part_at»;
     }
@@ -212,6 +223,7 @@ with-margin s v m h x =
       margin = h;
       kinds = x .kinds;
       pieces = x .pieces;
+      cuts = x .cuts;
       kind = λ t l. let k = x .kind t l in record { demand = k .demand; rotations = k .rotations; gap = k .gap; parts = k .parts; fewParts = k .fewParts; part = k .part };
     }
 

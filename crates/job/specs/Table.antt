@@ -7,6 +7,7 @@ use Rattle.model.specs.Content.{SpacingClass, Kind, noKind}
 use Rattle.model.specs.Format.{byteAt, many, readKind, byRisingId}
 use Rattle.model.specs.Gap.{names, bestRanked, gapOr0}
 use Rattle.model.specs.Lists.{keep, sum}
+use Rattle.job.specs.Gaps.{cutIds}
 use Rattle.job.specs.Places.{FoundAt}
 use Rattle.job.specs.declared.table.Head.{Head}
 use Rattle.job.specs.declared.table.Table.{Table}
@@ -29,6 +30,7 @@ pub record Stored (cs : List SpacingClass) (list : List ℕ) (base : ℕ) (table
   pub demand : getD (table .demands) t 0 ≡ k .demand
   pub rotations : getD (table .rotations) t 0 ≡ k .rotations
   pub gap : getD (table .gaps) t 0 ≡ gapIn cs k
+  pub cuts : getD (table .cuts) t 0 ≡ cutIds cs k
   pub parts : getD (table .parts) t 0 ≡ length (k .parts)
   pub fewParts : length (k .parts) ≤ 6
   pub part : (i : ℕ) → i < length (k .parts) → FoundAt list base (getD (table .«part_at») (t * 6 + i) 0) (getD (k .parts) i [])

@@ -34,6 +34,7 @@ pub fn view_of(job: &[u8]) -> View
     let demands = table.demands;
     let rotations = table.rotations;
     let gaps = table.gaps;
+    let cuts = table.cuts;
     let parts = table.parts;
     let part_at = table.part_at;
     View {
@@ -48,6 +49,7 @@ pub fn view_of(job: &[u8]) -> View
         demands,
         rotations,
         gaps,
+        cuts,
         parts,
         part_at,
     }

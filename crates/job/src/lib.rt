@@ -12,7 +12,8 @@ mod places;
 mod table;
 
 // What the layers above use of an accepted job under a margin: numbers, and where each part's bytes begin. Of each array the first
-// `kinds` entries count; of `part_at` the entries t * 6 + i for part i of kind t.
+// `kinds` entries count; of `part_at` the entries t * 6 + i for part i of kind t. Entry t of `cuts` is a mask of the common-cut classes of kind t:
+// two kinds share one exactly where their masks meet.
 pub struct View {
     pub width: usize,
     pub length: usize,
@@ -25,6 +26,7 @@ pub struct View {
     pub demands: [usize; 8],
     pub rotations: [usize; 8],
     pub gaps: [usize; 8],
+    pub cuts: [usize; 8],
     pub parts: [usize; 8],
     pub part_at: [usize; 48],
 }
@@ -49,6 +51,7 @@ fn no_view() -> View {
         demands: [0usize; 8],
         rotations: [0usize; 8],
         gaps: [0usize; 8],
+        cuts: [0usize; 8],
         parts: [0usize; 8],
         part_at: [0usize; 48],
     }

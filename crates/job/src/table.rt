@@ -16,6 +16,7 @@ pub struct Table {
     pub demands: [usize; 8],
     pub rotations: [usize; 8],
     pub gaps: [usize; 8],
+    pub cuts: [usize; 8],
     pub parts: [usize; 8],
     pub part_at: [usize; 48],
 }
@@ -50,9 +51,11 @@ pub fn read_kinds(job: &[u8], at: usize, n: usize, list: &[u8], base: usize, kin
         demands: [0usize; 8],
         rotations: [0usize; 8],
         gaps: [0usize; 8],
+        cuts: [0usize; 8],
         parts: [0usize; 8],
         part_at: [0usize; 48],
     };
+    let cut = gaps::cut_ids(job, at, n);
     let mut here = 0;
     let mut t = 0;
     while t < kinds {
@@ -60,6 +63,7 @@ pub fn read_kinds(job: &[u8], at: usize, n: usize, list: &[u8], base: usize, kin
         table.demands[t] = head.demand;
         table.rotations[t] = head.rotations;
         table.gaps[t] = gaps::kind_gap(job, at, n, head.classes);
+        table.cuts[t] = head.classes & cut;
         table.parts[t] = head.parts;
         table.pieces += head.demand;
         here = places::place_parts(list, here + 4, head.parts, base, t * 6, &mut table.part_at);

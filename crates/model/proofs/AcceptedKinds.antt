@@ -1,23 +1,22 @@
 -- What holds of the kinds of an accepted job: numbers in range, parts that are sound, and small gaps.
 use mathlib.Core.Bool.{Bool, true, false, not, cond, _&&_, _||_}
-use mathlib.Core.List.{List, [], _∷_, _++_, map}
-use mathlib.Core.Option.{Option, none, some}
-use mathlib.Core.Path.{_≡_, refl, sym, ap, _∙_}
-use Prim.Native.Nat.{ℕ, zero, suc, _+_, _*_, _-_, _<_, _≤_}
+use mathlib.Core.List.{List, [], _∷_, map}
+use mathlib.Core.Path.{_≡_, refl, ap, _∙_}
+use Prim.Native.Nat.{ℕ, _<_, _≤_}
 use native.Mathlib.Omega.{arith}
 use borrow.Author.Tests.{leb-true, not-false}
 use lib.Dec.{leb, ltb, eqb}
 use lib.ListN.{length, getD}
 use Rattle.model.specs.Content.{SpacingClass, Part, Kind, noKind, kindAt, kindCount, pieceCount}
-use Rattle.model.specs.Format.{byteAt, Got, got, many, readPart, readKind, kindsGot, kindBytes, kindsStated, content, classesOf, byRisingId, classInRange, vertexInRange, refusal, cause7}
+use Rattle.model.specs.Format.{byteAt, got, readPart, readKind, kindsGot, kindBytes, kindsStated, content, classesOf, byRisingId, classInRange, vertexInRange, refusal, cause7}
 use Rattle.model.specs.Gap.{names, better, bestFrom, bestRanked, gapOr0, kindGap}
 use Rattle.model.specs.Geometry.{sound}
 use Rattle.model.specs.Lists.{all, any, keep, concat, below}
-use Rattle.model.proofs.Causes.{NoCause, no-cause, no-cause7, KindsFit, kinds-fit, classes-in-range}
+use Rattle.model.proofs.Causes.{no-cause, no-cause7, KindsFit, kinds-fit, classes-in-range}
 use Rattle.model.proofs.Folds.{any-at, all-append}
 use Rattle.model.proofs.Lists.{and-left, and-right, and-both, or-left, or-right}
 use Rattle.model.proofs.Readers.{many-length, many-each}
-use Rattle.model.proofs.Records.{length-vertices, PartRead, part-read, KindRead, kind-read}
+use Rattle.model.proofs.Records.{length-vertices, part-read, kind-read}
 
 -- ---- Numbers
 
@@ -101,7 +100,7 @@ module _ (p : SpacingClass → Bool) where
       go true ih = and-both (p c) (all p (keep q cs)) (and-left (p c) (all p cs) e) ih
       go false ih = ih
 
-  all-risen : (cs : List SpacingClass) (is : List ℕ) → all p cs ≡ true → all p (concat (map (λ i. keep (λ c. eqb (c .id) i) cs) is)) ≡ true
+  pub all-risen : (cs : List SpacingClass) (is : List ℕ) → all p cs ≡ true → all p (concat (map (λ i. keep (λ c. eqb (c .id) i) cs) is)) ≡ true
   unfolding all concat
   all-risen cs [] e = refl
   all-risen cs (i ∷ is) e = all-append p (keep (λ c. eqb (c .id) i) cs) _ ∙ and-both _ _ (all-keep (λ c. eqb (c .id) i) cs e) (all-risen cs is e)

@@ -3,19 +3,19 @@ use mathlib.Core.Bool.{true, false, not, _||_, or-comm}
 use mathlib.Core.List.{List, [], _∷_, _++_, map, List·Permᴰ}
 use mathlib.Core.Path.{_≡_, refl, sym, ap, _∙_}
 use Prim.Native.Nat.{ℕ, _+_, _*_}
-use native.Mathlib.Nat.{max-comm}
 use lib.IntN.{ℤ, pos, negℤ, natAbs, _+ℤ_}
 use lib.Signed.{leZ}
 use Rattle.integers.proofs.Absolute.{natAbs-negℤ}
 use Rattle.integers.proofs.Solver.{ring, _⊞_, _⊟_, _⊠_, ⊖_, _≈_}
 use Rattle.model.specs.Candidate.{placedParts}
-use Rattle.model.specs.Content.{Vertex, vertex, Part, Kind, SpacingClass}
-use Rattle.model.specs.Gap.{kindGap, pairGap}
+use Rattle.model.specs.Content.{Vertex, vertex, Part}
+use Rattle.model.specs.Gap.{pairGap}
 use Rattle.model.specs.Geometry.{Direction, normals, negated, axes, directions, along, clearance, separates, separated, piecesConflict}
 use Rattle.model.specs.Layout.{Entry, entryKind, conflict}
 use Rattle.model.specs.Lists.{any, largestZ, smallestZ}
 use Rattle.model.specs.Opened.{opened}
 use Rattle.model.specs.Problem.{Problem}
+use Rattle.model.proofs.CommonCut.{pairGap-symmetric}
 use Rattle.model.proofs.Extremes.{leZ-same, largest-negated, smallest-negated}
 use Rattle.model.proofs.Tests.{any-append, any-swap, any-reordered, any-map, any-same, any-pair}
 
@@ -115,10 +115,6 @@ piecesConflict-symmetric gap Ps Qs =
     (λ Q. any-same (λ P. not (separated gap P Q)) (λ P. not (separated gap Q P)) (λ P. ap not (separated-symmetric gap P Q)) Ps) Qs
 
 -- ---- entries of a layout
-
-pub pairGap-symmetric : (cs : List SpacingClass) (k m : Kind) → pairGap cs k m ≡ pairGap cs m k
-unfolding pairGap
-pairGap-symmetric cs k m = max-comm (kindGap cs k) (kindGap cs m)
 
 pub conflict-symmetric : (j : Problem) (e f : Entry) → conflict j e f ≡ conflict j f e
 unfolding conflict

@@ -22,6 +22,7 @@ pub mod Causes
 pub mod AcceptedKinds
 pub mod Refusals
 pub mod Margin
+pub mod CommonCut
 pub mod Turning
 pub mod Program
 pub mod Buffers

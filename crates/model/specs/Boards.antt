@@ -4,17 +4,17 @@ use mathlib.Core.Bool.{Bool, true, false}
 use mathlib.Core.List.{List, [], _∷_, _++_, map}
 use Prim.Native.Nat.{ℕ, _+_, _*_, _/_}
 use lib.Dec.{eqb}
-use lib.IntN.{ℤ, pos}
+use lib.IntN.{pos}
 use lib.ListN.{length, replicate}
 use Rattle.words.specs.Number.{bytes, bytesOf, numberAt}
-use Rattle.model.specs.Content.{Vertex, vertex, Part, pieceCount}
+use Rattle.model.specs.Content.{vertex, Part, pieceCount}
 use Rattle.model.specs.Format.{content, refusal}
 use Rattle.model.specs.Geometry.{moved, piecesConflict}
 use Rattle.model.specs.Grid.{setWords}
 use Rattle.model.specs.Lists.{all, below}
 use Rattle.model.specs.Output.{program}
 use Rattle.model.specs.Problem.{under}
-use Rattle.model.specs.Services.{RunOutcome, WriteOutcome, run, check, conflictRow, numbersIn, wordsIn, workWords}
+use Rattle.model.specs.Services.{RunOutcome, WriteOutcome, read, run, check, conflictRow, numbersIn, wordsIn, workWords}
 use Rattle.model.specs.declared.Checked.{Checked}
 use Rattle.model.specs.declared.Checked.the-variants as C
 use Rattle.model.specs.declared.Held.the-variants.{Layout, Nothing}
@@ -26,19 +26,20 @@ use Rattle.model.specs.declared.Written.the-variants as W
 -- ---- Questions and answers
 
 -- A run of a job at a budget; a check of a job and a layout's numbers; a row of a job, of the candidate of a number of its first type, against that type; each of
--- the three under a margin instead of 0; whether squares at (0,0) and (x,y) are in conflict at a gap; by which number a job's sender is refused; what the
--- program prints of a job.
+-- the three under a margin instead of 0; the numbers that read gives of a job, where room for so many is lent; whether squares at (0,0) and (x,y) are in conflict at a
+-- gap; by which number a job's sender is refused; what the program prints of a job.
 pub data Question : Type 0 where
   prints : List ℕ → Question
   runs : List ℕ → ℕ → Question
   checks : List ℕ → List ℕ → Question
   rows : List ℕ → ℕ → Question
   clamped : ℕ → Question → Question
+  reads : List ℕ → ℕ → Question
   conflicts : ℕ → ℕ → ℕ → Question
   sends : List ℕ → Question
 
--- What a run says, whether its work words are zero, and the answer numbers after it; what check says; what row says and its words; whether there is conflict;
--- the number of the refusal, 0 for an accepted job; the bytes printed.
+-- What a run says, whether its work words are zero, and the answer numbers after it; what check says; what row says and its words, or read and its
+-- numbers; whether there is conflict; the number of the refusal, 0 for an accepted job; the bytes printed.
 pub data Answer : Type 0 where
   text : List ℕ → Answer
   says : RunAnswer → Bool → List ℕ → Answer
@@ -75,7 +76,12 @@ square = vertex (pos 0) (pos 0) ∷ vertex (pos 2) (pos 0) ∷ vertex (pos 2) (p
 unfoldable pub shownBy : WriteOutcome → Answer
 shownBy r = shows (r .answer) (map (λ i. numberAt 8 (r .buffer) (i * 8)) (below (wordsIn (r .buffer))))
 
--- The answer under a margin. A run is given just enough work words, each byte 255, and just enough answer numbers, each 7; a row just enough words, each 0.
+-- What read told and left, as an answer of the table.
+unfoldable pub toldBy : WriteOutcome → Answer
+toldBy r = shows (r .answer) (numbersOf (r .buffer))
+
+-- The answer under a margin. A run is given just enough work words, each byte 255, and just enough answer numbers, each 7; a row just enough words, each 0; read
+-- numbers that are each 7.
 unfoldable pub answerUnder : ℕ → Question → Answer
 answerUnder m (runs s budget) =
     saidBy
@@ -84,6 +90,7 @@ answerUnder m (runs s budget) =
 answerUnder m (checks s ns) = finds (check s m (bytesOf 2 ns))
 answerUnder m (rows s n) = shownBy (conflictRow s m 0 n 0 (replicate (setWords (content s .sheet) * 8) 0))
 answerUnder m (clamped k q) = answerUnder k q
+answerUnder m (reads s n) = toldBy (read s (bytesOf 2 (replicate n 7)))
 answerUnder m (prints s) = text (program s)
 answerUnder m (sends s) = isRefused (refusal s)
 answerUnder m (conflicts gap x y) = isConflict (piecesConflict gap (square ∷ []) (map (moved x y) square ∷ []))
@@ -105,15 +112,19 @@ jobOf w l classes types ts =
     ++ bytes 2 (length classes + length ts + 20)
     ++ (0x44 ∷ 0x42 ∷ [])
 
+-- "turn mask 1": squares as a type, with this demand and class mask.
+unfoldable pub squareOf : ℕ → ℕ → List ℕ
+squareOf demand classes = demand ∷ 1 ∷ classes ∷ 1 ∷ 4 ∷ 0 ∷ 0 ∷ 2 ∷ 0 ∷ 2 ∷ 2 ∷ 0 ∷ 2 ∷ []
+
 -- "turn mask 1, no class, demand 2": the squares as a type, with this class mask.
 unfoldable pub squareType : ℕ → List ℕ
-squareType classes = 2 ∷ 1 ∷ classes ∷ 1 ∷ 4 ∷ 0 ∷ 0 ∷ 2 ∷ 0 ∷ 2 ∷ 2 ∷ 0 ∷ 2 ∷ []
+squareType classes = squareOf 2 classes
 
 -- Two squares in no class.
 unfoldable pub squares : ℕ → ℕ → List ℕ
 squares w l = jobOf w l [] 1 (squareType 0)
 
--- Two squares in a class of this gap.
+-- Two squares in a class of this gap byte.
 unfoldable pub gapSquares : ℕ → ℕ → ℕ → List ℕ
 gapSquares gap w l = jobOf w l (0 ∷ 0 ∷ gap ∷ []) 1 (squareType 1)
 
@@ -144,9 +155,13 @@ strips = jobOf 12 20 [] 1 (2 ∷ 1 ∷ 0 ∷ 1 ∷ 4 ∷ 0 ∷ 0 ∷ 10 ∷ 10 �
 unfoldable pub bar : ℕ → List ℕ
 bar turns = jobOf 3 1 [] 1 (1 ∷ turns ∷ 0 ∷ 1 ∷ 4 ∷ 0 ∷ 0 ∷ 3 ∷ 0 ∷ 3 ∷ 1 ∷ 0 ∷ 1 ∷ [])
 
--- Two squares in "classes of rank 5 gap 1 and rank 9 gap 3", in this file order.
+-- Two squares that name the classes of ids 0 and 1, whose records are these: "classes of rank 5 gap 1 and rank 9 gap 3, in either file order".
 unfoldable pub rankedSquares : List ℕ → List ℕ
 rankedSquares classes = jobOf 2 7 classes 1 (squareType 3)
+
+-- Two types of one square each, with these class masks, on a board of width 2.
+unfoldable pub twoTypes : List ℕ → ℕ → ℕ → ℕ → List ℕ
+twoTypes classes a b l = jobOf 2 l classes 2 (squareOf 1 a ++ squareOf 1 b)
 
 -- One triangle with a corner at (x, 0), x as a byte: -127 is 129 and -128 is 128.
 unfoldable pub leftCorner : ℕ → List ℕ
@@ -267,4 +282,60 @@ clampRefusals =
     ∷ (clamped 64 (checks (squares 4 6) []) ⇒ finds (C.Refused 13))
     ∷ (clamped 64 (runs (squares 4 6) 1000000) ⇒ says (Refused 13) false untouched)
     ∷ (clamped 64 (runs star 1000000) ⇒ says (Refused 7) false (7 ∷ 7 ∷ 7 ∷ 7 ∷ []))
+    ∷ []
+
+-- Boards of document 02's third request. Gap byte 129 means gap 1 with the mark. Two squares that share a marked class nest as those in no class do: shortest 4, where
+-- gap byte 1 gives 5 at L 5 and none at L 4.
+unfoldable pub cutRuns : List Marked
+cutRuns =
+    (runs (gapSquares 129 2 4) 1000000 ⇒ says (Shortest 4 3) true (0 ∷ 0 ∷ 0 ∷ 0 ∷ 0 ∷ 2 ∷ 0 ∷ 0 ∷ []))
+    -- Both name marked class 0 and, each for itself, a class of better rank and gap 3: no gap, so L 4 is enough. Column 1 for the first square is one more step, which
+    -- look-ahead gives back.
+    ∷ (runs (twoTypes (0 ∷ 9 ∷ 130 ∷ 1 ∷ 1 ∷ 3 ∷ 2 ∷ 2 ∷ 3 ∷ []) 3 5 4) 1000000 ⇒ says (Shortest 4 3) true (0 ∷ 0 ∷ 0 ∷ 0 ∷ 1 ∷ 2 ∷ 0 ∷ 0 ∷ []))
+    -- Only one names the marked class, and the other none: the gap that its byte means, 1. Columns 1 and 2 for the first square are given back.
+    ∷ (runs (twoTypes (0 ∷ 0 ∷ 129 ∷ []) 1 0 5) 1000000 ⇒ says (Shortest 5 4) true (0 ∷ 0 ∷ 0 ∷ 0 ∷ 1 ∷ 3 ∷ 0 ∷ 0 ∷ []))
+    ∷ (runs (twoTypes (0 ∷ 0 ∷ 129 ∷ []) 1 0 4) 1000000 ⇒ says (Infeasible 3) true untouched)
+    -- Only one names the marked class, gap 3, and the other a class of gap 2: the larger, 3. The first square is given back at the columns 1 to 4.
+    ∷ (runs (twoTypes (0 ∷ 5 ∷ 131 ∷ 1 ∷ 9 ∷ 2 ∷ []) 1 2 7) 1000000 ⇒ says (Shortest 7 6) true (0 ∷ 0 ∷ 0 ∷ 0 ∷ 1 ∷ 5 ∷ 0 ∷ 0 ∷ []))
+    -- Two marked classes, gaps 1 and 2, one for each: nothing is shared, the larger gap is 2. The first square is given back at the columns 1 to 3.
+    ∷ (runs (twoTypes (0 ∷ 5 ∷ 129 ∷ 1 ∷ 9 ∷ 130 ∷ []) 1 2 6) 1000000 ⇒ says (Shortest 6 5) true (0 ∷ 0 ∷ 0 ∷ 0 ∷ 1 ∷ 4 ∷ 0 ∷ 0 ∷ []))
+    -- Two classes that both squares name, the marked one of worse rank, in either file order: no gap.
+    ∷ (runs (rankedSquares (0 ∷ 5 ∷ 1 ∷ 1 ∷ 9 ∷ 131 ∷ [])) 1000000 ⇒ says (Shortest 4 3) true (0 ∷ 0 ∷ 0 ∷ 0 ∷ 0 ∷ 2 ∷ 0 ∷ 0 ∷ []))
+    ∷ (runs (rankedSquares (1 ∷ 9 ∷ 131 ∷ 0 ∷ 5 ∷ 1 ∷ [])) 1000000 ⇒ says (Shortest 4 3) true (0 ∷ 0 ∷ 0 ∷ 0 ∷ 0 ∷ 2 ∷ 0 ∷ 0 ∷ []))
+    ∷ []
+
+-- "Conflict, wherever it is compared, includes this rule": row and check as well. At (0,0) a square is in conflict with itself and with (1,0), number 12, and at gap 1 also
+-- with (2,0), number 24.
+unfoldable pub cutConflicts : List Marked
+cutConflicts =
+    (rows (gapSquares 129 2 4) 0 ⇒ shows (W.Count 1) (4097 ∷ []))
+    ∷ (rows (gapSquares 1 2 4) 0 ⇒ shows (W.Count 1) (16781313 ∷ []))
+    ∷ (checks (gapSquares 129 2 4) (0 ∷ 0 ∷ 0 ∷ 0 ∷ 0 ∷ 2 ∷ 0 ∷ 0 ∷ []) ⇒ finds (C.Passes 4))
+    ∷ (checks (gapSquares 1 2 4) (0 ∷ 0 ∷ 0 ∷ 0 ∷ 0 ∷ 2 ∷ 0 ∷ 0 ∷ []) ⇒ finds (C.Refused 11))
+    -- Two types: both name marked class 0, or only one does.
+    ∷ (checks (twoTypes (0 ∷ 9 ∷ 130 ∷ 1 ∷ 1 ∷ 3 ∷ 2 ∷ 2 ∷ 3 ∷ []) 3 5 4) (0 ∷ 0 ∷ 0 ∷ 0 ∷ 1 ∷ 2 ∷ 0 ∷ 0 ∷ []) ⇒ finds (C.Passes 4))
+    ∷ (checks (twoTypes (0 ∷ 0 ∷ 129 ∷ []) 1 0 4) (0 ∷ 0 ∷ 0 ∷ 0 ∷ 1 ∷ 2 ∷ 0 ∷ 0 ∷ []) ⇒ finds (C.Refused 11))
+    ∷ []
+
+-- "Refusal 5 now covers gap bytes 64 to 127 and above 191."
+unfoldable pub cutBytes : List Marked
+cutBytes =
+    (sends (gapSquares 63 2 4) ⇒ isRefused 0)
+    ∷ (sends (gapSquares 64 2 4) ⇒ isRefused 5)
+    ∷ (sends (gapSquares 127 2 4) ⇒ isRefused 5)
+    ∷ (sends (gapSquares 128 2 4) ⇒ isRefused 0)
+    ∷ (sends (gapSquares 191 2 4) ⇒ isRefused 0)
+    ∷ (sends (gapSquares 192 2 4) ⇒ isRefused 5)
+    ∷ (sends (gapSquares 255 2 4) ⇒ isRefused 5)
+    ∷ []
+
+-- Read gives W, L, g, the class behind the count of classes, the type behind that of types, and N. Of the class it gives the gap, and the mark behind it.
+unfoldable pub cutReads : List Marked
+cutReads =
+    (reads (gapSquares 129 2 4) 23
+    ⇒ shows (W.Count 23) (2 ∷ 4 ∷ 1 ∷ 1 ∷ 0 ∷ 0 ∷ 1 ∷ 1 ∷ 1 ∷ 2 ∷ 1 ∷ 1 ∷ 1 ∷ 4 ∷ 0 ∷ 0 ∷ 2 ∷ 0 ∷ 2 ∷ 2 ∷ 0 ∷ 2 ∷ 2 ∷ []))
+    ∷ (reads (gapSquares 63 2 4) 23
+    ⇒ shows (W.Count 23) (2 ∷ 4 ∷ 1 ∷ 1 ∷ 0 ∷ 0 ∷ 63 ∷ 0 ∷ 1 ∷ 2 ∷ 1 ∷ 1 ∷ 1 ∷ 4 ∷ 0 ∷ 0 ∷ 2 ∷ 0 ∷ 2 ∷ 2 ∷ 0 ∷ 2 ∷ 2 ∷ []))
+    -- One number fewer, as many as document 01's content had: refused.
+    ∷ (reads (gapSquares 129 2 4) 22 ⇒ shows (W.Refused 9) (replicate 22 7))
     ∷ []

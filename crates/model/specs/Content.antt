@@ -1,4 +1,5 @@
 -- What a job says, free of its bytes: the board, the classes by rising id, the kinds of pieces.
+use mathlib.Core.Bool.{Bool}
 use mathlib.Core.List.{List, [], map}
 use Prim.Native.Nat.{ℕ}
 use lib.IntN.{ℤ, pos}
@@ -27,14 +28,15 @@ pub record Kind : Type 0 where
 abbrev pub kind : ℕ → ℕ → ℕ → List Part → Kind
 kind d r c ps = record { demand = d; rotations = r; classes = c; parts = ps }
 
--- "Class, 3 bytes: id 0 to 7, rank 0 to 255, gap 0 to 63."
+-- "Class, 3 bytes: id 0 to 7, rank 0 to 255, gap 0 to 63." Document 02, "3/13 Common cut": whether it is marked as common cut.
 pub record SpacingClass : Type 0 where
   pub id : ℕ
   pub rank : ℕ
   pub gap : ℕ
+  pub commonCut : Bool
 
-abbrev pub spacingClass : ℕ → ℕ → ℕ → SpacingClass
-spacingClass i r g = record { id = i; rank = r; gap = g }
+abbrev pub spacingClass : ℕ → ℕ → ℕ → Bool → SpacingClass
+spacingClass i r g c = record { id = i; rank = r; gap = g; commonCut = c }
 
 -- "Board, 6 bytes: width W, length L, step g."
 pub record Board : Type 0 where

@@ -3,16 +3,16 @@ use mathlib.Core.Bool.{Bool, true, false, not, cond, _&&_, _||_}
 use mathlib.Core.List.{List, [], _∷_, map}
 use Prim.Native.Nat.{ℕ, zero, suc, _+_, _*_, _-_, min, max}
 use lib.Dec.{leb, ltb, eqb}
-use lib.IntN.{ℤ, negsuc}
+use lib.IntN.{negsuc}
 use lib.ListN.{length, getD, take, drop}
 use lib.Signed.{leZ}
 use Rattle.integers.specs.Byte.{signed}
 use Rattle.words.specs.Bits.{testBit}
 use Rattle.words.specs.Number.{numberAt}
-use Rattle.model.specs.Content.{Vertex, vertex, Part, Kind, kind, SpacingClass, spacingClass, Board, board, Job, job, pieceCount}
+use Rattle.model.specs.Content.{Vertex, vertex, Part, Kind, kind, SpacingClass, spacingClass, Board, board, Job, job}
 use Rattle.model.specs.Geometry.{sound}
 use Rattle.model.specs.Grid.{dots}
-use Rattle.model.specs.Lists.{all, any, keep, countOf, concat, sum, below, between}
+use Rattle.model.specs.Lists.{all, any, keep, concat, sum, below, between}
 
 -- ---- Numbers
 
@@ -98,10 +98,21 @@ shareByte a b = ltb (max (a .offset) (b .offset)) (min (a .offset + a .size) (b 
 unfoldable pub boardOf : List ℕ → Board
 boardOf s = board (wordAt s (boardAt s)) (wordAt s (boardAt s + 2)) (wordAt s (boardAt s + 4))
 
--- "Class, 3 bytes: id .., rank .., gap ..": record i of the class list.
+-- Document 02, "3/13 Common cut": "A class gap byte of 128 to 191 .. marks the class as common cut".
+unfoldable pub marksCut : ℕ → Bool
+marksCut b = between 128 191 b
+
+-- It "now means gap byte minus 128"; every other gap byte means itself.
+unfoldable pub gapMeant : ℕ → ℕ
+gapMeant b = cond (marksCut b) (b - 128) b
+
+-- "Class, 3 bytes: id .., rank .., gap ..": the record at byte o.
+abbrev pub classFrom : List ℕ → ℕ → SpacingClass
+classFrom s o = spacingClass (byteAt s o) (byteAt s (o + 1)) (gapMeant (byteAt s (o + 2))) (marksCut (byteAt s (o + 2)))
+
+-- Record i of the class list.
 unfoldable pub classAt : List ℕ → ℕ → SpacingClass
-classAt s i =
-    spacingClass (byteAt s (classesAt s + i * 3)) (byteAt s (classesAt s + i * 3 + 1)) (byteAt s (classesAt s + i * 3 + 2))
+classAt s i = classFrom s (classesAt s + i * 3)
 
 -- The classes in the order of the file.
 unfoldable pub classesOf : List ℕ → List SpacingClass
@@ -212,7 +223,7 @@ cause4 s =
     || not (between 1 1000 (boardOf s .g))
     || ltb 1024 (dots (boardOf s))
 
--- "id 0 to 7, rank 0 to 255, gap 0 to 63"
+-- "id 0 to 7, rank 0 to 255, gap 0 to 63". Document 02: "Refusal 5 now covers gap bytes 64 to 127 and above 191": the ones that mean a gap above 63.
 unfoldable pub classInRange : SpacingClass → Bool
 classInRange c = leb (c .id) 7 && leb (c .rank) 255 && leb (c .gap) 63
 

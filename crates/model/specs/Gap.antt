@@ -1,12 +1,12 @@
--- Document 01, "Gap and conflict": the gap of a type and of a pair.
-use mathlib.Core.Bool.{Bool, cond}
+-- Document 01, "Gap and conflict": the gap of a type and of a pair; document 02, "3/13 Common cut": the pairs that have none.
+use mathlib.Core.Bool.{Bool, cond, _&&_}
 use mathlib.Core.List.{List, [], _∷_}
 use mathlib.Core.Option.{Option, none, some}
 use Prim.Native.Nat.{ℕ, max}
 use lib.Dec.{ltb}
 use Rattle.words.specs.Bits.{testBit}
 use Rattle.model.specs.Content.{SpacingClass, Kind}
-use Rattle.model.specs.Lists.{keep}
+use Rattle.model.specs.Lists.{any, keep}
 
 -- "class mask (bit i names class id i; zero means no class)"
 unfoldable pub names : Kind → SpacingClass → Bool
@@ -35,6 +35,10 @@ gapOr0 (some c) = c .gap
 unfoldable pub kindGap : List SpacingClass → Kind → ℕ
 kindGap cs k = gapOr0 (bestRanked (keep (names k) cs))
 
--- "A pair's gap is the larger of the two."
+-- Document 02: "Two pieces that share a marked class": both of their masks name it.
+unfoldable pub shareCut : List SpacingClass → Kind → Kind → Bool
+shareCut cs k m = any (λ c. c .commonCut && names k c && names m c) cs
+
+-- "A pair's gap is the larger of the two." Document 02: "Two pieces that share a marked class have pair gap 0, and everything else about gaps holds."
 unfoldable pub pairGap : List SpacingClass → Kind → Kind → ℕ
-pairGap cs k m = max (kindGap cs k) (kindGap cs m)
+pairGap cs k m = cond (shareCut cs k m) 0 (max (kindGap cs k) (kindGap cs m))

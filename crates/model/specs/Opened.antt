@@ -9,10 +9,10 @@ use Rattle.model.specs.Lists.{all, any, keep, countOf, concat, sum, larg
 use Rattle.model.specs.Content.{pieceCount, kindCount, kindAt}
 use Rattle.model.specs.Grid.{columns, rows, dots, numberOf, placementOf, numberLimit, setWords}
 use Rattle.model.specs.Geometry.{quarterTurn, rotated, moved, vertexAt, following, cross, strictlyLeft, edgeSound, sound, outwardNormal, normals, negated, axes, directions, along, clearance, separates, separated, piecesConflict}
-use Rattle.model.specs.Gap.{names, better, bestFrom, bestRanked, gapOr0, kindGap, pairGap}
+use Rattle.model.specs.Gap.{names, better, bestFrom, bestRanked, gapOr0, kindGap, shareCut, pairGap}
 use Rattle.model.specs.Problem.{cause13}
 use Rattle.model.specs.Candidate.{placedPart, placedParts, placedVertices, onBoard, admitted, isCandidate, candidates, natural, extent}
-use Rattle.model.specs.Format.{byteAt, wordAt, trailerAt, boardAt, classesAt, kindsAt, kindsLength, classesStated, kindsStated, lengthStated, marked, boardSection, classesSection, kindsSection, inPlace, shareByte, boardOf, classAt, classesOf, byRisingId, joined, followed, many, vertices, readPart, headInRange, withParts, readKind, kindBytes, kindsGot, kindsIn, content, cause1, cause2, cause3, cause4, classInRange, distinct, cause5, namesPresent, kindsUnfit, cause6, vertexInRange, cause7, refusal}
+use Rattle.model.specs.Format.{byteAt, wordAt, trailerAt, boardAt, classesAt, kindsAt, kindsLength, classesStated, kindsStated, lengthStated, marked, boardSection, classesSection, kindsSection, inPlace, shareByte, boardOf, marksCut, gapMeant, classAt, classesOf, byRisingId, joined, followed, many, vertices, readPart, headInRange, withParts, readKind, kindBytes, kindsGot, kindsIn, content, cause1, cause2, cause3, cause4, classInRange, distinct, cause5, namesPresent, kindsUnfit, cause6, vertexInRange, cause7, refusal}
 use Rattle.model.specs.Layout.{entryOf, entryNumber, entryKind, isEntry, entryExtent, conflict, inOrder, ordered, copies, demandMet, apart, passes, largestEnd, layoutLength}
 use Rattle.model.specs.Search.{pieces, candidateTable, free, abovePrevious, beats, staysBelow, live, copiesLeft, forwardCheck, then, completed, tryCandidates, searchPieces, searchFrom, lengthOf, stepsFrom, stepsNeeded, isStopped, stepsTaken, latest, bestAfter, held}
 use Rattle.model.specs.Services.{numbersIn, wordsIn, withNumbers, withWords, coordinate, vertexNumbers, partNumbers, kindNumbers, classNumbers, contentNumbers, readContent, read, refusalUnder, cause12, rowBit, rowWords, rowContent, conflictRow, entryIn, layoutIn, cause11, checkContent, check, workWords, cleared, entryNumbers, layoutNumbers, withLayout, heldAs, finishedAs, stepCount, verdict, runContent, run}
@@ -39,7 +39,7 @@ unfolding quarterTurn rotated moved vertexAt following cross strictlyLeft edgeSo
 openedGeometry = 0
 
 unfoldable pub openedGap : ℕ
-unfolding names better bestFrom bestRanked gapOr0 kindGap pairGap
+unfolding names better bestFrom bestRanked gapOr0 kindGap shareCut pairGap
 openedGap = 0
 
 unfoldable pub openedCandidate : ℕ
@@ -47,7 +47,7 @@ unfolding placedPart placedParts placedVertices onBoard admitted isCandidate can
 openedCandidate = 0
 
 unfoldable pub openedFormat : ℕ
-unfolding byteAt wordAt trailerAt boardAt classesAt kindsAt kindsLength classesStated kindsStated lengthStated marked boardSection classesSection kindsSection inPlace shareByte boardOf classAt classesOf byRisingId joined followed many vertices readPart headInRange withParts readKind kindBytes kindsGot kindsIn content cause1 cause2 cause3 cause4 classInRange distinct cause5 namesPresent kindsUnfit cause6 vertexInRange cause7 refusal
+unfolding byteAt wordAt trailerAt boardAt classesAt kindsAt kindsLength classesStated kindsStated lengthStated marked boardSection classesSection kindsSection inPlace shareByte boardOf marksCut gapMeant classAt classesOf byRisingId joined followed many vertices readPart headInRange withParts readKind kindBytes kindsGot kindsIn content cause1 cause2 cause3 cause4 classInRange distinct cause5 namesPresent kindsUnfit cause6 vertexInRange cause7 refusal
 openedFormat = 0
 
 unfoldable pub openedLayout : ℕ

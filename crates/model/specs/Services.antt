@@ -4,7 +4,7 @@
 use mathlib.Core.Bool.{Bool, true, false, not, _&&_, _||_, cond}
 use mathlib.Core.List.{List, [], _∷_, _++_, map}
 use mathlib.Core.Option.{Option, none, some}
-use Prim.Native.Nat.{ℕ, zero, suc, _+_, _*_, _-_}
+use Prim.Native.Nat.{ℕ, _+_, _*_, _-_}
 use lib.Dec.{ltb, eqb}
 use lib.IntN.{ℤ, pos, negsuc}
 use lib.ListN.{length, replicate}
@@ -62,9 +62,9 @@ partNumbers P = length P ∷ concat (map vertexNumbers P)
 unfoldable pub kindNumbers : Kind → List ℕ
 kindNumbers k = k .demand ∷ k .rotations ∷ k .classes ∷ length (k .parts) ∷ concat (map partNumbers (k .parts))
 
--- Id, rank and gap.
+-- Id, rank, gap and, behind it, the mark of common cut: 1 where the class has it, 0 where it has not.
 unfoldable pub classNumbers : SpacingClass → List ℕ
-classNumbers c = c .id ∷ c .rank ∷ c .gap ∷ []
+classNumbers c = c .id ∷ c .rank ∷ c .gap ∷ cond (c .commonCut) 1 0 ∷ []
 
 -- "Read gives W, L, g, the classes by rising id, the types and N", each list behind its count.
 unfoldable pub contentNumbers : Job → List ℕ

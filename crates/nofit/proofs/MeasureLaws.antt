@@ -30,6 +30,7 @@ use Rattle.model.specs.Grid.{setWords}
 use Rattle.model.proofs.Turning.{vertexed}
 use Rattle.model.proofs.Accepted.{accepted-dots}
 use Rattle.model.proofs.Causes.{no-cause, board-fits}
+use Rattle.model.proofs.CommonCut.{pairGap-most}
 use Rattle.model.proofs.Lists.{not-both}
 use Rattle.model.proofs.Moves.{Vertexed}
 use Rattle.polygons.specs.Boxes.{extentsOf, joined}
@@ -43,7 +44,7 @@ use Rattle.shapes.specs.declared.boxes.Boxes.{Boxes}
 use Rattle.geometry.proofs.BoxesApart.{boxes-apart}
 use Rattle.shapes.proofs.ViewLaws.{kind-in}
 use Rattle.candidates.proofs.PlacementLaws.{end-nonneg}
-use Rattle.candidates.proofs.PreparedLaws.{sheet-range, gap-is}
+use Rattle.candidates.proofs.PreparedLaws.{sheet-range}
 use Rattle.nofit.specs.Measures.{Within, Around, NoLarger, Spaced}
 use Rattle.nofit.specs.Patterns.{offsetConflict, Reaching, MeasuresOf}
 
@@ -210,9 +211,11 @@ module _ (s : List ℕ) (v : View) (b : Boxes) (x : Viewed s v) (y : BoxesOf s b
       (around (t * 4 + k) (omega (arith, x .view .kinds))
       (ap₂ (λ i j. testBit (getD (v .rotations) i 0) j) q r ∙ ap (λ n. testBit n k) (kind-in s v x t h .rotations) ∙ m))
 
-  -- the gap of a pair
+  -- the gap of a pair is at most the larger of the two kinds' gaps
   pair-most : (t u : ℕ) → t < kindCount (content s .kinds) → u < kindCount (content s .kinds) → pairGap (content s .classes) (kindAt (content s .kinds) t) (kindAt (content s .kinds) u) ≤ gap
-  pair-most t u ht hu = subst (λ n. n ≤ gap) (gap-is s v x t u ht hu) (max-le (gaps t (omega (arith, x .view .kinds))) (gaps u (omega (arith, x .view .kinds))))
+  pair-most t u ht hu =
+      le-trans (pairGap-most (content s .classes) (kindAt (content s .kinds) t) (kindAt (content s .kinds) u))
+      (max-le (subst (λ n. n ≤ gap) (kind-in s v x t ht .gap) (gaps t (omega (arith, x .view .kinds)))) (subst (λ n. n ≤ gap) (kind-in s v x u hu .gap) (gaps u (omega (arith, x .view .kinds)))))
 
   -- Pieces that stand so many columns apart are not in conflict.
   pub reaching : Reaching (content s) r

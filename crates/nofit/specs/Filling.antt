@@ -4,7 +4,7 @@ use mathlib.Core.Bool.{Bool, true, cond, _&&_, _||_}
 use mathlib.Core.List.{List, map}
 use mathlib.Core.Logic.{_⊎_}
 use mathlib.Core.Path.{_≡_}
-use Prim.Native.Nat.{ℕ, _+_, _-_, _*_, _/_, _%_, _≤_, _<_, max}
+use Prim.Native.Nat.{ℕ, _+_, _-_, _*_, _/_, _%_, _≤_, _<_}
 use lib.Dec.{leb, ltb, eqb}
 use lib.IntN.{ℤ}
 use lib.ListN.{getD}
@@ -23,6 +23,7 @@ use Rattle.shapes.specs.Boxes.{boxAt, BoxesOf}
 use Rattle.shapes.specs.Pieces.{turnedTo, Turnable}
 use Rattle.shapes.specs.Turned.{TurnedOf}
 use Rattle.shapes.specs.declared.boxes.Boxes.{Boxes}
+use Rattle.candidates.specs.Conflicts.{viewGap}
 use Rattle.nofit.specs.Patterns.{fromMiddle, aboveString, belowString, MeasuresOf}
 use Rattle.nofit.specs.declared.places.Nofit.{Nofit}
 use Rattle.nofit.specs.declared.patterns.Dot.{Dot}
@@ -123,7 +124,7 @@ patternOf v w x =
       lift = x .down * w .rows;
       below = boundOf w x;
       mask = getD (v .rotations) (x .other) 0;
-      gap = max (getD (v .gaps) (x .kind) 0) (getD (v .gaps) (x .other) 0);
+      gap = viewGap v (x .kind) (x .other);
     }
 
 -- Numbers that are small enough to count with.

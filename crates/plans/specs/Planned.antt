@@ -4,9 +4,10 @@ use mathlib.Core.Path.{_≡_}
 use Prim.Native.Nat.{ℕ, _+_, _*_, _<_}
 use lib.IntN.{ℤ, pos}
 use lib.ListN.{length, getD}
+use Rattle.words.specs.Bits.{testBit}
 use Rattle.model.specs.Content.{Kind, kindAt, kindCount, pieceCount}
 use Rattle.model.specs.Format.{content, refusal}
-use Rattle.model.specs.Gap.{kindGap}
+use Rattle.model.specs.Gap.{kindGap, shareCut}
 use Rattle.model.specs.Grid.{setWords}
 use Rattle.model.specs.Problem.{Problem, under}
 use Rattle.model.specs.Search.{copiesLeft}
@@ -37,6 +38,11 @@ EndsOf s b ends = (t k : ℕ) → t < kindCount (content s .kinds) → k < 4 →
 abbrev pub GapsOf : List ℕ → List ℕ → Type 0
 GapsOf s gaps = (t : ℕ) → t < kindCount (content s .kinds) → getD gaps t 0 ≡ kindGap (content s .classes) (kindAt (content s .kinds) t)
 
+-- The bits of this number say which kinds share a common-cut class.
+abbrev pub SharedOf : List ℕ → ℕ → Type 0
+SharedOf s shared = (t u : ℕ) → t < kindCount (content s .kinds) → u < kindCount (content s .kinds)
+    → testBit shared (t * 8 + u) ≡ shareCut (content s .classes) (kindAt (content s .kinds) t) (kindAt (content s .kinds) u)
+
 -- These are the numbers of their parts.
 abbrev pub PartsOf : List ℕ → List ℕ → Type 0
 PartsOf s parts = (t : ℕ) → t < kindCount (content s .kinds) → getD parts t 0 ≡ length (kindAt (content s .kinds) t .parts)
@@ -62,5 +68,6 @@ pub record PlanOf (s : List ℕ) (p : Plan) : Type 0 where
   pub copies : CopiesOf (content s .kinds) (p .copies)
   pub ends : EndsOf s boxes (p .ends)
   pub gaps : GapsOf s (p .gaps)
+  pub shared : SharedOf s (p .shared)
   pub parts : PartsOf s (p .parts)
   pub sizes : SizesOf s (p .sizes)

@@ -13,7 +13,7 @@ ghost use Rattle.stepping.specs.Slots.{SetPlace};
 ghost use Rattle.plans.specs.Planned.{PlanOf, planned};
 use crate::plan::Plan;
 use candidates::conflicts::Placed;
-use candidates::conflicts::larger_gap;
+use candidates::conflicts::gap_between;
 use candidates::conflicts::placed_of;
 use candidates::placements;
 use geometry::pieces::Piece;
@@ -52,7 +52,8 @@ pub fn pair_gap(job: &[u8], plan: Plan, t: usize, u: usize) -> u16
     ensures { λ r. ⌜ r ≡ pairGap (content (now (job .entry)) .classes) (kindAt (content (now (job .entry)) .kinds) t) (kindAt (content (now (job .entry)) .kinds) u) ⌝ }
 {
     let gaps = plan.gaps;
-    larger_gap(gaps[t] as usize, gaps[u] as usize)
+    let shared = words::bits::test_bit(plan.shared, (t * 8 + u) as u64);
+    gap_between(gaps[t] as usize, gaps[u] as usize, shared)
 }
 
 // Where candidate m of kind u ends, which stands at this place.

@@ -1,25 +1,29 @@
 // What follows from the job and the margin and is computed once for a run. It goes through the walk by value, so its numbers are small.
 ghost use mathlib.Core.Path.{_≡_};
-ghost use Prim.Native.Nat.{ℕ, _≤_, _<_};
+ghost use Prim.Native.Nat.{ℕ, _/_, _%_, _≤_, _<_};
 ghost use lib.ListN.{getD};
+ghost use Rattle.words.specs.Bits.{bitsWhere};
 ghost use Rattle.model.specs.Content.{pieceCount};
 ghost use Rattle.model.specs.Format.{content};
 ghost use Rattle.model.specs.Search.{copiesLeft};
 ghost use Rattle.model.specs.Services.{workWords};
+ghost use Rattle.job.specs.Gaps.{masksMeet};
 ghost use Rattle.job.specs.View.{problemOf, Viewed};
 ghost use Rattle.geometry.specs.Pieces.{Fitting};
 ghost use Rattle.shapes.specs.Boxes.{BoxesOf};
 ghost use Rattle.stepping.specs.Levels.{piecesFrom};
 ghost use Rattle.plans.specs.Planned.{KindsOf, CopiesOf, EndsOf, SizesOf, PlanOf};
+use candidates::conflicts::share_cut;
 use geometry::pieces::Piece;
 use job::View;
 use shapes::boxes::Boxes;
 use shapes::pieces::piece_of;
 
 // The board's rows and step; the margin, which says whose candidates the live sets hold (no function of the walk looks at it: it is the same in every length, so
-// the walk compares ends); how many kinds and pieces there are, and words in a set; the kind of each piece; the copies of each kind left at
-// each level, those of kind u at level l under l * 8 + u; where each kind ends at the first column, turned k quarter turns under t * 4 + k; its
-// gap, how many parts it has, and how many vertices each part has, part i of kind t under t * 6 + i.
+// the walk compares ends); how many kinds and pieces there are, and words in a set; whether kinds t and u share a common-cut class, in bit
+// t * 8 + u; the kind of each piece; the copies of each kind left at each level, those of kind u at level l under l * 8 + u; where each kind
+// ends at the first column, turned k quarter turns under t * 4 + k; its gap, how many parts it has, and how many vertices each part has, part
+// i of kind t under t * 6 + i.
 pub struct Plan {
     pub rows: usize,
     pub step: usize,
@@ -27,6 +31,7 @@ pub struct Plan {
     pub types: usize,
     pub pieces: usize,
     pub words: usize,
+    pub shared: u64,
     pub kinds: [u8; 12],
     pub copies: [u8; 96],
     pub ends: [i16; 32],
@@ -145,6 +150,19 @@ fn sizes_of(job: &[u8], view: View) -> [u8; 48]
     sizes
 }
 
+// Which kinds share a common-cut class: kinds t and u in bit t * 8 + u. (One number, where a table of masks would be copied in each step.)
+fn shared_cuts(view: View) -> u64
+    ensures { λ r. ⌜ r ≡ bitsWhere 64 (λ x. masksMeet (getD (view .cuts) (x / 8) 0) (getD (view .cuts) (x % 8) 0)) ⌝ }
+{
+    let mut shared: u64 = 0;
+    let mut x: usize = 0;
+    while x < 64 {
+        shared = words::bits::assign_bit(shared, x as u64, share_cut(view, x / 8, x % 8));
+        x += 1;
+    }
+    shared
+}
+
 // The plan of a job, under the view's margin.
 pub fn make_plan(job: &[u8], view: View, boxes: Boxes) -> Plan
     requires { ⌜ Viewed (now job) view × BoxesOf (now job) boxes ⌝ }
@@ -160,6 +178,7 @@ pub fn make_plan(job: &[u8], view: View, boxes: Boxes) -> Plan
         types: view.kinds,
         pieces: view.pieces,
         words: (view.columns * view.rows + 15) / 16,
+        shared: shared_cuts(view),
         kinds,
         copies: copies_table(job, view, kinds),
         ends: ends_of(job, view, boxes),

@@ -63,7 +63,7 @@ module _ (s : List ℕ) (e : refusal s ≡ 0) where
       (written-then 0 3 (boardNumbers o s) (n ∷ []) a u v refl (omega arith) (eu ∙ ap (λ r. written 0 r a) (three-words s o)) ev) ew
       ∙ ap (λ r. written 0 r a) (front-is o m n eo em en)
 
-  pub front-length : length (frontNumbers (content s)) ≡ 4 + classesStated s * 3
+  pub front-length : length (frontNumbers (content s)) ≡ 4 + classesStated s * 4
   front-length = let c = class-count in let l = length-classes (content s .classes) in omega arith
 
   -- ---- Behind
@@ -77,8 +77,8 @@ module _ (s : List ℕ) (e : refusal s ≡ 0) where
       let l = kinds-length in
       length-append (kindCount (content s .kinds) ∷ concat (map kindNumbers (content s .kinds))) (pieceCount (content s .kinds) ∷ []) ∙ (omega arith)
 
-  -- A type takes some bytes.
-  pub kinds-some : 1 ≤ kindsLength s
+  -- There is a type, and it takes some bytes.
+  pub kinds-some : 4 ≤ kindsLength s
   unfolding kindsGot
   kinds-some =
       let k = kinds-in s (six-none s e) in
@@ -113,7 +113,7 @@ module _ (s : List ℕ) (e : refusal s ≡ 0) where
   content-is =
       append-assoc (frontNumbers (content s)) (kindCount (content s .kinds) ∷ concat (map kindNumbers (content s .kinds))) (pieceCount (content s .kinds) ∷ [])
 
-  pub content-length : length (contentNumbers (content s)) ≡ 4 + classesStated s * 3 + 2 + kindsLength s
+  pub content-length : length (contentNumbers (content s)) ≡ 4 + classesStated s * 4 + 2 + kindsLength s
   content-length =
       let f = front-length in
       let b = back-length in
@@ -128,7 +128,7 @@ module _ (s : List ℕ) (e : refusal s ≡ 0) where
   unfolding readContent numbersIn count
   content-fits out h = rw (le-ltb _ _ h)
 
-  pub content-written : (at : ℕ) (a u v : List ℕ) → at ≡ 4 + classesStated s * 3 → at * 2 ≤ length a → u ≡ written 0 (frontNumbers (content s)) a
+  pub content-written : (at : ℕ) (a u v : List ℕ) → at ≡ 4 + classesStated s * 4 → at * 2 ≤ length a → u ≡ written 0 (frontNumbers (content s)) a
       → v ≡ written at (backNumbers (content s)) u → v ≡ withNumbers (contentNumbers (content s)) a
   unfolding withNumbers
   content-written at a u v ea h eu ev =

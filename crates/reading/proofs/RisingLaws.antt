@@ -3,30 +3,48 @@ use mathlib.Core.Bool.{Bool, true, false, cond, _&&_}
 use mathlib.Core.List.{List, [], _∷_, _++_, map}
 use mathlib.Core.Logic.{_⊎_, inl, inr}
 use mathlib.Core.Path.{_≡_, refl, sym, ap, ap₂, subst, _∙_}
-use Prim.Native.Nat.{ℕ, zero, suc, _+_, _*_, _-_, _<_, _≤_}
+use Prim.Native.Nat.{ℕ, zero, suc, _+_, _*_, _<_, _≤_}
 use native.Mathlib.Nat.{eq-or-lt-of-le, add-zero}
 use native.Mathlib.Numerals.{add-one}
 use native.Mathlib.Omega.{arith}
 use borrow.Author.Tests.{lt-ltb, le-ltb, le-leb, lt-leb, leb-true, leb-false, eqb-true, eqb-false}
 use lib.Dec.{eqb, leb, ltb}
 use lib.ListN.{length, length-map, length-append}
+use mir.Val.{boolByte}
 use Rattle.model.specs.Content.{SpacingClass}
-use Rattle.model.specs.Format.{byRisingId, classInRange}
+use Rattle.model.specs.Format.{byteAt, marksCut, gapMeant, classFrom, byRisingId, classInRange}
 use Rattle.model.specs.Lists.{all, keep, concat, below, rising}
 use Rattle.model.specs.Services.{classNumbers}
 use Rattle.model.proofs.Folds.{map-append, concat-append}
 use Rattle.model.proofs.Lists.{and-left, and-right, length-below}
-use Rattle.records.specs.Classes.{classFrom, classesFrom, classesOfId, risenBelow, indexOf, distinctColumn}
-use Rattle.reading.specs.Write.{written, asNumber, bytesFrom, classesNumbers}
+use Rattle.records.specs.Classes.{classesFrom, classesOfId, risenBelow, indexOf, distinctColumn}
+use Rattle.reading.specs.Write.{written, asNumber, bytesFrom, gapNumbers, classesNumbers}
 use Rattle.records.proofs.ClassLaws.{risen-more}
 use Rattle.job.proofs.GapLaws.{found}
-use Rattle.reading.proofs.WriteLaws.{written-none, written-then, numbers-length}
+use Rattle.reading.proofs.WriteLaws.{written-none, written-then, length-row, numbers-length}
+
+-- ---- Gap and mark
+
+pub mark-fits : (t : Bool) → boolByte t < 65536
+mark-fits true = omega arith
+mark-fits false = omega arith
+
+pub gap-written : (at b g : ℕ) (t : Bool) (a u v : List ℕ) → (at + 1) * 2 ≤ length a → g ≡ gapMeant b → t ≡ marksCut b → u ≡ written at (g ∷ []) a
+    → v ≡ written (at + 1) (boolByte t ∷ []) u → v ≡ written at (gapNumbers b) a
+gap-written at b g t a u v h eg et eu ev =
+    written-then at (at + 1) (g ∷ []) (boolByte t ∷ []) a u v refl h eu ev
+    ∙ ap₂ (λ x y. written at (x ∷ y ∷ []) a) eg (mark t ∙ ap (λ t. cond t 1 0) et)
+  where
+    mark : (t : Bool) → boolByte t ≡ cond t 1 0
+    mark true = refl
+    mark false = refl
 
 -- ---- The class of an id
 
-three-bytes : (s : List ℕ) (o : ℕ) → bytesFrom false o 3 s ≡ classesNumbers (classFrom s o ∷ [])
+-- Id and rank are plain bytes, and gap and mark are in the third.
+class-bytes : (s : List ℕ) (o : ℕ) → bytesFrom false o 2 s ++ gapNumbers (byteAt s (o + 2)) ≡ classesNumbers (classFrom s o ∷ [])
 unfolding asNumber below rising concat classNumbers
-three-bytes s o = rw (add-zero o)
+class-bytes s o = rw (add-zero o)
 
 module _ (s : List ℕ) (o n id j : ℕ) (d : distinctColumn s o n ≡ true) (e : j ≡ indexOf s o n id) where
   found-at : (b : Bool) → ltb j n ≡ b → classesOfId id (classesFrom s o n) ≡ cond b (classFrom s (o + j * 3) ∷ []) []
@@ -46,10 +64,12 @@ module _ (s : List ℕ) (o n id j : ℕ) (d : distinctColumn s o n ≡ true) (e 
   pub class-none : o + n * 3 ≤ o + j * 3 → 0 ≡ length (classesOfId id (classesFrom s o n))
   class-none h = sym (ap length (found-at false (absent h)))
 
-  pub class-written : (at : ℕ) (a v : List ℕ) → v ≡ written at (bytesFrom false (o + j * 3) 3 s) a → o + j * 3 < o + n * 3
-      → v ≡ written at (classesNumbers (classesOfId id (classesFrom s o n))) a
-  class-written at a v ev h =
-      ev ∙ ap (λ r. written at r a) (three-bytes s (o + j * 3))
+  pub class-written : (at b : ℕ) (a u v : List ℕ) → (at + 2) * 2 ≤ length a → b ≡ byteAt s (o + j * 3 + 2) → u ≡ written at (bytesFrom false (o + j * 3) 2 s) a
+      → v ≡ written (at + 2) (gapNumbers b) u → o + j * 3 < o + n * 3 → v ≡ written at (classesNumbers (classesOfId id (classesFrom s o n))) a
+  class-written at b a u v f eb eu ev h =
+      written-then at (at + 2) (bytesFrom false (o + j * 3) 2 s) (gapNumbers b) a u v (ap (λ k. at + k) (sym (length-row (λ i. asNumber false (byteAt s (o + j * 3 + i))) 2))) f eu ev
+      ∙ ap (λ x. written at (bytesFrom false (o + j * 3) 2 s ++ gapNumbers x) a) eb
+      ∙ ap (λ r. written at r a) (class-bytes s (o + j * 3))
       ∙ ap (λ r. written at (classesNumbers r) a) (sym (found-at true (found-in h)))
 
   pub class-absent : (at : ℕ) (a : List ℕ) → o + n * 3 ≤ o + j * 3 → a ≡ written at (classesNumbers (classesOfId id (classesFrom s o n))) a
@@ -58,9 +78,9 @@ module _ (s : List ℕ) (o n id j : ℕ) (d : distinctColumn s o n ≡ true) (e 
 
 -- ---- By rising id
 
-pub length-classes : (cs : List SpacingClass) → length (classesNumbers cs) ≡ length cs * 3
+pub length-classes : (cs : List SpacingClass) → length (classesNumbers cs) ≡ length cs * 4
 unfolding classNumbers
-length-classes cs = numbers-length classNumbers 3 (λ c. refl) cs
+length-classes cs = numbers-length classNumbers 4 (λ c. refl) cs
 
 module _ (cs : List SpacingClass) where
   pub risen-none : 0 ≡ length (risenBelow 0 cs)
@@ -74,15 +94,15 @@ module _ (cs : List SpacingClass) where
   unfolding concat below rising
   classes-none at a = sym (written-none at a)
 
-  pub classes-more : (at i k : ℕ) (a u v : List ℕ) → k ≡ length (risenBelow i cs) → (at + k * 3) * 2 ≤ length a
-      → u ≡ written at (classesNumbers (risenBelow i cs)) a → v ≡ written (at + k * 3) (classesNumbers (classesOfId i cs)) u
+  pub classes-more : (at i k : ℕ) (a u v : List ℕ) → k ≡ length (risenBelow i cs) → (at + k * 4) * 2 ≤ length a
+      → u ≡ written at (classesNumbers (risenBelow i cs)) a → v ≡ written (at + k * 4) (classesNumbers (classesOfId i cs)) u
       → v ≡ written at (classesNumbers (risenBelow (i + 1) cs)) a
   classes-more at i k a u v ek h eu ev =
       let l = length-classes (risenBelow i cs) in
       let more : classesNumbers (risenBelow (i + 1) cs) ≡ classesNumbers (risenBelow i cs) ++ classesNumbers (classesOfId i cs) =
       ap classesNumbers (risen-more cs i) ∙ ap concat (map-append classNumbers (risenBelow i cs) (classesOfId i cs))
       ∙ concat-append (map classNumbers (risenBelow i cs)) (map classNumbers (classesOfId i cs)) in
-      written-then at (at + k * 3) (classesNumbers (risenBelow i cs)) (classesNumbers (classesOfId i cs)) a u v (omega arith) h eu ev
+      written-then at (at + k * 4) (classesNumbers (risenBelow i cs)) (classesNumbers (classesOfId i cs)) a u v (omega arith) h eu ev
       ∙ ap (λ r. written at r a) (sym more)
 
   pub classes-all : (i : ℕ) → i ≡ 8 → risenBelow i cs ≡ byRisingId cs

@@ -6,7 +6,7 @@ use lib.ListN.{length, take, drop}
 use Rattle.integers.specs.Byte.{signed}
 use Rattle.words.specs.Number.{bytesOf}
 use Rattle.model.specs.Content.{SpacingClass, Job, kindCount, pieceCount}
-use Rattle.model.specs.Format.{byteAt, wordAt, many, readPart, readKind}
+use Rattle.model.specs.Format.{byteAt, wordAt, marksCut, gapMeant, many, readPart, readKind}
 use Rattle.model.specs.Lists.{concat, below}
 use Rattle.model.specs.Services.{coordinate, classNumbers, partNumbers, kindNumbers}
 use Rattle.records.specs.Records.{valuesOf}
@@ -34,6 +34,10 @@ partsNumbers n s = concat (map partNumbers (valuesOf (many readPart n s)))
 -- The numbers of the n types at the front.
 abbrev pub kindsNumbers : ℕ → List ℕ → List ℕ
 kindsNumbers n s = concat (map kindNumbers (valuesOf (many readKind n s)))
+
+-- What a gap byte says: the gap, and the mark behind it.
+abbrev pub gapNumbers : ℕ → List ℕ
+gapNumbers b = gapMeant b ∷ cond (marksCut b) 1 0 ∷ []
 
 -- The numbers of classes.
 abbrev pub classesNumbers : List SpacingClass → List ℕ

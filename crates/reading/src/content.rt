@@ -12,9 +12,9 @@ ghost use Rattle.model.specs.Format.{classesStated, content, kindsLength, refus
 ghost use Rattle.model.specs.Services.{readContent};
 ghost use Rattle.reading.specs.Write.{written, frontNumbers, backNumbers};
 
-// The board and the classes behind their count. (There is room for three numbers more: put_classes asks for it.)
+// The board and the classes behind their count. (There is room for four numbers more: put_classes asks for it.)
 pub fn put_front(job: &[u8], answer: &mut [u8])
-    requires { ⌜ (refusal (now job) ≡ 0) × ((4 + classesStated (now job) * 3 + 3) * 2 ≤ length (now answer)) ⌝ }
+    requires { ⌜ (refusal (now job) ≡ 0) × ((4 + classesStated (now job) * 4 + 4) * 2 ≤ length (now answer)) ⌝ }
     ensures { λ _. ⌜ now (answer .exit) ≡ written 0 (frontNumbers (content (now (job .entry)))) (now (answer .entry)) ⌝ }
 {
     let t = trailer::read_trailer(job);
@@ -43,7 +43,7 @@ pub fn read_content(job: &[u8], pieces: usize, answer: &mut [u8]) -> Written
     ensures { λ _. ⌜ now (answer .exit) ≡ readContent (content (now (job .entry))) (now (answer .entry)) .buffer ⌝ }
 {
     let t = trailer::read_trailer(job);
-    let at = 4 + t.class_count * 3;
+    let at = 4 + t.class_count * 4;
     let count = at + 2 + t.kinds_length;
     if answer.len() / 2 < count {
         return Written::Refused(9);

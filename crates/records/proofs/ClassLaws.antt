@@ -8,11 +8,11 @@ use native.Mathlib.Omega.{arith}
 use borrow.Author.Tests.{eq-eqb, ne-eqb}
 use lib.Dec.{eqb}
 use Rattle.model.specs.Content.{SpacingClass}
-use Rattle.model.specs.Format.{classInRange, distinct}
+use Rattle.model.specs.Format.{classFrom, classInRange, distinct}
 use Rattle.model.specs.Lists.{all, any, concat, rising, below}
 use Rattle.model.proofs.Box.{all-map}
 use Rattle.model.proofs.Folds.{map-below-more, concat-more}
-use Rattle.records.specs.Classes.{classFrom, entryAt, allInRange, distinctColumn, firstFrom, hasId, indexOf, classesOfId, risenBelow}
+use Rattle.records.specs.Classes.{entryAt, allInRange, distinctColumn, firstFrom, hasId, indexOf, classesOfId, risenBelow}
 
 -- The record of class j is in range.
 abbrev pub inRangeAt : List ℕ → ℕ → ℕ → Bool

@@ -8,11 +8,11 @@ use borrow.Author.Tests.{lt-ltb, le-ltb}
 use lib.Dec.{eqb, ltb}
 use lib.ListN.{length, drop}
 use Rattle.model.specs.Content.{SpacingClass, Kind, noKind}
-use Rattle.model.specs.Format.{byteAt, bad, got, many, readKind, namesPresent, kindsUnfit}
+use Rattle.model.specs.Format.{byteAt, classFrom, bad, got, many, readKind, namesPresent, kindsUnfit}
 use Rattle.model.specs.Lists.{all, any, sum, rising, below}
 use Rattle.model.proofs.Folds.{all-more, sum-more, map-append}
 use Rattle.model.proofs.Records.{byte-first, byte-behind, kind-read}
-use Rattle.records.specs.Classes.{classFrom, classesFrom, entryAt, firstFrom, hasId, indexOf}
+use Rattle.records.specs.Classes.{classesFrom, entryAt, firstFrom, hasId, indexOf}
 use Rattle.records.specs.Kinds.{present, notAbsent, absentNone, listUnfit}
 use Rattle.records.specs.Records.{sizeOf, valueOf, valuesOf, Reads}
 use Rattle.records.proofs.RecordLaws.{next-got, kind-none, values-none, values-more}

@@ -3,13 +3,9 @@ use mathlib.Core.Bool.{Bool, not, cond, _||_}
 use mathlib.Core.List.{List, map}
 use Prim.Native.Nat.{ℕ, zero, suc, _+_, _*_}
 use lib.Dec.{ltb, eqb}
-use Rattle.model.specs.Content.{SpacingClass, spacingClass}
-use Rattle.model.specs.Format.{byteAt, classInRange, distinct}
+use Rattle.model.specs.Content.{SpacingClass}
+use Rattle.model.specs.Format.{byteAt, classFrom, classInRange, distinct}
 use Rattle.model.specs.Lists.{all, keep, concat, below}
-
--- The class whose record begins at byte o.
-abbrev pub classFrom : List ℕ → ℕ → SpacingClass
-classFrom s o = spacingClass (byteAt s o) (byteAt s (o + 1)) (byteAt s (o + 2))
 
 -- The n classes from byte o on.
 abbrev pub classesFrom : List ℕ → ℕ → ℕ → List SpacingClass

@@ -1,10 +1,24 @@
-// The class list: cause 5 of refusal, and where the class of an id stands.
+// The class list: what a gap byte means, cause 5 of refusal, and where the class of an id stands.
 use frame::fields;
 ghost use mathlib.Core.Path.{_≡_};
 ghost use Prim.Native.Nat.{_+_, _*_, _≤_, _<_};
 ghost use lib.ListN.{length};
-ghost use Rattle.records.specs.Classes.{classFrom, allInRange, distinctColumn, classesUnfit, indexOf};
-ghost use Rattle.model.specs.Format.{classInRange};
+ghost use Rattle.records.specs.Classes.{allInRange, distinctColumn, classesUnfit, indexOf};
+ghost use Rattle.model.specs.Format.{marksCut, gapMeant, classFrom, classInRange};
+
+// The gap byte marks its class as common cut.
+pub fn marks_cut(byte: usize) -> bool
+    ensures { λ r. ⌜ r ≡ marksCut byte ⌝ }
+{
+    fields::in_range(128, 191, byte)
+}
+
+// The gap that the gap byte means.
+pub fn gap_meant(byte: usize) -> usize
+    ensures { λ r. ⌜ r ≡ gapMeant byte ⌝ }
+{
+    if marks_cut(byte) { byte - 128 } else { byte }
+}
 
 // The record at byte o has its id, rank and gap in range.
 fn in_range(job: &[u8], o: usize) -> bool
@@ -13,7 +27,7 @@ fn in_range(job: &[u8], o: usize) -> bool
 {
     (fields::byte(job, o) <= 7)
         & (fields::byte(job, o + 1) <= 255)
-        & (fields::byte(job, o + 2) <= 63)
+        & (gap_meant(fields::byte(job, o + 2)) <= 63)
 }
 
 // Each of the n records from byte `at` on is in range.

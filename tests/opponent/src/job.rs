@@ -14,6 +14,8 @@ pub struct Kind {
     pub demand: usize,
     pub turns: u8,
     pub classes: u8,
+    /// Those of its classes that are marked as common cut.
+    pub cuts: u8,
     pub gap: i32,
     pub part_count: usize,
     pub parts: [Part; 6],
@@ -29,6 +31,8 @@ pub struct Job {
     pub class_count: usize,
     /// Id, rank and gap, by rising id.
     pub classes: [[u8; 3]; 8],
+    /// The ids of those that are marked as common cut, as a mask.
+    pub cuts: u8,
     pub kind_count: usize,
     pub kinds: [Kind; 8],
     pub pieces: usize,
@@ -119,19 +123,61 @@ fn read_classes(job: &mut Job, list: &[u8]) -> Result<(), u8> {
     }
     let (mut ids, mut ranks) = (0u8, [0u64; 4]);
     for record in list.chunks_exact(3) {
-        let [id, rank, gap] = [record[0], record[1], record[2]];
-        if id > 7 || gap > 63 || ids >> id & 1 == 1 || ranks[rank as usize / 64] >> (rank % 64) & 1 == 1 {
+        let [id, rank, byte] = [record[0], record[1], record[2]];
+        let good = id <= 7 && good_gap(byte);
+        if !good || ids >> id & 1 == 1 || ranks[rank as usize / 64] >> (rank % 64) & 1 == 1 {
             return Err(5);
         }
         ids |= 1 << id;
         ranks[rank as usize / 64] |= 1 << (rank % 64);
+        let (gap, mark) = gap_and_mark(byte);
         job.classes[job.class_count] = [id, rank, gap];
+        // A mistake: the place in the list in the place of the id.
+        job.cuts |= mark << if mutant::is("marked_by_place") { job.class_count } else { id.into() };
         job.class_count += 1;
     }
     if !mutant::is("last_gap") && !mutant::is("classes_in_file_order") {
         job.classes[..job.class_count].sort_unstable();
     }
     Ok(())
+}
+
+/// A gap byte of 0 to 63 or of 128 to 191. The mistakes: a limit is off by one.
+fn good_gap(byte: u8) -> bool {
+    let limits = [
+        ("gap_byte_63_refused", 63),
+        ("gap_byte_64_accepted", 64),
+        ("gap_byte_127_accepted", 127),
+        ("gap_byte_128_refused", 128),
+        ("gap_byte_191_refused", 191),
+        ("gap_byte_192_accepted", 192),
+    ];
+    let off_by_one = limits.iter().any(|&(mistake, limit)| byte == limit && mutant::is(mistake));
+    (byte & 64 == 0) != off_by_one
+}
+
+/// What a gap byte means. The mistakes: a marked class has 1 more, or its mark is lost where its gap is 0.
+fn gap_and_mark(byte: u8) -> (u8, u8) {
+    let (gap, mark) = (byte & 127, byte >> 7);
+    let more = mark * u8::from(mutant::is("gap_byte_minus_127"));
+    let lost = gap == 0 && mutant::is("mark_of_gap_0_lost");
+    (gap + more, if lost { 0 } else { mark })
+}
+
+/// A type of these four fields, with its parts still to be read.
+fn kind_of(job: &Job, head: &[u8]) -> Kind {
+    let (best, gap) = best_ranked(job, head[2]);
+    // A mistake: a mark counts only for a type that has no better-ranked class.
+    let counted = if mutant::is("mark_only_where_best_ranked") { best } else { head[2] };
+    Kind {
+        demand: head[0] as usize,
+        turns: head[1],
+        classes: head[2],
+        cuts: job.cuts & counted,
+        gap,
+        part_count: head[3] as usize,
+        ..Kind::default()
+    }
 }
 
 fn read_kinds(job: &mut Job, list: &[u8], count: usize, soundness_at_once: bool) -> Result<(), u8> {
@@ -145,14 +191,7 @@ fn read_kinds(job: &mut Job, list: &[u8], count: usize, soundness_at_once: bool)
     for k in 0..count {
         let head = list.get(at..at + 4).ok_or(6u8)?;
         at += 4;
-        let mut kind = Kind {
-            demand: head[0] as usize,
-            turns: head[1],
-            classes: head[2],
-            gap: best_ranked_gap(job, head[2]),
-            part_count: head[3] as usize,
-            ..Kind::default()
-        };
+        let mut kind = kind_of(job, head);
         let good = (1..=12).contains(&kind.demand) && (1..=15).contains(&kind.turns);
         if !good || head[2] & !there != 0 || !(1..=6).contains(&kind.part_count) {
             return Err(6);
@@ -186,23 +225,34 @@ fn read_part(part: &mut Part, bytes: &[u8]) -> Result<usize, u8> {
     Ok(1 + 2 * corners)
 }
 
-fn best_ranked_gap(job: &Job, mask: u8) -> i32 {
-    let (mut best_rank, mut gap) = (256, 0);
+/// The best-ranked of the classes that the mask names, as a mask of that one, and its gap.
+fn best_ranked(job: &Job, mask: u8) -> (u8, i32) {
+    let (mut best_rank, mut best, mut gap) = (256, 0, 0);
     for &[id, rank, class_gap] in &job.classes[..job.class_count] {
-        if mask >> id & 1 == 0 {
+        let marked = job.cuts >> id & 1 == 1;
+        if mask >> id & 1 == 0 || marked && mutant::is("marked_class_not_ranked") {
             continue;
         }
+        let (rank, class_gap) = rank_and_gap(rank, class_gap, marked);
         let better = if mutant::is("largest_gap") {
-            i32::from(class_gap) > gap
+            class_gap > gap
         } else {
-            mutant::is("last_gap") || i32::from(rank) < best_rank
+            mutant::is("last_gap") || rank < best_rank
         };
         if better {
-            best_rank = i32::from(rank);
-            gap = i32::from(class_gap);
+            (best_rank, best, gap) = (rank, 1 << id, class_gap);
         }
     }
-    gap
+    (best, gap)
+}
+
+/// A mark changes nothing of its class's rank and gap. The mistakes: it comes before all ranks, it is a gap of 0, or
+/// its 128 stays in the gap.
+fn rank_and_gap(rank: u8, gap: u8, marked: bool) -> (i32, i32) {
+    let mistaken = |mistake: &str| marked && mutant::is(mistake);
+    let rank = if mistaken("marked_class_ranked_first") { -1 } else { i32::from(rank) };
+    let gap = if mistaken("mark_as_gap_0") { 0 } else { i32::from(gap) };
+    (rank, if mistaken("marked_gap_kept_raw") { gap + 128 } else { gap })
 }
 
 impl Part {

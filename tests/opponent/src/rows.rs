@@ -80,7 +80,36 @@ impl<'a> Board<'a> {
         at.column as i32 * self.job.step + self.turned[kind][at.turn].box_x.1 + self.margin
     }
 
+    /// Whether some marked class is named by both types, as it is by two copies of one.
+    fn share_a_cut(&self, kind: usize, other: usize) -> bool {
+        let (a, b) = (&self.job.kinds[kind], &self.job.kinds[other]);
+        if mutant::is("mark_ignored") {
+            false
+        } else if mutant::is("mark_of_one_piece_suffices") {
+            a.cuts | b.cuts != 0
+        } else if mutant::is("different_marks_shared") {
+            a.cuts != 0 && b.cuts != 0
+        } else if mutant::is("every_mark_must_be_shared") {
+            a.cuts != 0 && a.cuts == b.cuts
+        } else if mutant::is("any_shared_class_suffices") {
+            a.classes & b.classes != 0
+        } else {
+            let left_out = if kind == other { "copies_do_not_share" } else { "only_copies_share" };
+            a.cuts & b.cuts != 0 && !mutant::is(left_out)
+        }
+    }
+
+    /// For a mistake: the gap that the shared marked class has by itself.
+    fn gap_of_the_cut(&self, kind: usize, other: usize) -> i32 {
+        let shared = self.job.kinds[kind].cuts & self.job.kinds[other].cuts;
+        let class = self.job.classes[..self.job.class_count].iter().find(|c| shared >> c[0] & 1 == 1);
+        class.map_or(0, |c| c[2].into())
+    }
+
     fn pair_gap(&self, kind: usize, other: usize) -> i32 {
+        if self.share_a_cut(kind, other) {
+            return if mutant::is("gap_of_the_cut") { self.gap_of_the_cut(kind, other) } else { 0 };
+        }
         let (a, b) = (self.job.kinds[kind].gap, self.job.kinds[other].gap);
         if mutant::is("smaller_pair_gap") {
             a.min(b)
@@ -105,15 +134,21 @@ impl<'a> Board<'a> {
     }
 
     pub fn conflict(&self, kind: usize, number: usize, other: usize, at: usize) -> bool {
+        self.conflict_at(self.pair_gap(kind, other), kind, number, other, at)
+    }
+
+    /// Conflict at the gap of the pair's types.
+    fn conflict_at(&self, gap: i32, kind: usize, number: usize, other: usize, at: usize) -> bool {
         let (a, b) = (place(self.job, number), place(self.job, at));
         let dx = (b.column as i32 - a.column as i32) * self.job.step;
         let dy = (b.row as i32 - a.row as i32) * self.job.step;
         let (one, two) = (&self.turned[kind][a.turn], self.second(other, b.turn, a.turn));
-        in_conflict(one, two, dx, dy, self.pair_gap(kind, other))
+        in_conflict(one, two, dx, dy, gap)
     }
 
     /// A pair test for each candidate of the other type. Gives the number of tests.
     pub fn row(&self, kind: usize, number: usize, other: usize, row: &mut [u64]) -> usize {
+        let gap = self.pair_gap(kind, other);
         let mut tests = 0;
         for (i, word) in row.iter_mut().enumerate().take(self.job.words()) {
             let mut left = self.candidates[other][i];
@@ -127,7 +162,7 @@ impl<'a> Board<'a> {
                 let bit = left.trailing_zeros() as usize;
                 left &= left - 1;
                 tests += 1;
-                if self.conflict(kind, number, other, i * 64 + bit) {
+                if self.conflict_at(gap, kind, number, other, i * 64 + bit) {
                     *word |= 1 << bit;
                 }
             }

@@ -3,7 +3,7 @@
 use std::cell::RefCell;
 
 use super::geometry::{in_conflict, moved, point, turned, Part};
-use super::reader::{read_job, Job, Type};
+use super::reader::{read_job, Class, Job, Type};
 
 /// The largest margin that a host may pass.
 pub const MOST_MARGIN: u64 = 63;
@@ -27,7 +27,6 @@ pub struct Board {
     margin: i64,
     /// For each type, its candidates by rising number.
     pub candidates: Vec<Vec<Candidate>>,
-    gaps: Vec<i64>,
     remembered: Remembered,
 }
 
@@ -56,8 +55,7 @@ impl Board {
             candidate.place = places;
             places += 1;
         }
-        let gaps = job.types.iter().map(|t| gap_of(&job, t)).collect();
-        Ok(Board { job, margin, candidates, gaps, remembered: Remembered::new(places) })
+        Ok(Board { job, margin, candidates, remembered: Remembered::new(places) })
     }
 
     pub fn at(&self, piece: Piece) -> &Candidate {
@@ -70,9 +68,9 @@ impl Board {
     }
 
     pub fn conflict(&self, one: Piece, other: Piece) -> bool {
-        let gap = self.gaps[one.kind].max(self.gaps[other.kind]);
         let (a, b) = (self.at(one), self.at(other));
-        self.remembered.get(a.place, b.place, || in_conflict(&a.parts, &b.parts, gap))
+        let gap = || self.job.pair_gap(one.kind, other.kind);
+        self.remembered.get(a.place, b.place, || in_conflict(&a.parts, &b.parts, gap()))
     }
 
     /// The largest end plus the margin.
@@ -108,15 +106,35 @@ impl Job {
     pub fn pieces(&self) -> usize {
         self.demands().iter().sum()
     }
-}
 
-/// The gap of the class with the smallest rank number, 0 if the type has no class.
-fn gap_of(job: &Job, kind: &Type) -> i64 {
-    job.classes
-        .iter()
-        .filter(|c| kind.class_mask >> c.id & 1 == 1)
-        .min_by_key(|c| c.rank)
-        .map_or(0, |c| c.gap.into())
+    /// The classes that a type's mask names.
+    pub fn classes_of(&self, kind: usize) -> impl Iterator<Item = &Class> {
+        let mask = self.types[kind].class_mask;
+        self.classes.iter().filter(move |c| mask >> c.id & 1 == 1)
+    }
+
+    /// The one with the smallest rank number.
+    pub fn best_ranked(&self, kind: usize) -> Option<&Class> {
+        self.classes_of(kind).min_by_key(|c| c.rank)
+    }
+
+    /// The gap of the best-ranked class, 0 if the type has no class.
+    fn gap(&self, kind: usize) -> i64 {
+        self.best_ranked(kind).map_or(0, |c| c.gap.into())
+    }
+
+    /// Two pieces share every class that both their types name, and so do two copies of one type.
+    pub fn shared(&self, one: usize, other: usize) -> impl Iterator<Item = &Class> {
+        self.classes_of(one).filter(move |c| self.classes_of(other).any(|d| d.id == c.id))
+    }
+
+    /// 0 for two pieces that share a marked class, otherwise the larger of the two gaps.
+    pub fn pair_gap(&self, one: usize, other: usize) -> i64 {
+        if self.shared(one, other).any(|c| c.marked) {
+            return 0;
+        }
+        self.gap(one).max(self.gap(other))
+    }
 }
 
 fn all_candidates(job: &Job, margin: i64, kind: &Type) -> Vec<Candidate> {

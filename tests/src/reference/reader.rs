@@ -6,7 +6,10 @@ use super::geometry::{point, sound, Part};
 pub struct Class {
     pub id: u8,
     pub rank: u8,
+    /// 0 to 63, also where the class is marked.
     pub gap: u8,
+    /// Marked as common cut.
+    pub marked: bool,
 }
 
 #[derive(Clone, PartialEq, Eq, Debug)]
@@ -97,17 +100,31 @@ fn read_board(record: &[u8]) -> Option<(u16, u16, u16)> {
 }
 
 fn read_classes(list: &[u8]) -> Option<Vec<Class>> {
-    let mut classes: Vec<Class> =
-        list.chunks(3).map(|r| Class { id: r[0], rank: r[1], gap: r[2] }).collect();
-    let fields_good = classes.iter().all(|c| c.id <= 7 && c.gap <= 63);
+    let classes: Option<Vec<Class>> = list.chunks(3).map(read_class).collect();
+    let mut classes = classes?;
     let twice = classes.iter().enumerate().any(|(i, c)| {
         classes[..i].iter().any(|before| before.id == c.id || before.rank == c.rank)
     });
-    if classes.len() > 8 || !fields_good || twice {
+    if classes.len() > 8 || twice {
         return None;
     }
     classes.sort_by_key(|c| c.id);
     Some(classes)
+}
+
+fn read_class(record: &[u8]) -> Option<Class> {
+    let (gap, marked) = read_gap(record[2])?;
+    (record[0] <= 7).then_some(Class { id: record[0], rank: record[1], gap, marked })
+}
+
+/// A gap byte of 128 to 191 means that byte minus 128 and marks the class as common cut.
+fn read_gap(byte: u8) -> Option<(u8, bool)> {
+    match byte {
+        0..=63 => Some((byte, false)),
+        64..=127 => None,
+        128..=191 => Some((byte - 128, true)),
+        192..=255 => None,
+    }
 }
 
 /// Refusal 6 is judged over the whole list before any corner is looked at, so this reads all records.

@@ -11,11 +11,11 @@ pub type Reading = Result<Job, u8>;
 /// A job under a margin, or the number that refuses the one or the other.
 pub type Clamped = Result<Board, u8>;
 
-/// The numbers that read writes, in order; a negative coordinate as 65,536 plus it.
+/// The numbers that read writes, in order; a class's mark as 0 or 1, a negative coordinate as 65,536 plus it.
 pub fn content(job: &Job) -> Vec<u16> {
     let mut out = vec![job.width, job.length, job.step, job.classes.len() as u16];
     for class in &job.classes {
-        out.extend([class.id, class.rank, class.gap].map(u16::from));
+        out.extend([class.id, class.rank, class.gap, class.marked.into()].map(u16::from));
     }
     out.push(job.types.len() as u16);
     for kind in &job.types {

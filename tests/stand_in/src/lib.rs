@@ -46,8 +46,8 @@ pub unsafe extern "C" fn nest_read(job: *const u8, job_len: usize, answer: *mut 
 
 fn write_content(job: &Job, answer: &mut [u8]) -> u64 {
     let mut out = vec![job.width, job.length, job.step, job.class_count as i32];
-    for class in &job.classes[..job.class_count] {
-        out.extend(class.map(i32::from));
+    for &[id, rank, gap] in &job.classes[..job.class_count] {
+        out.extend(told_class([id, rank, gap, job.cuts >> id & 1].map(i32::from)));
     }
     out.push(job.kind_count as i32);
     for kind in &job.kinds[..job.kind_count] {
@@ -61,15 +61,32 @@ fn write_content(job: &Job, answer: &mut [u8]) -> u64 {
         }
     }
     out.push(job.pieces as i32);
-    if answer.len() / 2 < out.len() {
+    let overlooked = if mutant::is("read_room_of_three_a_class") { job.class_count } else { 0 };
+    if answer.len() / 2 < out.len() - overlooked {
         return refused(9);
     }
-    for (i, &n) in out.iter().enumerate() {
+    for (place, &n) in answer.chunks_exact_mut(2).zip(&out) {
         let n = if mutant::is("negative_as_byte") && n < 0 { n & 255 } else { n };
-        answer[2 * i..2 * i + 2].copy_from_slice(&(n as u16).to_le_bytes());
+        place.copy_from_slice(&(n as u16).to_le_bytes());
     }
     spoil_odd_byte(answer);
     packed(0, 0, out.len(), 0)
+}
+
+/// The numbers of a class: id, rank, gap and mark. The mistakes: no mark, the mark in another place or of another
+/// size, or the gap as the byte that it was read from.
+fn told_class([id, rank, gap, mark]: [i32; 4]) -> Vec<i32> {
+    if mutant::is("read_without_mark") {
+        vec![id, rank, gap]
+    } else if mutant::is("read_mark_before_gap") {
+        vec![id, rank, mark, gap]
+    } else if mutant::is("read_mark_of_128") {
+        vec![id, rank, gap, 128 * mark]
+    } else if mutant::is("read_raw_gap_byte") {
+        vec![id, rank, gap + 128 * mark, mark]
+    } else {
+        vec![id, rank, gap, mark]
+    }
 }
 
 /// A mistake: the odd last byte is cleared.
@@ -79,12 +96,17 @@ fn spoil_odd_byte(buffer: &mut [u8]) {
     }
 }
 
-/// The job of a service that takes a margin. A mistake: the margin is judged first.
-fn read_under(job: &[u8], margin: u64) -> Result<Job, u8> {
+/// The job of a service that takes a margin. The mistakes: the margin is judged first; with the one named, the
+/// service knows nothing of marks.
+fn read_under(job: &[u8], margin: u64, unmarked: &str) -> Result<Job, u8> {
     if mutant::is("thirteen_before_the_job") && accepted(margin).is_none() {
         return Err(13);
     }
-    read(job)
+    let mut job = read(job)?;
+    if mutant::is(unmarked) {
+        job.kinds.iter_mut().for_each(|kind| kind.cuts = 0);
+    }
+    Ok(job)
 }
 
 /// The margin, if it is one that a host may pass.
@@ -133,7 +155,7 @@ pub unsafe extern "C" fn nest_row(
 ) -> u64 {
     let job = lent(job, job_len);
     let row = lent_mut(row, row_len);
-    match read_under(job, margin) {
+    match read_under(job, margin, "row_without_common_cut") {
         Err(number) => refused(number),
         Ok(job) => write_row(&job, margin, kind, number, other, row),
     }
@@ -190,7 +212,7 @@ pub unsafe extern "C" fn nest_check(
 ) -> u64 {
     let job = lent(job, job_len);
     let layout = lent(layout, layout_len);
-    match read_under(job, margin) {
+    match read_under(job, margin, "check_without_common_cut") {
         Err(number) => refused(number),
         Ok(job) => check(&job, margin, layout),
     }
@@ -263,7 +285,7 @@ pub unsafe extern "C" fn nest_run(
         // The byte past the lent ones.
         work.as_mut_ptr().add(work_len).write(0xA5);
     }
-    match read_under(job, margin) {
+    match read_under(job, margin, "run_without_common_cut") {
         Err(number) => refused(number),
         Ok(job) => run(&job, margin, budget, work, answer),
     }

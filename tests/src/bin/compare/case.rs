@@ -35,13 +35,18 @@ impl Case {
     /// The walk, where nothing is refused; to its end, where it is short enough.
     pub fn walked(&self) -> Option<&Walked> {
         let board = self.clamped.as_ref().ok()?;
-        Some(self.walked.get_or_init(|| walk(board, step_limit(board))))
+        Some(self.walked.get_or_init(|| walked_far(board)))
     }
 
     /// The best layout of that walk.
     pub fn best(&self) -> Option<&[Piece]> {
         self.walked()?.best.as_deref()
     }
+}
+
+/// The walk to its end, where it is short enough.
+pub fn walked_far(board: &Board) -> Walked {
+    walk(board, step_limit(board))
 }
 
 /// On boards with many candidates a step of the plain walk is slow.

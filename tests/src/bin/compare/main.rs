@@ -3,6 +3,7 @@
 //! With `--first` it gives up at the first mismatch.
 
 mod case;
+mod common_cut;
 mod empties;
 mod harness;
 mod lent;
@@ -21,7 +22,7 @@ use nest_tests::noise::Noise;
 use report::Report;
 
 const DEFAULT_COUNT: u64 = 4000;
-/// From the default count on, each refusal must have been seen this often.
+/// From the default count on, each refusal and each thing counted of common cut must have been seen this often.
 const SEEN_AT_LEAST: u64 = 100;
 
 fn main() {
@@ -39,14 +40,21 @@ fn main() {
     }
     println!("{count} random jobs from seed {seed}, and the small boards");
     report.print();
-    let missed: Vec<u8> = (1..=13).filter(|&n| report.seen(n) < SEEN_AT_LEAST).collect();
+    let missed = rarely_seen(&report);
     if count >= DEFAULT_COUNT && !missed.is_empty() {
-        println!("refusals seen fewer than {SEEN_AT_LEAST} times: {missed:?}");
+        println!("seen fewer than {SEEN_AT_LEAST} times: {}", missed.join(", "));
         exit(1);
     }
     if report.mismatches() > 0 {
         exit(1);
     }
+}
+
+/// What a run of the default count should have seen more often.
+fn rarely_seen(report: &Report) -> Vec<String> {
+    let refusals = (1..=13).filter(|&n| report.seen(n) < SEEN_AT_LEAST).map(|n| format!("refusal {n}"));
+    let cuts = common_cut::COUNTED.iter().filter(|what| report.noted(what) < SEEN_AT_LEAST);
+    refusals.chain(cuts.map(|what| what.to_string())).collect()
 }
 
 struct Arguments {
@@ -79,5 +87,6 @@ fn random_case(seed: u64, report: &mut Report) {
         let what = format!("made to be refused by {:?}, the reference says {number}", made.intended);
         report.mismatch(&what, &case.bytes, case.margin);
     }
+    common_cut::count(&case, report);
     Harness { noise: &mut noise, report }.every_service(&case);
 }

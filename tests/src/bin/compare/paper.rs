@@ -5,7 +5,7 @@ use std::fmt::Debug;
 use nest_tests::answer::{Answer, STOPPED_WITH_LAYOUT, STOPPED_WITH_NOTHING};
 use nest_tests::reference::reader::read_job;
 use nest_tests::reference::services::{bytes_of, numbers_of};
-use nest_tests::small_boards::{small_boards, Claim, SmallBoard};
+use nest_tests::small_boards::{small_boards, Claim, Dot, SmallBoard};
 
 use crate::case::Case;
 use crate::harness::Harness;
@@ -43,7 +43,8 @@ fn holds(board: &SmallBoard, claim: &Claim) -> Result<(), String> {
     match *claim {
         Claim::Run { margin, budget, printed } => same(printed_by_run(job, margin, budget).as_str(), printed),
         Claim::Reads(number) => same(nest::read(job, &mut [0; 4096]).number, number),
-        Claim::Conflict { margin, one, other, holds } => same(conflict(job, margin, one, other), holds),
+        Claim::Gives(ref numbers) => same(&given_by_read(job), numbers),
+        Claim::Conflict { margin, types, one, other, holds } => same(conflict(job, margin, types, one, other), holds),
         Claim::Check { margin, layout, length } => same(checked(job, margin, layout), length),
     }
 }
@@ -53,6 +54,12 @@ fn same<T: PartialEq + Debug>(got: T, expected: T) -> Result<(), String> {
         return Ok(());
     }
     Err(format!("got {got:?}, expected {expected:?}"))
+}
+
+fn given_by_read(job: &[u8]) -> Vec<u16> {
+    let mut answer = [0; 4096];
+    let count = nest::read(job, &mut answer).count;
+    numbers_of(&answer).into_iter().take(count.into()).collect()
 }
 
 /// The count of an answer, or its refusal.
@@ -85,11 +92,11 @@ fn printed_by_run(job: &[u8], margin: u64, budget: u32) -> String {
     out
 }
 
-fn conflict(bytes: &[u8], margin: u64, one: (usize, usize), other: (usize, usize)) -> Result<bool, u8> {
+fn conflict(bytes: &[u8], margin: u64, types: (usize, usize), one: Dot, other: Dot) -> Result<bool, u8> {
     let job = read_job(bytes)?;
-    let number = |(column, row): (usize, usize)| (column * job.rows() + row) * 4;
+    let number = |(column, row): Dot| (column * job.rows() + row) * 4;
     let mut row = vec![0xFF; 8 * job.words()];
-    counted(nest::row(bytes, margin, 0, number(one) as u64, 0, &mut row))?;
+    counted(nest::row(bytes, margin, types.0 as u64, number(one) as u64, types.1 as u64, &mut row))?;
     let at = number(other);
     Ok(row[at / 8] >> (at % 8) & 1 == 1)
 }

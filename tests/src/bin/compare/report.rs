@@ -48,6 +48,10 @@ impl Report {
         self.numbers.get(&number).copied().unwrap_or(0)
     }
 
+    pub fn noted(&self, what: &str) -> u64 {
+        self.notes.get(what).copied().unwrap_or(0)
+    }
+
     pub fn mismatches(&self) -> u64 {
         self.mismatches
     }

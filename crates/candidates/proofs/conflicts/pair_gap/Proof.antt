@@ -1,33 +1,41 @@
 -- `candidates::conflicts::pair_gap` meets its contract. Assumes nothing.
+use mathlib.Core.Path.{ap, _∙_}
+use native.Mathlib.Omega.{arith}
+use lib.ListN.{getD}
+use Rattle.candidates.specs.Conflicts.{gapBetween}
 use borrow.Author.Needs.{needs}
 use Rattle.candidates.proofs.conflicts.pair_gap.Statement.{statement}
 use Rattle.candidates.proofs.conflicts.pair_gap.Tie as tie
 
-mul-larger-gap : tie.Need-mul-larger-gap
-mul-larger-gap c = search needs
+mul-gap-between : tie.Need-mul-gap-between
+mul-gap-between c = search needs
 
-array-read-larger-gap : tie.Need-array-read-larger-gap
-array-read-larger-gap c = search needs
+array-read-gap-between : tie.Need-array-read-gap-between
+array-read-gap-between c = search needs
 
-mul-larger-gap-2 : tie.Need-mul-larger-gap-2
-mul-larger-gap-2 c = search needs
+mul-gap-between-2 : tie.Need-mul-gap-between-2
+mul-gap-between-2 c = search needs
 
-array-read-larger-gap-2 : tie.Need-array-read-larger-gap-2
-array-read-larger-gap-2 c = search needs
+array-read-gap-between-2 : tie.Need-array-read-gap-between-2
+array-read-gap-between-2 c = search needs
 
-larger-gap-requires : tie.Need-larger-gap-requires
-larger-gap-requires c κs = (c .before .pre .0 .gaps (c .before .args .kind) (c .before .pre .1 .0), c .before .pre .0 .gaps (c .before .args .other) (c .before .pre .1 .1))
+share-cut-requires : tie.Need-share-cut-requires
+share-cut-requires c κs = (omega (arith, c .before .pre .0 .kinds, c .before .pre .1 .0), omega (arith, c .before .pre .0 .kinds, c .before .pre .1 .1))
+
+gap-between-requires : tie.Need-gap-between-requires
+gap-between-requires c κs = (c .before .before .pre .0 .gaps (c .before .before .args .kind) (c .before .before .pre .1 .0), c .before .before .pre .0 .gaps (c .before .before .args .other) (c .before .before .pre .1 .1))
 
 returns : tie.Need-returns
-returns c = search needs
+returns c = c .gap-between .ensures ∙ ap (gapBetween (getD (c .before .before .before .args .view .gaps) (c .before .before .before .args .kind) 0) (getD (c .before .before .before .args .view .gaps) (c .before .before .before .args .other) 0)) (c .before .share-cut .ensures)
 
 pub pair-gap-spec : {M : Type 1} → statement M
 pair-gap-spec =
     tie.close
     (tie.spec
-    mul-larger-gap
-    array-read-larger-gap
-    mul-larger-gap-2
-    array-read-larger-gap-2
-    larger-gap-requires
+    mul-gap-between
+    array-read-gap-between
+    mul-gap-between-2
+    array-read-gap-between-2
+    share-cut-requires
+    gap-between-requires
     returns)

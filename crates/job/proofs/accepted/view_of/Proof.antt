@@ -32,17 +32,17 @@ read-kinds-requires c κs =
     ((omega arith, omega arith, omega arith, omega (arith, length-list s (c .before .before .before .before .before .pre) _ _ _ (t .kinds) (t .kindsLength) (t .kindCount))), (list-reads s (c .before .before .before .before .before .pre) _ _ _ (t .kinds) (t .kindsLength) (t .kindCount), ids-in s (c .before .before .before .before .before .pre) _ _ (t .classes) (t .classCount)))
 
 multiples-requires : tie.Need-multiples-requires
-multiples-requires c κs = omega (arith, board-in (c .before .before .before .before .before .before .before .before .before .before .before .args .job .now) (c .before .before .before .before .before .before .before .before .before .before .before .pre), board-read (c .before .before .before .before .before .before .before .before .before .before .before .args .job .now) _ _ (c .before .before .before .before .before .before .before .before .before .read-trailer .ensures .board) (c .before .before .before .before .before .before .before .before .read-board .ensures))
+multiples-requires c κs = omega (arith, board-in (c .before .before .before .before .before .before .before .before .before .before .before .before .args .job .now) (c .before .before .before .before .before .before .before .before .before .before .before .before .pre), board-read (c .before .before .before .before .before .before .before .before .before .before .before .before .args .job .now) _ _ (c .before .before .before .before .before .before .before .before .before .before .read-trailer .ensures .board) (c .before .before .before .before .before .before .before .before .before .read-board .ensures))
 
 multiples-requires-2 : tie.Need-multiples-requires-2
-multiples-requires-2 c κs = omega (arith, board-in (c .before .before .before .before .before .before .before .before .before .before .before .before .args .job .now) (c .before .before .before .before .before .before .before .before .before .before .before .before .pre), board-read (c .before .before .before .before .before .before .before .before .before .before .before .before .args .job .now) _ _ (c .before .before .before .before .before .before .before .before .before .before .read-trailer .ensures .board) (c .before .before .before .before .before .before .before .before .before .read-board .ensures))
+multiples-requires-2 c κs = omega (arith, board-in (c .before .before .before .before .before .before .before .before .before .before .before .before .before .args .job .now) (c .before .before .before .before .before .before .before .before .before .before .before .before .before .pre), board-read (c .before .before .before .before .before .before .before .before .before .before .before .before .before .args .job .now) _ _ (c .before .before .before .before .before .before .before .before .before .before .before .read-trailer .ensures .board) (c .before .before .before .before .before .before .before .before .before .before .read-board .ensures))
 
 returns : tie.Need-returns
 returns c =
-    let s = c .before .before .before .before .before .before .before .before .before .before .before .before .before .args .job .now in
-    let t = c .before .before .before .before .before .before .before .before .before .before .before .read-trailer .ensures in
-    let b = board-read s _ _ (t .board) (c .before .before .before .before .before .before .before .before .before .before .read-board .ensures) in
-    view-is s (c .before .before .before .before .before .before .before .before .before .before .before .before .before .pre) _ _ _ (t .kinds) (t .kindsLength) (t .kindCount) _ _ _ (t .classes) (t .classCount) (c .before .before .before .before .before .before .before .read-kinds .ensures) (b .0) (b .1) (b .2) (c .before .multiples .ensures .0) (c .multiples2 .ensures .0) (omega arith) refl
+    let s = c .before .before .before .before .before .before .before .before .before .before .before .before .before .before .args .job .now in
+    let t = c .before .before .before .before .before .before .before .before .before .before .before .before .read-trailer .ensures in
+    let b = board-read s _ _ (t .board) (c .before .before .before .before .before .before .before .before .before .before .before .read-board .ensures) in
+    view-is s (c .before .before .before .before .before .before .before .before .before .before .before .before .before .before .pre) _ _ _ (t .kinds) (t .kindsLength) (t .kindCount) _ _ _ (t .classes) (t .classCount) (c .before .before .before .before .before .before .before .before .read-kinds .ensures) (b .0) (b .1) (b .2) (c .before .multiples .ensures .0) (c .multiples2 .ensures .0) (omega arith) refl
 
 pub view-of-spec : {M : Type 1} → statement M
 view-of-spec =

@@ -1,6 +1,8 @@
+use mathlib.Core.Path.{ap, _∙_}
 use Prim.Native.Nat.{_<_}
 use native.Mathlib.Omega.{arith}
 use borrow.Author.Tests.{ltb-true}
+use Rattle.model.specs.Format.{gapMeant}
 use Rattle.model.proofs.Lists.{and-left}
 use Rattle.job.proofs.GapLaws.{offered-yes, offered-no}
 use borrow.Author.Needs.{needs}
@@ -31,11 +33,14 @@ add-byte-2 c = search needs
 byte-requires-2 : tie.Need-byte-requires-2
 byte-requires-2 c κs = let h : c .before .before .before .find .result < c .before .before .before .before .before .args .n = ltb-true _ _ (and-left _ _ (c .before .if1 .taken)) in omega arith
 
+gap-meant-requires : tie.Need-gap-meant-requires
+gap-meant-requires c κs = search needs
+
 offer-requires : tie.Need-offer-requires
 offer-requires c κs = search needs
 
 returns : tie.Need-returns
-returns c = offered-yes (c .before .before .before .before .before .before .before .args .job .now) _ _ _ _ _ _ _ _ _ _ (c .before .before .before .before .before .find .ensures .0) (c .before .before .before .before .names .ensures) (c .before .before .before .if1 .taken) (c .before .before .byte .ensures .0) (c .before .byte2 .ensures .0) (c .offer .ensures)
+returns c = offered-yes (c .before .before .before .before .before .before .before .before .args .job .now) _ _ _ _ _ _ _ _ _ _ (c .before .before .before .before .before .before .find .ensures .0) (c .before .before .before .before .before .names .ensures) (c .before .before .before .before .if1 .taken) (c .before .before .before .byte .ensures .0) (c .before .gap-meant .ensures ∙ ap gapMeant (c .before .before .byte2 .ensures .0)) (c .offer .ensures)
 
 returns-2 : tie.Need-returns-2
 returns-2 c = offered-no (c .before .before .before .before .args .job .now) _ _ _ _ _ _ _ (c .before .before .find .ensures .0) (c .before .names .ensures) (c .if1 .left)
@@ -52,6 +57,7 @@ offer-id-spec =
     byte-requires
     add-byte-2
     byte-requires-2
+    gap-meant-requires
     offer-requires
     returns
     returns-2)

@@ -22,17 +22,29 @@ add-if1 c = search needs
 put-bytes-requires : tie.Need-put-bytes-requires
 put-bytes-requires c κs = search needs
 
+add-byte : tie.Need-add-byte
+add-byte c = search needs
+
+byte-requires : tie.Need-byte-requires
+byte-requires c κs = search needs
+
+add-put-gap : tie.Need-add-put-gap
+add-put-gap c = search needs
+
+put-gap-requires : tie.Need-put-gap-requires
+put-gap-requires c κs = search needs
+
 same-length : tie.Need-same-length
 same-length c = search needs
 
 returns : tie.Need-returns
 returns c =
-    let w = class-written (c .before .before .before .before .before .before .before .before .args .job .now) (c .before .before .before .before .before .before .before .before .args .from) (c .before .before .before .before .before .before .before .before .args .n) (c .before .before .before .before .before .before .before .before .args .id) _ (c .before .before .before .before .before .before .before .before .pre .1) (c .before .before .before .before .before .find .ensures .0) (c .before .before .before .before .before .before .before .before .args .at) (c .before .before .before .before .before .before .before .before .args .answer .now) _ (c .before .before .put-bytes .ensures) (c .before .before .before .before .if1 .taken) in
-    ((class-one (c .before .before .before .before .before .before .before .before .args .job .now) (c .before .before .before .before .before .before .before .before .args .from) (c .before .before .before .before .before .before .before .before .args .n) (c .before .before .before .before .before .before .before .before .args .id) _ (c .before .before .before .before .before .before .before .before .pre .1) (c .before .before .before .before .before .find .ensures .0) (c .before .before .before .before .if1 .taken), omega arith), w)
+    let w = class-written (c .before .before .before .before .before .before .before .before .before .before .before .before .before .args .job .now) (c .before .before .before .before .before .before .before .before .before .before .before .before .before .args .from) (c .before .before .before .before .before .before .before .before .before .before .before .before .before .args .n) (c .before .before .before .before .before .before .before .before .before .before .before .before .before .args .id) _ (c .before .before .before .before .before .before .before .before .before .before .before .before .before .pre .1) (c .before .before .before .before .before .before .before .before .before .before .find .ensures .0) (c .before .before .before .before .before .before .before .before .before .before .before .before .before .args .at) _ (c .before .before .before .before .before .before .before .before .before .before .before .before .before .args .answer .now) _ _ (omega arith) (c .before .before .before .before .byte .ensures .0) (c .before .before .before .before .before .before .before .put-bytes .ensures) (c .before .before .put-gap .ensures) (c .before .before .before .before .before .before .before .before .before .if1 .taken) in
+    ((class-one (c .before .before .before .before .before .before .before .before .before .before .before .before .before .args .job .now) (c .before .before .before .before .before .before .before .before .before .before .before .before .before .args .from) (c .before .before .before .before .before .before .before .before .before .before .before .before .before .args .n) (c .before .before .before .before .before .before .before .before .before .before .before .before .before .args .id) _ (c .before .before .before .before .before .before .before .before .before .before .before .before .before .pre .1) (c .before .before .before .before .before .before .before .before .before .before .find .ensures .0) (c .before .before .before .before .before .before .before .before .before .if1 .taken), omega arith), w)
 
 returns-2 : tie.Need-returns-2
 returns-2 c =
     ((class-none (c .before .before .before .before .args .job .now) (c .before .before .before .before .args .from) (c .before .before .before .before .args .n) (c .before .before .before .before .args .id) _ (c .before .before .before .before .pre .1) (c .before .find .ensures .0) (c .if1 .left), omega arith), class-absent (c .before .before .before .before .args .job .now) (c .before .before .before .before .args .from) (c .before .before .before .before .args .n) (c .before .before .before .before .args .id) _ (c .before .before .before .before .pre .1) (c .before .find .ensures .0) (c .before .before .before .before .args .at) (c .before .before .before .before .args .answer .now) (c .if1 .left))
 
 pub put-class-spec : {M : Type 1} → statement M
-put-class-spec = tie.close (tie.spec find-requires mul-o add-o mul-if1 add-if1 put-bytes-requires same-length returns returns-2)
+put-class-spec = tie.close (tie.spec find-requires mul-o add-o mul-if1 add-if1 put-bytes-requires add-byte byte-requires add-put-gap put-gap-requires same-length returns returns-2)
