@@ -3,7 +3,11 @@
  * `shortest`, length, steps; or `stopped`, length or `-`, steps; or `none`, steps; or `refused`, number. A
  * layout follows, an entry a line: type, column, row, turn. A second argument is the margin that the clamps
  * need at each edge of the sheet; without it there are no clamps.
+ *
+ * With --save it runs nothing, but writes the job to another file as the engine saves it, and prints `saved` and
+ * the number of bytes; or `refused` and number, and then that file is neither created nor changed.
  * usage: nest JOB [MARGIN]
+ *        nest --save FILE JOB
  */
 #include <errno.h>
 #include <inttypes.h>
@@ -19,6 +23,7 @@ static uint8_t job[NEST_MAX_JOB_BYTES + 1];
 static uint8_t work[NEST_MAX_WORK_BYTES];
 static uint8_t answer[NEST_MAX_LAYOUT_BYTES];
 static uint8_t content[NEST_MAX_READ_BYTES];
+static uint8_t saved[NEST_MAX_SAVE_BYTES];
 
 static unsigned number_at(const uint8_t *buffer, size_t index)
 {
@@ -77,6 +82,18 @@ static int read_file(const char *path, size_t *length)
     return !failed;
 }
 
+/* What is written may reach the file, or fail to, no sooner than it is closed. */
+static int write_file(const char *path, const uint8_t *bytes, size_t length)
+{
+    FILE *file = fopen(path, "wb");
+    int written;
+
+    if (file == NULL)
+        return 0;
+    written = fwrite(bytes, 1, length, file) == length;
+    return fclose(file) == 0 && written;
+}
+
 /* Digits alone, of a number that 64 bits hold; whether it is a margin is for the engine to say. */
 static int read_margin(const char *text, uint64_t *margin)
 {
@@ -90,21 +107,56 @@ static int read_margin(const char *text, uint64_t *margin)
     return errno == 0 && number <= UINT64_MAX;
 }
 
-int main(int argc, char **argv)
+/* A file that fails is told and has an exit status of its own; a refused job is an answer and has none. */
+static int file_failed(const char *path)
+{
+    perror(path);
+    return 2;
+}
+
+static int usage(void)
+{
+    fprintf(stderr, "usage: nest JOB [MARGIN]\n       nest --save FILE JOB\n");
+    return 2;
+}
+
+static int run_job(const char *path, uint64_t margin)
 {
     size_t job_len;
-    uint64_t margin = 0;
     uint64_t result;
 
-    if (argc < 2 || argc > 3 || (argc == 3 && !read_margin(argv[2], &margin))) {
-        fprintf(stderr, "usage: nest JOB [MARGIN]\n");
-        return 2;
-    }
-    if (!read_file(argv[1], &job_len)) {
-        perror(argv[1]);
-        return 2;
-    }
+    if (!read_file(path, &job_len))
+        return file_failed(path);
     result = nest_run(job, job_len, margin, BUDGET, work, sizeof work, answer, sizeof answer);
     print_result(result, job_len);
     return 0;
+}
+
+static int save_job(const char *target, const char *path)
+{
+    size_t job_len;
+    uint64_t result;
+
+    if (!read_file(path, &job_len))
+        return file_failed(path);
+    result = nest_save(job, job_len, saved, sizeof saved);
+    if (NEST_NUMBER(result) != NEST_OK) {
+        printf("refused %u\n", NEST_NUMBER(result));
+        return 0;
+    }
+    if (!write_file(target, saved, NEST_COUNT(result)))
+        return file_failed(target);
+    printf("saved %u\n", NEST_COUNT(result));
+    return 0;
+}
+
+int main(int argc, char **argv)
+{
+    uint64_t margin = 0;
+
+    if (argc >= 2 && strcmp(argv[1], "--save") == 0)
+        return argc == 4 ? save_job(argv[2], argv[3]) : usage();
+    if (argc < 2 || argc > 3 || (argc == 3 && !read_margin(argv[2], &margin)))
+        return usage();
+    return run_job(argv[1], margin);
 }

@@ -1,8 +1,8 @@
 /*
  * nest.h - the dotted-board nesting engine.
  *
- * Four services: read a job, give a row of conflicts, check a layout, run the search for a shortest layout.
- * Every one takes bytes and numbers only, keeps no state, allocates nothing and always returns. What is
+ * Five services: read a job, save a job, give a row of conflicts, check a layout, run the search for a shortest
+ * layout. Every one takes bytes and numbers only, keeps no state, allocates nothing and always returns. What is
  * unfit is refused by a number; nothing is assumed of the caller but this:
  *
  *   - each pointer names as many bytes as the length beside it says, at any alignment; a buffer of length 0
@@ -107,7 +107,8 @@ extern "C" {
  * Buffers
  *
  * A work or row word is 8 bytes, a layout or answer number 2, low byte first. An incomplete last one does not
- * count and keeps its bytes. What lies beyond the needed words or numbers never changes.
+ * count and keeps its bytes. Save's answer is a job and is counted in bytes. What lies beyond the needed words,
+ * numbers or bytes never changes.
  *
  * A layout lists N entries of four numbers each: type, column, row, turn. Entries are ordered by type and
  * within a type by strictly rising candidate number. Its length is the largest x that a piece reaches, plus the
@@ -129,6 +130,8 @@ extern "C" {
 #define NEST_MAX_ROW_BYTES    (NEST_MAX_SET_WORDS * NEST_WORD_BYTES)
 /* Read writes 6 numbers, 4 a class (at most 32) and one for each byte of the type list (at most 1004). */
 #define NEST_MAX_READ_BYTES   ((6 + NEST_CLASS_NUMBERS * NEST_MAX_CLASSES + NEST_MAX_JOB_BYTES) * NEST_NUMBER_BYTES)
+/* A saved job is never longer than the job that it was made from. */
+#define NEST_MAX_SAVE_BYTES   NEST_MAX_JOB_BYTES
 
 /* ------------------------------------------------------------------------------------------------------
  * Results
@@ -137,7 +140,8 @@ extern "C" {
  *
  *   bits  0 to  7   the number: NEST_OK, or why the call was refused (enum nest_number)
  *   bits  8 to 15   the verdict of a run (enum nest_verdict); 0 for the other services
- *   bits 16 to 31   read: numbers written; row: words written; check and run: the layout's length
+ *   bits 16 to 31   read: numbers written; save: bytes written; row: words written; check and run: the
+ *                   layout's length
  *   bits 32 to 63   the steps that a run took; 0 for the other services
  *
  * A refusal has verdict, count and steps 0 and changes no buffer, except NEST_NONE, which tells its steps and
@@ -146,7 +150,7 @@ extern "C" {
 
 #define NEST_NUMBER(result)  ((unsigned)((result) & 0xFF))
 #define NEST_VERDICT(result) ((unsigned)((result) >> 8 & 0xFF))
-#define NEST_COUNT(result)   ((unsigned)((result) >> 16 & 0xFFFF)) /* of read and row */
+#define NEST_COUNT(result)   ((unsigned)((result) >> 16 & 0xFFFF)) /* of read, save and row */
 #define NEST_LENGTH(result)  NEST_COUNT(result)                    /* of check and run */
 #define NEST_STEPS(result)   ((uint32_t)((result) >> 32))
 
@@ -166,7 +170,7 @@ enum nest_number {
 
     /* The host. */
     NEST_SHORT_WORK = 8,    /* run: work words too few */
-    NEST_SHORT_ANSWER = 9,  /* read, run: answer numbers too few; row: row words too few */
+    NEST_SHORT_ANSWER = 9,  /* read, run: answer numbers too few; save: answer bytes; row: row words */
     NEST_BAD_LAYOUT = 11,   /* check: another count of numbers, out of order, or does not pass */
     NEST_NO_CANDIDATE = 12, /* row: the candidate or one of the two types does not exist */
     NEST_BAD_MARGIN = 13,   /* row, check, run: a margin above 63 */
@@ -200,6 +204,22 @@ enum nest_verdict {
  * NEST_MAX_READ_BYTES are enough for every job.
  */
 uint64_t nest_read(const uint8_t *job, size_t job_len, uint8_t *answer, size_t answer_len);
+
+/*
+ * Save a job. Writes its content as a job: the board at offset 0, the classes by rising id at offset 6, also where
+ * there are none, the types as given, then the trailer, with no skipped bytes. The gap byte of a class is its gap,
+ * and 128 plus its gap where it is marked as common cut.
+ *
+ * A saved job is accepted, and every service answers it as it answers the job that it was made from: read gives
+ * the same numbers, and saving it again gives the same bytes. Two accepted jobs are saved to equal bytes exactly if
+ * their contents are equal; content is all that read gives, so that the order of the classes does not count.
+ *
+ * Result: NEST_COUNT is how many bytes were written.
+ * Refusals: 1 to 7; 9 if the answer buffer has fewer bytes than these (nothing is written then). A saved job is
+ * never longer than the job that it was made from: job_len bytes are enough for it, and NEST_MAX_SAVE_BYTES for
+ * every job. The two buffers may not share bytes, so a job is not saved in its own place.
+ */
+uint64_t nest_save(const uint8_t *job, size_t job_len, uint8_t *answer, size_t answer_len);
 
 /*
  * Row of conflicts. For the candidate `number` of type `kind`, fills the NEST_SET_WORDS(dots) first row words: a

@@ -1,5 +1,6 @@
 #!/usr/bin/env python3
-"""Writes the sample jobs of this folder from the descriptions below, and their table, README.md.
+"""Writes the sample jobs of this folder from the descriptions below, what some of them are saved to, and their table,
+README.md.
 
 usage: jobs/make.py [EXPECT]
 
@@ -37,31 +38,35 @@ def piece(demand, parts, turns=1, classes=0):
     return record
 
 
-def job(width, length, step, types, classes=(), order="board classes types", skip=b"", class_offset=None):
-    """The job's bytes: the sections in the order given, each after the skipped bytes, then the trailer."""
-    contents = {
-        "board": struct.pack("<HHH", width, length, step),
-        "classes": b"".join(bytes(c) for c in classes),
-        "types": b"".join(types),
-    }
-    body, offset = b"", {}
-    for name in order.split():
-        body += skip
-        offset[name] = len(body)
-        body += contents[name]
-    if class_offset is not None:
-        offset["classes"] = class_offset
-    trailer = struct.pack(
-        "<HHHHBBH",
-        offset["board"],
-        offset["classes"],
-        offset["types"],
-        len(contents["types"]),
-        len(classes),
-        len(types),
-        len(body) + 14,
-    )
-    return body + trailer + b"\x44\x42"
+class Job:
+    """A job's content, and how its sections stand in the file."""
+
+    def __init__(self, width, length, step, types, classes=(), order="board classes types", skip=b"", class_offset=None):
+        self.board = struct.pack("<HHH", width, length, step)
+        self.types, self.classes = types, classes
+        self.order, self.skip, self.class_offset = order, skip, class_offset
+
+    def file(self):
+        """The job's bytes: the sections in the order given, each after the skipped bytes, then the trailer."""
+        contents = {"board": self.board, "classes": b"".join(map(bytes, self.classes)), "types": b"".join(self.types)}
+        body, offset = b"", {}
+        for name in self.order.split():
+            body += self.skip
+            offset[name] = len(body)
+            body += contents[name]
+        if self.class_offset is not None:
+            offset["classes"] = self.class_offset
+        return body + self.trailer(offset["board"], offset["classes"], offset["types"], len(body))
+
+    def saved(self):
+        """The bytes that the job is saved to: nothing of how its sections stand is left, nor of its classes' order."""
+        by_id = b"".join(bytes(c) for c in sorted(self.classes, key=lambda c: c[0]))
+        body = self.board + by_id + b"".join(self.types)
+        return body + self.trailer(0, 6, 6 + len(by_id), len(body))
+
+    def trailer(self, board_at, classes_at, types_at, trailer_at):
+        lengths = sum(map(len, self.types)), len(self.classes), len(self.types), trailer_at + 14
+        return struct.pack("<HHHHBBH", board_at, classes_at, types_at, *lengths) + b"\x44\x42"
 
 
 # A class is its id, its rank and its gap byte: the gap, and this added if the class is marked as common cut.
@@ -73,21 +78,21 @@ TWO_CLASSES = 1 << 4 | 1 << 1
 
 
 def brackets(classes):
-    return job(5, 14, 1, [piece(3, BRACKET, turns=5, classes=TWO_CLASSES)], classes)
+    return Job(5, 14, 1, [piece(3, BRACKET, turns=5, classes=TWO_CLASSES)], classes)
 
 
 JOBS = {
     "printed": (
         "Document 01's first board, byte for byte: two squares side by side.",
-        job(2, 4, 1, [piece(2, [SQUARE])], order="board types classes", class_offset=0),
+        Job(2, 4, 1, [piece(2, [SQUARE])], order="board types classes", class_offset=0),
     ),
     "two-squares-gap": (
         "The same squares in a class of gap 1 on a longer board: they stand 1 apart.",
-        job(2, 5, 1, [piece(2, [SQUARE], classes=1)], [(0, 0, 1)]),
+        Job(2, 5, 1, [piece(2, [SQUARE], classes=1)], [(0, 0, 1)]),
     ),
     "clamped-squares": (
         "The same squares, in no class, where clamps have room: with margin 1 they stand at columns 1 and 3, row 1, length 6.",
-        job(4, 6, 1, [piece(2, [SQUARE])]),
+        Job(4, 6, 1, [piece(2, [SQUARE])]),
     ),
     "classes-one-order": (
         "Three brackets of two parts, each in two classes; the best-ranked one, gap 1, counts.",
@@ -99,31 +104,31 @@ JOBS = {
     ),
     "common-cut": (
         "The squares of `two-squares-gap`, but gap byte 129: gap 1, marked as common cut. They share the class and touch.",
-        job(2, 5, 1, [piece(2, [SQUARE], classes=1)], [(0, 0, COMMON_CUT + 1)]),
+        Job(2, 5, 1, [piece(2, [SQUARE], classes=1)], [(0, 0, COMMON_CUT + 1)]),
     ),
     "common-cut-and-another": (
         "Two squares in a common cut of gap 2 and one in no class: the two touch, the third stands 2 apart.",
-        job(2, 8, 1, [piece(2, [SQUARE], classes=1), piece(1, [SQUARE])], [(0, 5, COMMON_CUT + 2)]),
+        Job(2, 8, 1, [piece(2, [SQUARE], classes=1), piece(1, [SQUARE])], [(0, 5, COMMON_CUT + 2)]),
     ),
     "turned-bar": (
         "A bar of length 3 on a board of length 1: only one quarter turn is allowed, and it fits.",
-        job(3, 1, 1, [piece(1, [rectangle(0, 0, 3, 1)], turns=2)]),
+        Job(3, 1, 1, [piece(1, [rectangle(0, 0, 3, 1)], turns=2)]),
     ),
     "four-turns": (
         "Angle brackets and a bar in all four turns, nested into each other.",
-        job(5, 8, 1, [piece(3, BRACKET, turns=15), piece(1, [rectangle(0, 0, 2, 2)], turns=1)]),
+        Job(5, 8, 1, [piece(3, BRACKET, turns=15), piece(1, [rectangle(0, 0, 2, 2)], turns=1)]),
     ),
     "triangles": (
         "Two triangles that share the dot (0, 0) and an edge, without conflict.",
-        job(2, 2, 1, [piece(1, [LOWER]), piece(1, [UPPER])]),
+        Job(2, 2, 1, [piece(1, [LOWER]), piece(1, [UPPER])]),
     ),
     "strips": (
         "Two slanting strips in one column, more than their height would allow.",
-        job(12, 20, 1, [piece(2, [STRIP])]),
+        Job(12, 20, 1, [piece(2, [STRIP])]),
     ),
     "any-order": (
         "Types, classes, board, in that order, with skipped bytes between; step 2, negative corners, overlapping parts.",
-        job(
+        Job(
             9,
             21,
             2,
@@ -138,45 +143,48 @@ JOBS = {
     ),
     "full-board": (
         "The most that a job may have: 1024 dots, 8 types, 12 pieces, every turn; the first column takes them all.",
-        job(31, 31, 1, [piece(2 if i < 4 else 1, [rectangle(0, 0, 2, 1 + i % 3)], turns=15) for i in range(8)]),
+        Job(31, 31, 1, [piece(2 if i < 4 else 1, [rectangle(0, 0, 2, 1 + i % 3)], turns=15) for i in range(8)]),
     ),
     "stopped-with-layout": (
         "Eleven pieces with more to try than 1,000,000 steps: the best layout so far is held.",
-        job(8, 20, 1, [piece(6, [rectangle(0, 0, 3, 2)], turns=3), piece(5, BRACKET, turns=5)]),
+        Job(8, 20, 1, [piece(6, [rectangle(0, 0, 3, 2)], turns=3), piece(5, BRACKET, turns=5)]),
     ),
     "stopped-with-nothing": (
         "Twelve bars, of which eleven fit; look-ahead does not see it, and the budget is spent first.",
-        job(6, 11, 1, [piece(12, [rectangle(0, 0, 3, 2)], turns=3)]),
+        Job(6, 11, 1, [piece(12, [rectangle(0, 0, 3, 2)], turns=3)]),
     ),
     "none": (
         "Two squares on a board that is 1 too short for them.",
-        job(2, 3, 1, [piece(2, [SQUARE])]),
+        Job(2, 3, 1, [piece(2, [SQUARE])]),
     ),
     "none-at-once": (
         "A board shorter than the piece: none, without a step.",
-        job(2, 1, 1, [piece(2, [SQUARE])]),
+        Job(2, 1, 1, [piece(2, [SQUARE])]),
     ),
     "refused-3-shared-byte": (
         "The class list begins on the board record's last byte.",
-        job(2, 4, 1, [piece(2, [SQUARE], classes=1)], [(0, 0, 1)], class_offset=5),
+        Job(2, 4, 1, [piece(2, [SQUARE], classes=1)], [(0, 0, 1)], class_offset=5),
     ),
     "refused-4-dots": (
         "L 512, W 1, step 1: 1026 dots.",
-        job(1, 512, 1, [piece(1, [rectangle(0, 0, 1, 1)])]),
+        Job(1, 512, 1, [piece(1, [rectangle(0, 0, 1, 1)])]),
     ),
     "refused-5-gap-byte": (
         "A gap byte of 64: neither a gap nor that of a common cut.",
-        job(2, 4, 1, [piece(2, [SQUARE], classes=1)], [(0, 0, 64)]),
+        Job(2, 4, 1, [piece(2, [SQUARE], classes=1)], [(0, 0, 64)]),
     ),
     "refused-6-absent-class": (
         "A type names the class of id 3, and the job has none of that id.",
-        job(2, 4, 1, [piece(2, [SQUARE], classes=1 << 3)], [(0, 0, 1)]),
+        Job(2, 4, 1, [piece(2, [SQUARE], classes=1 << 3)], [(0, 0, 1)]),
     ),
     "refused-7-star": (
         "A five-pointed star: each corner turns left, but the part is not sound.",
-        job(30, 30, 1, [piece(1, [STAR])]),
+        Job(30, 30, 1, [piece(1, [STAR])]),
     ),
 }
+
+# The jobs whose saved bytes, NAME.saved, are written too.
+SAVED = ["printed", "any-order", "classes-one-order", "classes-other-order", "common-cut"]
 
 TOP = """# Sample jobs
 
@@ -184,6 +192,12 @@ Each `NAME.job` is a job as the engine reads it, `NAME.out` is what the command 
 1,000,000, margin 0). `make.py` holds a readable description of each and writes the jobs and this table; the
 expected outputs come from the reference in `tests/`, which was written from documents 01 and 02 alone. A margin
 is no part of a job: the C example takes one behind the job's name.
+
+`NAME.saved`, for five of them, is the job as the engine saves it: board, classes by rising id, types, trailer.
+`make.py` puts it together from the job's description alone. `classes-one-order` and `classes-other-order` are saved
+to equal bytes, since the order of the classes is no content; no other two of the five are, since their contents
+differ. `classes-other-order` and `common-cut` are saved to their own bytes: they are in the written order already.
+`printed` changes in the offset of its empty class list alone, from 0 to 6, and `any-order` loses its skipped bytes.
 
 | job | what it shows | first line of the output |
 |---|---|---|
@@ -196,9 +210,11 @@ def first_line(name):
 
 
 def main():
-    for name, (_, content) in JOBS.items():
+    for name, (_, job) in JOBS.items():
         path = FOLDER / f"{name}.job"
-        path.write_bytes(content)
+        path.write_bytes(job.file())
+        if name in SAVED:
+            (FOLDER / f"{name}.saved").write_bytes(job.saved())
         if len(sys.argv) > 1:
             out = subprocess.run([sys.argv[1], str(path)], check=True, capture_output=True)
             (FOLDER / f"{name}.out").write_bytes(out.stdout)

@@ -1,7 +1,7 @@
 #!/bin/sh
-# Links everything on this side of the C interface with a libnest.a and runs it: the comparison tests, then the
-# C example on every job of jobs/, held to the expected outputs, and with margins, and the stack that a run takes. Needs no
-# network.
+# Links everything on this side of the C interface with a libnest.a and runs it: the comparison tests, the stack that a
+# run takes, then the C example on every job of jobs/, held to the expected outputs, with margins, and saving each job.
+# Needs no network.
 # usage: tests/run.sh FOLDER_OF_LIBNEST [COUNT]
 # CC, CFLAGS and NEST_LDLIBS (libraries that libnest.a itself needs) may be given. NEST_PROGRAM is the command
 # program, if it is to be run too: on every job of jobs/, and on inputs of several sizes.
@@ -66,6 +66,65 @@ under_margin() { # JOB MARGIN PRINTED
     fi
 }
 
+# The C example with these arguments prints this.
+says() { # PRINTED ARGUMENT...
+    expected=$1
+    shift
+    said=$("$build/nest" "$@") || said="$said, with status $?"
+    if [ "$said" != "$expected" ]; then
+        echo "nest $*: printed '$said', expected '$expected'"
+        return 1
+    fi
+}
+
+# A job that is refused: no file is created, and one that is there is not changed.
+refused_when_saved() { # JOB PRINTED
+    rm -f "$build/saved"
+    says "$2" --save "$build/saved" "$1" && [ ! -e "$build/saved" ] || return 1
+    echo kept >"$build/saved"
+    says "$2" --save "$build/saved" "$1" && [ "$(cat "$build/saved")" = kept ]
+}
+
+# A job that is saved, as many bytes as are told: those expected, where they are known. The saved job runs as the job
+# does, and is saved to its own bytes.
+good_when_saved() { # JOB
+    rm -f "$build/saved" "$build/again"
+    "$build/nest" --save "$build/saved" "$1" >"$build/told" || return 1
+    echo "saved $(($(wc -c <"$build/saved")))" | cmp - "$build/told" || return 1
+    if [ -f "${1%.job}.saved" ]; then
+        known=$((known + 1))
+        cmp "$build/saved" "${1%.job}.saved" || return 1
+    fi
+    "$build/nest" "$build/saved" | cmp - "${1%.job}.out" || return 1
+    says "$(cat "$build/told")" --save "$build/again" "$build/saved" && cmp "$build/again" "$build/saved"
+}
+
+# Every job of jobs/, by what is expected of its run.
+over_saved_jobs() {
+    known=0
+    for job in "$root"/jobs/*.job; do
+        outcome=$(head -n 1 "${job%.job}.out")
+        case $outcome in
+        refused*) refused_when_saved "$job" "$outcome" ;;
+        *) good_when_saved "$job" ;;
+        esac || { echo "jobs/$(basename "$job") is not saved as expected"; return 1; }
+    done
+    echo "C example: every job saved as expected, $known of them to known bytes"
+    [ "$known" -gt 0 ] && [ "$known" -eq "$(find "$root/jobs" -name '*.saved' | wc -l)" ]
+}
+
+# The C example with arguments by which nothing can be saved: it prints nothing, says why and has the status 2.
+cannot_save() { # WHY ARGUMENT...
+    why=$1
+    shift
+    status=0
+    said=$("$build/nest" "$@" 2>"$build/why") || status=$?
+    if [ -n "$said" ] || [ "$status" -ne 2 ] || ! grep -q "$why" "$build/why"; then
+        echo "nest $*: printed '$said', status $status, and said '$(cat "$build/why")', expected '$why'"
+        return 1
+    fi
+}
+
 over_jobs "C example" "$build/nest"
 under_margin clamped-squares 0 "$(cat "$root/jobs/clamped-squares.out")"
 under_margin clamped-squares 1 "shortest 6 3
@@ -81,6 +140,15 @@ for bad in 18446744073709551616 -1 +1 1x ""; do
     under_margin clamped-squares "$bad" ""
 done
 echo "C example: margins as expected"
+over_saved_jobs
+cannot_save '^usage' --save
+cannot_save '^usage' --save "$build/saved"
+cannot_save '^usage' --save "$build/saved" "$root/jobs/printed.job" 1
+cannot_save 'no-such.job' --save "$build/saved" "$root/jobs/no-such.job"
+cannot_save 'no-such-folder' --save "$build/no-such-folder/saved" "$root/jobs/printed.job"
+# A file that takes no bytes, where the system has one: the failure may come no sooner than the file is closed.
+[ ! -e /dev/full ] || cannot_save '/dev/full' --save /dev/full "$root/jobs/printed.job"
+echo "C example: what cannot be saved is told"
 if [ -n "${NEST_PROGRAM:-}" ]; then
     over_jobs "command program" "$NEST_PROGRAM"
     # 1024 bytes are the most that a job may have; a file may be longer than what one read gives.

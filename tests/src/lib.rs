@@ -2,6 +2,7 @@
 //! try, and the answer's packing. Nothing here links the engine.
 
 pub mod answer;
+pub mod changes;
 pub mod draft;
 pub mod generator;
 pub mod margins;

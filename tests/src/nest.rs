@@ -7,6 +7,7 @@ use nest_tests::answer::Answer;
 #[link(name = "nest", kind = "static")]
 extern "C" {
     fn nest_read(job: *const u8, job_len: usize, answer: *mut u8, answer_len: usize) -> u64;
+    fn nest_save(job: *const u8, job_len: usize, answer: *mut u8, answer_len: usize) -> u64;
     fn nest_row(
         job: *const u8,
         job_len: usize,
@@ -41,6 +42,12 @@ pub unsafe fn read_at(job: Given, answer: Given) -> Answer {
 
 /// # Safety
 /// As above.
+pub unsafe fn save_at(job: Given, answer: Given) -> Answer {
+    Answer::unpack(nest_save(job.0, job.1, answer.0, answer.1))
+}
+
+/// # Safety
+/// As above.
 pub unsafe fn row_at(job: Given, margin: u64, kind: u64, number: u64, other: u64, row: Given) -> Answer {
     Answer::unpack(nest_row(job.0, job.1, margin, kind, number, other, row.0, row.1))
 }
@@ -68,6 +75,11 @@ fn changed(bytes: &mut [u8]) -> Given {
 pub fn read(job: &[u8], answer: &mut [u8]) -> Answer {
     // SAFETY: places and lengths are those of live slices, and the changed one is borrowed alone.
     unsafe { read_at(kept(job), changed(answer)) }
+}
+
+pub fn save(job: &[u8], answer: &mut [u8]) -> Answer {
+    // SAFETY: as above.
+    unsafe { save_at(kept(job), changed(answer)) }
 }
 
 pub fn row(job: &[u8], margin: u64, kind: u64, number: u64, other: u64, row: &mut [u8]) -> Answer {

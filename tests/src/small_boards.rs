@@ -1,5 +1,5 @@
 //! The section "Small boards" of document 01, marked and unmarked, with what it says of each; and small boards that
-//! are refused, under a margin and of common cut, with what documents 01 and 02 make of them, worked out by hand.
+//! are refused, under a margin, of common cut and saved, with what documents 01 and 02 make of them, worked out by hand.
 
 use crate::draft::{encode, Arrangement, Draft};
 
@@ -14,6 +14,8 @@ pub enum Claim {
     Reads(u8),
     /// The numbers that read writes.
     Gives(Vec<u16>),
+    /// The bytes that the job is saved to; or what refuses it.
+    Saves(Result<Vec<u8>, u8>),
 }
 
 /// Column and row.
@@ -30,6 +32,7 @@ const LOWER: &[(i8, i8)] = &[(0, 0), (2, 0), (2, 2)];
 const UPPER: &[(i8, i8)] = &[(0, 0), (2, 2), (0, 2)];
 const STRIP: &[(i8, i8)] = &[(0, 0), (10, 10), (10, 11), (0, 1)];
 const BAR: &[(i8, i8)] = &[(0, 0), (3, 0), (3, 1), (0, 1)];
+const OCTAGON: &[(i8, i8)] = &[(1, 0), (3, 0), (4, 1), (4, 2), (3, 3), (1, 3), (0, 2), (0, 1)];
 /// Off its dot by more than a small board is long.
 const FAR: &[(i8, i8)] = &[(4, 4), (5, 4), (5, 5), (4, 5)];
 
@@ -75,7 +78,7 @@ impl Claim {
     pub fn margin(&self) -> u64 {
         match self {
             Claim::Run { margin, .. } | Claim::Conflict { margin, .. } | Claim::Check { margin, .. } => *margin,
-            Claim::Reads(_) | Claim::Gives(_) => 0,
+            Claim::Reads(_) | Claim::Gives(_) | Claim::Saves(_) => 0,
         }
     }
 }
@@ -88,6 +91,7 @@ pub fn small_boards() -> Vec<SmallBoard> {
     boards.extend(boards_with_a_shared_cut());
     boards.extend(boards_without_a_shared_cut());
     boards.extend(boards_of_gap_bytes());
+    boards.extend(boards_saved());
     boards
 }
 
@@ -328,6 +332,111 @@ fn boards_of_gap_bytes() -> Vec<SmallBoard> {
         board(name, squares_with_gap(2, 4, byte), vec![Claim::Reads(5), run(u32::MAX, "refused 5\n")])
     }));
     boards
+}
+
+fn saves(bytes: &[u8]) -> Claim {
+    Claim::Saves(Ok(bytes.to_vec()))
+}
+
+/// Jobs and what they are saved to, a section a line.
+fn boards_saved() -> Vec<SmallBoard> {
+    let mut boards = boards_saved_in_order();
+    boards.extend(boards_with_types_as_given());
+    boards.extend(boards_saved_at_the_limits());
+    // Class list at 0, for 0 classes; nothing else changes.
+    let printed = [
+        [0x02, 0x00, 0x04, 0x00, 0x01, 0x00].as_slice(),
+        &[0x02, 0x01, 0x00, 0x01, 0x04, 0x00, 0x00, 0x02, 0x00, 0x02, 0x02, 0x00, 0x02],
+        &[0x00, 0x00, 0x06, 0x00, 0x06, 0x00, 0x0D, 0x00, 0x00, 0x01, 0x21, 0x00, 0x44, 0x42],
+    ];
+    let printed = printed.concat();
+    boards.push(SmallBoard { name: "the printed job, saved", bytes: PRINTED.to_vec(), claims: vec![saves(&printed)] });
+    boards.push(SmallBoard { name: "the printed job as it is saved", claims: vec![saves(&printed)], bytes: printed });
+    boards
+}
+
+/// Type list, a skipped byte, board, then class 3 (rank 2, gap 1, marked) before class 1 (rank 9, gap 3); and classes
+/// by falling id that no type names, at the limits of the gap byte.
+fn boards_saved_in_order() -> Vec<SmallBoard> {
+    let given = [
+        [0x02, 0x01, 0x0A, 0x01, 0x04, 0x00, 0x00, 0x02, 0x00, 0x02, 0x02, 0x00, 0x02].as_slice(),
+        &[0xFF],
+        &[0x02, 0x00, 0x05, 0x00, 0x01, 0x00],
+        &[0x03, 0x02, 0x81, 0x01, 0x09, 0x03],
+        &[0x0E, 0x00, 0x14, 0x00, 0x00, 0x00, 0x0D, 0x00, 0x02, 0x01, 0x28, 0x00, 0x44, 0x42],
+    ];
+    let saved = [
+        [0x02, 0x00, 0x05, 0x00, 0x01, 0x00].as_slice(),
+        &[0x01, 0x09, 0x03, 0x03, 0x02, 0x81],
+        &[0x02, 0x01, 0x0A, 0x01, 0x04, 0x00, 0x00, 0x02, 0x00, 0x02, 0x02, 0x00, 0x02],
+        &[0x00, 0x00, 0x06, 0x00, 0x0C, 0x00, 0x0D, 0x00, 0x02, 0x01, 0x27, 0x00, 0x44, 0x42],
+    ];
+    let saved = saved.concat();
+    let claims = || as_printed().into_iter().chain([saves(&saved)]).collect();
+    let three_classes = [
+        [0x02, 0x00, 0x04, 0x00, 0x01, 0x00].as_slice(),
+        &[0x00, 0x09, 0x80, 0x02, 0x07, 0x3F, 0x05, 0xC8, 0xBF],
+        &[0x02, 0x01, 0x00, 0x01, 0x04, 0x00, 0x00, 0x02, 0x00, 0x02, 0x02, 0x00, 0x02],
+        &[0x00, 0x00, 0x06, 0x00, 0x0F, 0x00, 0x0D, 0x00, 0x03, 0x01, 0x2A, 0x00, 0x44, 0x42],
+    ];
+    vec![
+        SmallBoard { name: "types, a skipped byte, classes by falling id", bytes: given.concat(), claims: claims() },
+        SmallBoard { name: "the same as it is saved", bytes: saved.clone(), claims: claims() },
+        board(
+            "three classes that no type names",
+            Draft::new(2, 4, 1).classes(&[[5, 200, 191], [2, 7, 63], [0, 9, 128]]).with(2, 1, 0, &[SQUARE]),
+            vec![saves(&three_classes.concat())],
+        ),
+    ]
+}
+
+/// One lower and two upper triangles: neither the demands nor the corners order the types.
+fn boards_with_types_as_given() -> Vec<SmallBoard> {
+    let lower = [0x01, 0x01, 0x00, 0x01, 0x03, 0x00, 0x00, 0x02, 0x00, 0x02, 0x02].as_slice();
+    let upper = [0x02, 0x01, 0x00, 0x01, 0x03, 0x00, 0x00, 0x02, 0x02, 0x00, 0x02].as_slice();
+    let saved = |types: [&[u8]; 2]| {
+        let trailer = [0x00, 0x00, 0x06, 0x00, 0x06, 0x00, 0x16, 0x00, 0x00, 0x02, 0x2A, 0x00, 0x44, 0x42];
+        saves(&[[0x02, 0x00, 0x06, 0x00, 0x01, 0x00].as_slice(), types[0], types[1], &trailer].concat())
+    };
+    let sheet = || Draft::new(2, 6, 1);
+    vec![
+        board(
+            "the smaller demand first",
+            sheet().with(1, 1, 0, &[LOWER]).with(2, 1, 0, &[UPPER]),
+            vec![saved([lower, upper])],
+        ),
+        board(
+            "the larger demand first",
+            sheet().with(2, 1, 0, &[UPPER]).with(1, 1, 0, &[LOWER]),
+            vec![saved([upper, lower])],
+        ),
+    ]
+}
+
+/// The least coordinate; and the most that a job may hold, on a sheet too small for it: 8 classes, and 8 types of 6
+/// parts of 8 corners, which with board and trailer are 6 + 24 + 848 + 14 = 892 bytes.
+fn boards_saved_at_the_limits() -> Vec<SmallBoard> {
+    let least = [
+        [0x02, 0x00, 0xC8, 0x00, 0x01, 0x00].as_slice(),
+        &[0x01, 0x01, 0x00, 0x01, 0x03, 0x81, 0x00, 0x00, 0x00, 0x00, 0x01],
+        &[0x00, 0x00, 0x06, 0x00, 0x06, 0x00, 0x0B, 0x00, 0x00, 0x01, 0x1F, 0x00, 0x44, 0x42],
+    ];
+    let mut most = Draft::new(2, 2, 1);
+    most.classes = (0..8).map(|id| [id, 255 - id, 128 + id]).collect();
+    for demand in [2, 2, 2, 2, 1, 1, 1, 1] {
+        most = most.with(demand, 15, 255, &[OCTAGON; 6]);
+    }
+    let written = encode(&most, &Arrangement::plain()).bytes;
+    assert_eq!(written.len(), 892);
+    let mut filled = Arrangement::plain();
+    filled.skipped[2] = vec![0x44; 1024 - written.len()];
+    let claims = || vec![saves(&written), run(u32::MAX, "none 0\n")];
+    vec![
+        board("the least coordinate", cornered(-127), vec![saves(&least.concat())]),
+        board("below the least coordinate", cornered(-128), vec![Claim::Saves(Err(7))]),
+        SmallBoard { name: "1024 bytes", bytes: encode(&most, &filled).bytes, claims: claims() },
+        board("the most that a job may hold", most, claims()),
+    ]
 }
 
 fn cornered(x: i8) -> Draft {

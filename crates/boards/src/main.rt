@@ -14,7 +14,14 @@ fn budget_of(given: usize, number: u8) -> u32 {
     if given == 0 { 1000000 } else { number as u32 }
 }
 
-// The question of this word about a job under a margin: read, row, check or run, told by its second letter.
+// The bytes that save is lent: as many as are given, or else enough for every job.
+fn room_of(given: usize, number: u8) -> usize
+    ensures { λ r. ⌜ r ≤ 1024 ⌝ }
+{
+    if given == 0 { 1024 } else { number as usize }
+}
+
+// The question of this word about a job under a margin: read, write, row, check or run, told by its second letter.
 fn ask(word: u8, margin: usize, job: Numbers, asked: Numbers)
     requires { ⌜ (job .count ≤ length (job .bytes)) × (asked .count ≤ length (asked .bytes)) ⌝ }
 {
@@ -25,6 +32,7 @@ fn ask(word: u8, margin: usize, job: Numbers, asked: Numbers)
     let job = &bytes[0..size];
     match word {
         b'e' => show::read(job),
+        b'r' => show::save(job, room_of(count, given[0])),
         b'o' => show::row(job, margin, given[0]),
         b'h' => show::check(job, margin, &given[0..count]),
         _ => show::run(job, margin, budget_of(count, given[0])),
@@ -60,7 +68,7 @@ fn answer_all(text: &[u8]) {
                 margin = 0;
             }
             b'l' => margin = input::margin_at(text, at + 5),
-            b'e' | b'o' | b'h' | b'u' => answer(text, name, margin, at, word),
+            b'e' | b'r' | b'o' | b'h' | b'u' => answer(text, name, margin, at, word),
             _ => (),
         }
         at = bytes::scan::find(text, at, text.len(), b'\n') + 1;

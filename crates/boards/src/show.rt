@@ -3,6 +3,7 @@ use libc::STDOUT_FILENO;
 use model::Checked;
 use model::Written;
 use words::numbers::get_u16;
+ghost use Prim.Native.Nat.{_≤_};
 
 // A number behind some words.
 fn say(words: &[u8], n: u64) {
@@ -56,6 +57,51 @@ pub fn read(job: &[u8]) {
         Written::Refused(n) => say_last(b": read refused ", n as u64),
         Written::Count(n) => say_all(&numbers, n as usize),
     }
+}
+
+// The last hexadecimal digit of a number.
+fn digit(n: u8) -> u8 {
+    if n % 16 < 10 {
+        b'0' + n % 16
+    } else {
+        b'A' + (n % 16 - 10)
+    }
+}
+
+// The first n of the bytes, or all of them if there are fewer, in hexadecimal.
+fn say_bytes(bytes: &[u8], n: usize) {
+    io::write_all(STDOUT_FILENO, b":");
+    let mut i = 0;
+    while i < n {
+        if bytes.len() <= i {
+            break;
+        }
+        io::write_all(
+            STDOUT_FILENO,
+            &[b' ', digit(bytes[i] / 16), digit(bytes[i])],
+        );
+        i += 1;
+    }
+    io::write_all(STDOUT_FILENO, b"\n");
+}
+
+// How many bytes save writes, those bytes and the two behind them, or the refusal.
+fn save_into(job: &[u8], bytes: &mut [u8]) {
+    match saving::save(job, bytes) {
+        Written::Refused(n) => say_last(b": save refused ", n as u64),
+        Written::Count(n) => {
+            say(b": saved ", n as u64);
+            say_bytes(bytes, n as usize + 2);
+        }
+    }
+}
+
+// What save says and leaves where so many bytes are lent, each of them 7.
+pub fn save(job: &[u8], room: usize)
+    requires { ⌜ room ≤ 1024 ⌝ }
+{
+    let mut bytes = [7u8; 1024];
+    save_into(job, &mut bytes[0..room]);
 }
 
 // Whether candidate 0 is in conflict with the one of this number, by the byte of the row that has its bit.

@@ -4,16 +4,11 @@ use mathlib.Core.List.{List}
 use mathlib.Core.Path.{_≡_}
 use Prim.Native.Nat.{ℕ, _+_}
 use lib.Dec.{ltb}
-use Rattle.model.specs.Content.{board}
 use Rattle.model.specs.Content as Model
-use Rattle.model.specs.Format.{wordAt}
+use Rattle.model.specs.Format.{wordAt, boardFrom}
 use Rattle.model.specs.Grid.{dots}
 use Rattle.model.specs.Lists.{between}
 use Rattle.frame.specs.declared.board.Board.{Board}
-
--- "Board, 6 bytes: width W, length L, step g, two bytes each"
-abbrev pub boardFrom : List ℕ → ℕ → Model.Board
-boardFrom s o = board (wordAt s o) (wordAt s (o + 2)) (wordAt s (o + 4))
 
 -- The fields that were read are those of the bytes.
 pub record BoardIn (s : List ℕ) (o : ℕ) (b : Board) : Type 0 where

@@ -19,8 +19,8 @@ use Rattle.model.specs.Lists.{any, keep, below, rising}
 use Rattle.model.proofs.Folds.{below-more, any-more}
 use Rattle.model.proofs.Tests.{any-same, any-concat}
 use Rattle.records.specs.Classes.{classesFrom, classesOfId, indexOf, distinctColumn}
+use Rattle.records.proofs.ClassLaws.{found}
 use Rattle.job.specs.Gaps.{isCut, cutIds, masksMeet}
-use Rattle.job.proofs.GapLaws.{found}
 
 -- ---- What the code collects
 

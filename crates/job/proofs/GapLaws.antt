@@ -1,90 +1,21 @@
 -- The best-ranked class, id by id, is the one whose gap the model takes, where no id occurs twice.
-use mathlib.Core.Bool.{Bool, true, false, not, cond, _&&_, _||_}
+use mathlib.Core.Bool.{Bool, true, false, cond, _&&_}
 use mathlib.Core.List.{List, [], _∷_, _++_, map}
-use mathlib.Core.Path.{_≡_, refl, sym, ap, ap₂, _∙_}
-use Prim.Native.Nat.{ℕ, zero, suc, _+_, _*_, _<_}
+use mathlib.Core.Path.{_≡_, refl, sym, ap, _∙_}
+use Prim.Native.Nat.{ℕ, zero, suc, _+_, _*_}
 use native.Mathlib.Numerals.{add-one}
-use native.Mathlib.Omega.{arith}
-use borrow.Author.Tests.{lt-ltb, le-ltb, ltb-true, eqb-true, eqb-false, eq-eqb, ne-eqb, not-true}
+use borrow.Author.Tests.{ltb-true}
 use lib.Dec.{eqb, ltb}
 use Rattle.words.specs.Bits.{testBit}
 use Rattle.model.specs.Content.{SpacingClass, Kind}
-use Rattle.model.specs.Format.{byteAt, gapMeant, classFrom, distinct, byRisingId}
+use Rattle.model.specs.Format.{byteAt, gapMeant, classFrom, byRisingId}
 use Rattle.model.specs.Gap.{names, better, bestFrom, bestRanked, gapOr0}
-use Rattle.model.specs.Lists.{any, keep, concat, rising, below}
-use Rattle.model.proofs.Folds.{keep-append, keep-none}
-use Rattle.model.proofs.Lists.{and-left, and-right}
-use Rattle.records.specs.Classes.{classesFrom, entryAt, firstFrom, hasId, indexOf, distinctColumn}
+use Rattle.model.specs.Lists.{keep, concat, rising, below}
+use Rattle.model.proofs.Folds.{keep-append}
+use Rattle.records.specs.Classes.{classesFrom, indexOf, distinctColumn}
 use Rattle.job.specs.Gaps.{bestOf, offered, offeredId, bestBelow}
 use Rattle.job.specs.declared.gaps.Best.{Best}
-use Rattle.records.proofs.ClassLaws.{risen-more}
-
-pub eqb-swap : (a b : ℕ) → eqb a b ≡ eqb b a
-eqb-swap a b = go (eqb b a) refl
-  where
-    go : (t : Bool) → eqb b a ≡ t → eqb a b ≡ t
-    go true e = eq-eqb a b (sym (eqb-true b a e))
-    go false e = ne-eqb a b (λ q. eqb-false b a e (sym q))
-
--- ---- The class of an id
-
-module _ (s : List ℕ) (o i : ℕ) where
-  any-id : (xs : List ℕ) → any (λ c. eqb (c .id) i) (map (λ m. classFrom s (o + m * 3)) xs) ≡ any (eqb i) (map (entryAt s o) xs)
-  unfolding any
-  any-id [] = refl
-  any-id (x ∷ xs) = ap₂ (λ a b. a || b) (eqb-swap (entryAt s o x) i) (any-id xs)
-
-  found-from : (j k : ℕ) → distinct (map (entryAt s o) (rising j k)) ≡ true
-      → keep (λ c. eqb (c .id) i) (map (λ m. classFrom s (o + m * 3)) (rising j k))
-      ≡ cond (ltb (firstFrom (hasId s o i) j k) (j + k)) (classFrom s (o + firstFrom (hasId s o i) j k * 3) ∷ []) []
-  unfolding keep distinct rising firstFrom hasId
-  found-from j zero d = rw (le-ltb j (j + 0) (omega arith))
-  found-from j (suc k) d =
-      go (found-from (suc j) k (and-right (not (any (eqb (entryAt s o j)) (map (entryAt s o) (rising (suc j) k)))) _ d))
-      (not-true _ (and-left _ _ d)) (eqb (entryAt s o j) i) refl
-    where
-      go : keep (λ c. eqb (c .id) i) (map (λ m. classFrom s (o + m * 3)) (rising (suc j) k))
-          ≡ cond (ltb (firstFrom (hasId s o i) (suc j) k) (suc j + k)) (classFrom s (o + firstFrom (hasId s o i) (suc j) k * 3) ∷ []) []
-          → any (eqb (entryAt s o j)) (map (entryAt s o) (rising (suc j) k)) ≡ false
-          → (b : Bool) → eqb (entryAt s o j) i ≡ b
-          → cond b (classFrom s (o + j * 3) ∷ keep (λ c. eqb (c .id) i) (map (λ m. classFrom s (o + m * 3)) (rising (suc j) k)))
-          (keep (λ c. eqb (c .id) i) (map (λ m. classFrom s (o + m * 3)) (rising (suc j) k)))
-          ≡ cond (ltb (cond b j (firstFrom (hasId s o i) (suc j) k)) (j + suc k))
-          (classFrom s (o + cond b j (firstFrom (hasId s o i) (suc j) k) * 3) ∷ [])
-          []
-      go ih l true e =
-          let q : any (eqb i) (map (entryAt s o) (rising (suc j) k)) ≡ false = rw (eqb-true (entryAt s o j) i e) at l in
-          let z : keep (λ c. eqb (c .id) i) (map (λ m. classFrom s (o + m * 3)) (rising (suc j) k)) ≡ [] =
-          keep-none (λ c. eqb (c .id) i) _ (any-id (rising (suc j) k) ∙ q) in
-          rw (z, lt-ltb j (j + suc k) (omega arith))
-      go ih l false e =
-          let q : suc j + k ≡ j + suc k = omega arith in
-          ih ∙ ap (λ m. cond (ltb (firstFrom (hasId s o i) (suc j) k) m) (classFrom s (o + firstFrom (hasId s o i) (suc j) k * 3) ∷ []) []) q
-
-  -- Where no id occurs twice, the classes of an id are the one that is found, or none.
-  pub found : (n : ℕ) → distinctColumn s o n ≡ true
-      → keep (λ c. eqb (c .id) i) (classesFrom s o n)
-      ≡ cond (ltb (indexOf s o n i) n) (classFrom s (o + indexOf s o n i * 3) ∷ []) []
-  unfolding distinctColumn indexOf below
-  found n d =
-      found-from 0 n d
-      ∙ ap (λ m. cond (ltb (firstFrom (hasId s o i) 0 n) m) (classFrom s (o + firstFrom (hasId s o i) 0 n * 3) ∷ []) []) (omega arith)
-
-  -- Its id is the one looked for.
-  first-is : (j k : ℕ) → firstFrom (hasId s o i) j k < j + k → entryAt s o (firstFrom (hasId s o i) j k) ≡ i
-  unfolding firstFrom hasId
-  first-is j zero h = absurd (omega arith)
-  first-is j (suc k) h = go (first-is (suc j) k) (eqb (entryAt s o j) i) refl h
-    where
-      go : (firstFrom (hasId s o i) (suc j) k < suc j + k → entryAt s o (firstFrom (hasId s o i) (suc j) k) ≡ i)
-          → (b : Bool) → eqb (entryAt s o j) i ≡ b → cond b j (firstFrom (hasId s o i) (suc j) k) < j + suc k
-          → entryAt s o (cond b j (firstFrom (hasId s o i) (suc j) k)) ≡ i
-      go ih true e h = eqb-true _ _ e
-      go ih false e h = ih (omega arith)
-
-  pub found-is : (n : ℕ) → indexOf s o n i < n → entryAt s o (indexOf s o n i) ≡ i
-  unfolding indexOf
-  found-is n h = first-is 0 n (omega arith)
+use Rattle.records.proofs.ClassLaws.{risen-more, found, found-is}
 
 -- ---- Classes offered one after the other
 

@@ -7,17 +7,18 @@ use native.Mathlib.Omega.{arith}
 use lib.ListN.{length, getD, take, drop, length-take, length-drop}
 use lib.Seq.{getD-take, getD-drop, take-all, drop-drop}
 use Rattle.model.specs.Content.{Part, Kind, noKind, kindAt, kindCount, pieceCount}
+use Rattle.model.specs.ContentFit.{BoardFit}
 use Rattle.model.specs.Format.{byteAt, wordAt, boardAt, got, many, readKind, vertices, kindsAt, kindsLength, kindsStated, kindBytes, kindsGot, content, boardOf, classesAt, classesStated, cause1, cause2, cause3, cause4, cause5, cause6, cause7, refusal}
 use Rattle.model.specs.Gap.{kindGap, shareCut}
 use Rattle.model.specs.Lists.{any, sum}
 use Rattle.model.specs.Grid.{rows, columns}
-use Rattle.model.proofs.Causes.{NoCause, none-before, refusal-is, Sections, sections, BoardFits, board-fits, classes-distinct, KindsFit, kinds-fit}
+use Rattle.model.proofs.Causes.{no-cause, NoCause, none-before, refusal-is, Sections, sections, board-fits, classes-distinct, KindsFit, kinds-fit}
 use Rattle.model.proofs.Folds.{any-take-more}
 use Rattle.model.proofs.Readers.{many-length}
 use Rattle.model.proofs.Records.{byte-behind, length-vertices, vertices-same, part-read}
 use Rattle.frame.specs.Board.{BoardIn}
 use Rattle.frame.specs.declared.board.Board.{Board}
-use Rattle.records.specs.Classes.{classesFrom, distinctColumn}
+use Rattle.records.specs.Classes.{classesFrom, distinctColumn, classesUnfit}
 use Rattle.job.specs.Gaps.{cutIds, masksMeet}
 use Rattle.job.specs.Places.{FoundAt}
 use Rattle.records.specs.Records.{Reads, valuesOf}
@@ -29,7 +30,7 @@ use Rattle.job.specs.declared.table.Table.{Table}
 use Rattle.job.specs.View.{PartAt, ViewOf}
 use Rattle.records.specs.Parts.{unfitFrom}
 use Rattle.records.proofs.PartLaws.{unfit-same}
-use Rattle.job.proofs.CauseLaws.{classes-are, ids-distinct, list-is, list-length}
+use Rattle.job.proofs.CauseLaws.{classes-are, ids-distinct, classes-cause, list-is, list-length}
 use Rattle.job.proofs.CutLaws.{share-cut}
 use Rattle.records.proofs.RecordLaws.{tail, reads-from, values-from}
 
@@ -122,11 +123,16 @@ pub no-six : (s : List ℕ) → refusalTo6 s ≡ 0 → NoCause s
 unfolding refusalTo6
 no-six s e = none-before s 0 e
 
+-- An accepted job gives none of the causes 1 to 6.
+pub six-none : (s : List ℕ) → refusal s ≡ 0 → refusalTo6 s ≡ 0
+unfolding refusalTo6
+six-none s e = let n = no-cause s e in rw (n .no1, n .no2, n .no3, n .no4, n .no5, n .no6)
+
 module _ (s : List ℕ) (e : refusalTo6 s ≡ 0) where
   pub inside : Sections s
   inside = sections s (no-six s e .no1) (no-six s e .no3)
 
-  pub board-in : BoardFits s
+  pub board-in : BoardFit (boardOf s)
   board-in = board-fits s (no-six s e .no4)
 
   pub kinds-in : KindsFit s
@@ -134,6 +140,9 @@ module _ (s : List ℕ) (e : refusalTo6 s ≡ 0) where
 
   pub ids-in : (o n : ℕ) → o ≡ classesAt s → n ≡ classesStated s → distinctColumn s o n ≡ true
   ids-in o n eo en = ap₂ (distinctColumn s) eo en ∙ sym (ids-distinct s) ∙ classes-distinct s (no-six s e .no5)
+
+  pub classes-in : (o n : ℕ) → o ≡ classesAt s → n ≡ classesStated s → classesUnfit s o n ≡ false
+  classes-in o n eo en = classes-cause s o n eo en ∙ no-six s e .no5
 
   module _ (base size n : ℕ) (eb : base ≡ kindsAt s) (es : size ≡ kindsLength s) (en : n ≡ kindsStated s) where
     pub got-list : many readKind n (take (base + size - base) (drop base s)) ≡ got (content s .kinds) (kindsLength s)

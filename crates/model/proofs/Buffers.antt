@@ -14,24 +14,40 @@ use Rattle.model.specs.Grid.{setWords}
 use Rattle.model.specs.Problem.{Problem, under}
 use Rattle.model.specs.Search.{isStopped, held}
 use Rattle.model.specs.Layout.{Layout}
-use Rattle.model.specs.Services.{contentNumbers, readContent, read, refusalUnder, cause12, rowContent, conflictRow, wordsIn, numbersIn, workWords, cleared, withLayout, heldAs, finishedAs, verdict, stepCount, RunOutcome, runOutcome, runContent, run}
+use Rattle.model.specs.Saving.{written}
+use Rattle.model.specs.Services.{WriteOutcome, writeOutcome, withNumbers, contentNumbers, readContent, read, withBytes, saveContent, save, refusalUnder, cause12, rowContent, conflictRow, wordsIn, numbersIn, workWords, cleared, withLayout, heldAs, finishedAs, verdict, stepCount, RunOutcome, runOutcome, runContent, run}
 use Rattle.model.specs.declared.Held.the-variants as HV
 use Rattle.model.specs.declared.RunAnswer.{RunAnswer}
 use Rattle.model.specs.declared.RunAnswer.the-variants as R
 use Rattle.model.specs.declared.Written.the-variants as W
 
--- "A refusal .. changes no buffer": read.
-pub read-keeps : (s out : List ℕ) (n : ℕ) → read s out .answer ≡ W.Refused n → read s out .buffer ≡ out
-unfolding read readContent
-read-keeps s out n = go (eqb (refusal s) 0) refl
-  where
-    inner : (b : Bool) → ltb (numbersIn out) (length (contentNumbers (content s))) ≡ b → readContent (content s) out .answer ≡ W.Refused n → readContent (content s) out .buffer ≡ out
-    inner true f h = rw (f, readContent)
-    inner false f h = let z : _≡_ {A = ℕ} 0 1 = (let g = rw (f, readContent) at h in cc) in absurd (omega arith)
+-- What read and save leave: the job is accepted or not, the answer is too short or not.
+module _ (out full : List ℕ) (m k : ℕ) where
+  left : Bool → Bool → WriteOutcome
+  left accepted short =
+      elim accepted [
+        | false ↦ writeOutcome (W.Refused m) out
+        | true ↦ cond short (writeOutcome (W.Refused 9) out) (writeOutcome (W.Count k) full)
+      ]
 
-    go : (b : Bool) → eqb (refusal s) 0 ≡ b → read s out .answer ≡ W.Refused n → read s out .buffer ≡ out
-    go false e h = rw (e, read)
-    go true e h = rw (e, read) (inner (ltb (numbersIn out) (length (contentNumbers (content s)))) refl (rw (e, read) at h))
+  left-keeps : (a b : Bool) (n : ℕ) → left a b .answer ≡ W.Refused n → left a b .buffer ≡ out
+  unfolding left
+  left-keeps false b n h = refl
+  left-keeps true true n h = refl
+  left-keeps true false n h = let z : _≡_ {A = ℕ} 0 1 = cc in absurd (omega arith)
+
+-- "A refusal .. changes no buffer": read and save.
+pub read-keeps : (s out : List ℕ) (n : ℕ) → read s out .answer ≡ W.Refused n → read s out .buffer ≡ out
+unfolding read readContent left
+read-keeps s out n =
+    let ns : List ℕ = contentNumbers (content s) in
+    left-keeps out (withNumbers ns out) (refusal s) (length ns) (eqb (refusal s) 0) (ltb (numbersIn out) (length ns)) n
+
+pub save-keeps : (s out : List ℕ) (n : ℕ) → save s out .answer ≡ W.Refused n → save s out .buffer ≡ out
+unfolding save saveContent left
+save-keeps s out n =
+    let bs : List ℕ = written (content s) in
+    left-keeps out (withBytes bs out) (refusal s) (length bs) (eqb (refusal s) 0) (ltb (length out) (length bs)) n
 
 -- The same of the conflict row.
 pub row-keeps : (s : List ℕ) (m t k u : ℕ) (out : List ℕ) (n : ℕ) → conflictRow s m t k u out .answer ≡ W.Refused n → conflictRow s m t k u out .buffer ≡ out

@@ -1,14 +1,15 @@
 -- What it says that a cause of refusal does not hold.
-use mathlib.Core.Bool.{Bool, true, false, not, cond, _&&_, _||_, true≢false}
-use mathlib.Core.List.{List, [], _∷_, map}
+use mathlib.Core.Bool.{Bool, true, false, not, cond, _||_, true≢false}
+use mathlib.Core.List.{List, map}
 use mathlib.Core.Path.{_≡_, refl, sym, ap, _∙_}
-use Prim.Native.Nat.{ℕ, zero, suc, _+_, _*_, _-_, _<_, _≤_}
+use Prim.Native.Nat.{ℕ, suc, _+_, _*_, _-_, _≤_}
 use native.Mathlib.Omega.{arith}
-use borrow.Author.Tests.{ltb-true, ltb-false, leb-true, eqb-true, not-false}
-use lib.Dec.{leb, ltb, eqb}
+use borrow.Author.Tests.{ltb-false, leb-true, eqb-true, not-false}
+use lib.Dec.{ltb, eqb}
 use lib.ListN.{length}
 use Rattle.model.specs.Content.{Kind, SpacingClass, pieceCount}
-use Rattle.model.specs.Format.{trailerAt, boardAt, classesAt, kindsAt, kindsLength, classesStated, kindsStated, inPlace, boardSection, classesSection, kindsSection, shareByte, boardOf, classesOf, kindsGot, kindsUnfit, kindsIn, content, namesPresent, Got, bad, got, cause1, cause2, cause3, cause4, cause5, cause6, cause7, refusal, distinct, classInRange}
+use Rattle.model.specs.ContentFit.{BoardFit}
+use Rattle.model.specs.Format.{trailerAt, boardAt, classesAt, kindsAt, kindsLength, classesStated, kindsStated, inPlace, boardSection, classesSection, kindsSection, boardOf, classesOf, kindsGot, kindsUnfit, kindsIn, content, namesPresent, Got, bad, got, cause1, cause2, cause3, cause4, cause5, cause6, cause7, refusal, distinct, classInRange}
 use Rattle.model.specs.Grid.{dots}
 use Rattle.model.specs.Lists.{between, all, sum}
 use Rattle.model.proofs.Lists.{or-left, or-right}
@@ -130,16 +131,7 @@ sections s no1 no3 =
 
 -- ---- Board
 
-pub record BoardFits (s : List ℕ) : Type 0 where
-  pub widthLeast : 1 ≤ boardOf s .W
-  pub widthMost : boardOf s .W ≤ 1000
-  pub lengthLeast : 1 ≤ boardOf s .L
-  pub lengthMost : boardOf s .L ≤ 1000
-  pub stepLeast : 1 ≤ boardOf s .g
-  pub stepMost : boardOf s .g ≤ 1000
-  pub dotsMost : dots (boardOf s) ≤ 1024
-
-pub board-fits : (s : List ℕ) → cause4 s ≡ false → BoardFits s
+pub board-fits : (s : List ℕ) → cause4 s ≡ false → BoardFit (boardOf s)
 unfolding cause4
 board-fits s e =
     let e3 = or-left _ _ e in

@@ -1,34 +1,30 @@
 -- Demand 2: "The order of the classes in a job changes no result." Bytes that differ only in the order of the class records are refused
 -- by the same number, have the same content, and get the same answers and buffers from every service.
-use mathlib.Core.Bool.{Bool, true, false, not, cond, _&&_, _||_}
-use mathlib.Core.List.{List, [], _∷_, map}
+use mathlib.Core.Bool.{Bool, true, false, not, cond, _||_}
+use mathlib.Core.List.{List, map}
 use mathlib.Core.Logic.{_⊎_, inl, inr, ⊎-elim}
 use mathlib.Core.Path.{_≡_, refl, sym, ap, _∙_, fun-ext}
 use Prim.Native.Nat.{ℕ, _+_, _*_, _-_, _≤_, _<_, min, max}
 use native.Mathlib.Omega.{arith}
-use borrow.Author.Tests.{leb-true, ltb-false, eqb-true, not-false}
-use lib.Dec.{leb, ltb, eqb}
-use lib.ListN.{length, getD, take, drop, length-take, length-drop}
+use borrow.Author.Tests.{leb-true, ltb-false, not-false}
+use lib.Dec.{ltb, eqb}
+use lib.ListN.{take, drop, length-take, length-drop}
 use lib.Seq.{ext-getD, getD-take, getD-drop}
 use Rattle.words.proofs.Cases.{le-or-lt}
 use Rattle.words.proofs.Place.{numberAt-cong}
 use Rattle.words.specs.Bits.{testBit}
 use Rattle.model.specs.ClassOrder.{Permuted, SameButClassOrder}
-use Rattle.model.specs.Content.{Kind, SpacingClass, Job}
-use Rattle.model.specs.Format.{Section, Got, bad, got, byteAt, wordAt, trailerAt, boardAt, classesAt, kindsAt, kindsLength, classesStated, kindsStated, lengthStated, marked, boardSection, classesSection, kindsSection, inPlace, shareByte, boardOf, classesOf, byRisingId, kindBytes, kindsGot, content, cause1, cause2, cause3, cause4, cause5, cause6, cause7, classInRange, distinct, namesPresent, kindsUnfit, refusal}
-use Rattle.model.specs.Lists.{all, any, keep, concat, below}
-use Rattle.model.specs.Problem.{Problem, under, cause13}
-use Rattle.model.specs.Services.{writeOutcome, readContent, read, refusalUnder, rowContent, conflictRow, checkContent, check, runOutcome, runContent, run}
-use Rattle.model.specs.declared.Checked.the-variants as C
-use Rattle.model.specs.declared.RunAnswer.the-variants as R
-use Rattle.model.specs.declared.Written.the-variants as W
+use Rattle.model.specs.Content.{Kind, SpacingClass}
+use Rattle.model.specs.Format.{Got, bad, got, byteAt, wordAt, trailerAt, boardAt, classesAt, kindsAt, kindsLength, classesStated, kindsStated, lengthStated, marked, boardSection, classesSection, kindsSection, inPlace, shareByte, boardOf, classesOf, byRisingId, kindBytes, kindsGot, content, cause1, cause2, cause3, cause4, cause5, cause6, cause7, classInRange, distinct, namesPresent, kindsUnfit, refusal}
+use Rattle.model.specs.Lists.{all, below}
+use Rattle.model.specs.SameAnswers.{SameAnswers}
 use Rattle.model.proofs.Causes.{no-cause}
-use Rattle.model.proofs.Lists.{or-left, or-right, by-cond}
-use Rattle.model.proofs.Margin.{accepted-under}
+use Rattle.model.proofs.Lists.{or-left, or-right}
 use Rattle.model.proofs.Permuted.{any-permuted, all-permuted, map-permuted, distinct-permuted, keep-permuted}
+use Rattle.model.proofs.SameAnswers.{same-answers}
 
 -- A class id is named by a type and present, whatever the order of the classes.
-names-permuted : {cs ds : List SpacingClass} → Permuted cs ds → namesPresent cs ≡ namesPresent ds
+pub names-permuted : {cs ds : List SpacingClass} → Permuted cs ds → namesPresent cs ≡ namesPresent ds
 unfolding namesPresent
 names-permuted r =
     fun-ext
@@ -206,50 +202,5 @@ module _ (s t : List ℕ) (same : SameButClassOrder s t) where
       rw (board-same (causes .no3), kinds-got (causes .no3), fun-ext (λ i. keep-permuted (λ c. c .id) i (same .reordered) ids))
 
   -- ---- The same answers and buffers
-  -- Under a margin, too, both are refused by the same number.
-  pub refusal-under-same : (m : ℕ) → refusalUnder m s ≡ refusalUnder m t
-  unfolding refusalUnder
-  refusal-under-same m = ap {B = ℕ} (λ n. elim (eqb n 0) [
-    | false ↦ n
-    | true ↦ cond (cause13 m) 13 0
-  ]) refusal-same
-
-  -- What is made of the number of a refusal and, where it is 0, of the content is the same for both.
-  alike : {A : Type 0} (number : List ℕ → ℕ) → number s ≡ number t → (number s ≡ 0 → refusal s ≡ 0) → (refused : ℕ → A) (accepted : Job → A)
-      → cond (eqb (number s) 0) (accepted (content s)) (refused (number s)) ≡ cond (eqb (number t) 0) (accepted (content t)) (refused (number t))
-  alike {A} number q z refused accepted = go (eqb (number s) 0) refl
-    where
-      go : (c : Bool) → eqb (number s) 0 ≡ c
-          → cond (eqb (number s) 0) (accepted (content s)) (refused (number s)) ≡ cond (eqb (number t) 0) (accepted (content t)) (refused (number t))
-      go true e = rw (q, content-same (z (eqb-true (number s) 0 e)))
-      go false e = rw (q, rw q at e)
-
-  pub read-same : (out : List ℕ) → read s out ≡ read t out
-  unfolding read
-  read-same out =
-      by-cond (eqb (refusal s) 0) _ _ ∙ alike refusal refusal-same (λ e. e) (λ n. writeOutcome (W.Refused n) out) (λ j. readContent j out)
-      ∙ sym (by-cond (eqb (refusal t) 0) _ _)
-
-  module _ (m : ℕ) where
-    alike-under : {A : Type 0} (refused : ℕ → A) (accepted : Problem → A)
-        → cond (eqb (refusalUnder m s) 0) (accepted (under m (content s))) (refused (refusalUnder m s))
-        ≡ cond (eqb (refusalUnder m t) 0) (accepted (under m (content t))) (refused (refusalUnder m t))
-    alike-under refused accepted = alike (refusalUnder m) (refusal-under-same m) (λ e. accepted-under s m .0 e .0) refused (λ j. accepted (under m j))
-
-    pub row-same : (k n u : ℕ) (out : List ℕ) → conflictRow s m k n u out ≡ conflictRow t m k n u out
-    unfolding conflictRow
-    row-same k n u out =
-        by-cond (eqb (refusalUnder m s) 0) _ _ ∙ alike-under (λ n. writeOutcome (W.Refused n) out) (λ j. rowContent j k n u out)
-        ∙ sym (by-cond (eqb (refusalUnder m t) 0) _ _)
-
-    pub check-same : (layout : List ℕ) → check s m layout ≡ check t m layout
-    unfolding check
-    check-same layout =
-        by-cond (eqb (refusalUnder m s) 0) _ _ ∙ alike-under (λ n. C.Refused n) (λ j. checkContent j layout)
-        ∙ sym (by-cond (eqb (refusalUnder m t) 0) _ _)
-
-    pub run-same : (budget : ℕ) (work out : List ℕ) → run s m budget work out ≡ run t m budget work out
-    unfolding run
-    run-same budget work out =
-        by-cond (eqb (refusalUnder m s) 0) _ _ ∙ alike-under (λ n. runOutcome (R.Refused n) work out) (λ j. runContent j budget work out)
-        ∙ sym (by-cond (eqb (refusalUnder m t) 0) _ _)
+  pub order-changes-nothing : SameAnswers s t
+  order-changes-nothing = same-answers s t refusal-same content-same

@@ -1,5 +1,5 @@
 -- The list words of specs/Lists over lists put together, and over one element more at the end: the laws of loops that count up.
-use mathlib.Core.Bool.{Bool, true, false, not, cond, _&&_, _||_, and-assoc, or-assoc, and-true, or-false}
+use mathlib.Core.Bool.{Bool, true, false, cond, _&&_, _||_, and-assoc, or-assoc, and-true, or-false}
 use mathlib.Core.List.{List, [], _∷_, _++_, map, append-assoc, append-nil}
 use mathlib.Core.Path.{_≡_, refl, sym, ap, ap₂, _∙_}
 use Prim.Native.Nat.{ℕ, zero, suc, _+_, _-_, _<_, _≤_}
@@ -104,6 +104,12 @@ unfolding rising
 rising-more i zero = rw add-zero
 rising-more i (suc k) = ap (λ r. i ∷ r) (rising-more (suc i) k ∙ ap (λ m. rising (suc i) k ++ (m ∷ [])) (suc-add i k ∙ sym (add-suc i k)))
 
+-- The numbers from i on, and then those from further on.
+pub rising-append : (i n k : ℕ) → rising i (n + k) ≡ rising i n ++ rising (i + n) k
+unfolding rising
+rising-append i zero k = rw (zero-add, add-zero)
+rising-append i (suc n) k = rw (suc-add, rising, rising-append (suc i) n k, suc-add, add-suc)
+
 pub below-more : (n : ℕ) → below (n + 1) ≡ below n ++ (n ∷ [])
 unfolding below
 below-more n = ap (rising 0) (add-one n) ∙ rising-more 0 n ∙ ap (λ m. rising 0 n ++ (m ∷ [])) (zero-add n)
@@ -115,9 +121,25 @@ rising-first i n h =
     let e : n - i ≡ suc (n - (i + 1)) = omega arith in
     ap (rising i) e ∙ ap (λ m. i ∷ rising m (n - (i + 1))) (sym (add-one i))
 
+-- Functions that agree below n.
+map-rising-same : {A : Type 0} (f g : ℕ → A) (i k : ℕ) → ((m : ℕ) → m < i + k → f m ≡ g m) → map f (rising i k) ≡ map g (rising i k)
+unfolding rising
+map-rising-same f g i zero h = refl
+map-rising-same f g i (suc k) h = rw (h i (omega arith), map-rising-same f g (suc i) k (λ m l. h m (omega arith)))
+
+pub map-below-same : {A : Type 0} (f g : ℕ → A) (n : ℕ) → ((m : ℕ) → m < n → f m ≡ g m) → map f (below n) ≡ map g (below n)
+unfolding below
+map-below-same f g n h = map-rising-same f g 0 n (λ m l. h m (omega arith))
+
 module _ {A : Type 0} (f : ℕ → A) where
   pub map-below-more : (n : ℕ) → map f (below (n + 1)) ≡ map f (below n) ++ (f n ∷ [])
   map-below-more n = ap (map f) (below-more n) ∙ map-append f (below n) (n ∷ [])
+
+  -- The lists of one element more, put together.
+  pub concat-below-more : {B : Type 0} (g : A → List B) (n : ℕ) → concat (map g (map f (below (n + 1)))) ≡ concat (map g (map f (below n))) ++ g (f n)
+  concat-below-more g n =
+      ap (λ l. concat (map g l)) (map-below-more n) ∙ ap concat (map-append g (map f (below n)) (f n ∷ []))
+      ∙ concat-more (map g (map f (below n))) (g (f n))
 
   pub all-below-more : (p : A → Bool) (n : ℕ) → all p (map f (below (n + 1))) ≡ (all p (map f (below n)) && p (f n))
   all-below-more p n = ap (all p) (map-below-more n) ∙ all-more p (map f (below n)) (f n)

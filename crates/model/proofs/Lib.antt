@@ -13,6 +13,7 @@ pub mod Sorted
 pub mod Accepted
 pub mod ReadBack
 pub mod Permuted
+pub mod SameAnswers
 pub mod ClassOrder
 pub mod Search
 pub mod Folds
@@ -24,5 +25,6 @@ pub mod Refusals
 pub mod Margin
 pub mod CommonCut
 pub mod Turning
+pub mod Saving
 pub mod Program
 pub mod Buffers

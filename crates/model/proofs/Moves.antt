@@ -17,7 +17,8 @@ use Rattle.model.specs.Candidate.{placedPart}
 use Rattle.model.specs.Content.{Vertex, vertex, Part, Board}
 use Rattle.model.specs.Geometry.{Direction, direction, rotated, moved, shifted, vertexAt, following, outwardNormal, normals, directions, along, clearance, separates, separated, piecesConflict}
 use Rattle.model.specs.Grid.{Placement}
-use Rattle.model.specs.Lists.{any, rising, below, largestZ, smallestZ}
+use Rattle.model.specs.Lists.{any, below, largestZ, smallestZ}
+use Rattle.model.proofs.Folds.{map-below-same}
 use Rattle.model.proofs.Extremes.{leZ-same, largest-through, smallest-through}
 use Rattle.model.proofs.Tests.{any-same}
 
@@ -57,14 +58,6 @@ following-map : (s : Vertex → Vertex) (P : Part) (i : ℕ) → following (map 
 unfolding following
 following-map s P i = ap (λ n. cond (eqb (suc i) n) 0 (suc i)) (length-map P s)
 
--- functions that agree on the numbers from i on, k of them
-map-rising : {B : Type 0} (f g : ℕ → B) (i k : ℕ) → ((m : ℕ) → m < i + k → f m ≡ g m) → map f (rising i k) ≡ map g (rising i k)
-unfolding rising
-map-rising f g i zero h = refl
-map-rising {B = B} f g i (suc k) h =
-    ap (λ (z : B). z ∷ map f (rising (suc i) k)) (h i (omega arith))
-    ∙ ap (λ (zs : List B). g i ∷ zs) (map-rising f g (suc i) k (λ m l. h m (omega arith)))
-
 normal-shifted : (a b : ℤ) (p q : Vertex) → outwardNormal (shifted a b p) (shifted a b q) ≡ outwardNormal p q
 unfolding outwardNormal
 normal-shifted a b p q =
@@ -74,8 +67,8 @@ normal-shifted a b p q =
 pub normals-shifted : (a b : ℤ) (P : Part) → normals (map (shifted a b) P) ≡ normals P
 unfolding normals below
 normals-shifted a b P =
-    ap (λ n. map (λ i. outwardNormal (vertexAt (map (shifted a b) P) i) (vertexAt (map (shifted a b) P) (following (map (shifted a b) P) i))) (rising 0 n)) (length-map P (shifted a b))
-    ∙ map-rising _ _ 0 (length P) (λ i h. edge i (omega arith))
+    ap (λ n. map (λ i. outwardNormal (vertexAt (map (shifted a b) P) i) (vertexAt (map (shifted a b) P) (following (map (shifted a b) P) i))) (below n)) (length-map P (shifted a b))
+    ∙ map-below-same _ _ (length P) edge
   where
     edge : (i : ℕ) → i < length P
         → outwardNormal (vertexAt (map (shifted a b) P) i) (vertexAt (map (shifted a b) P) (following (map (shifted a b) P) i))

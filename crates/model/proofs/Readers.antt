@@ -1,5 +1,4 @@
 -- Records read one after the other: one more at the end, and what holds of what was read.
-use mathlib.Core.Bool.{Bool, true, false}
 use mathlib.Core.List.{List, [], _∷_, _++_, map}
 use mathlib.Core.Path.{_≡_, refl, sym, ap, ap₂, subst, _∙_}
 use Prim.Native.Nat.{ℕ, zero, suc, _+_, _-_, _*_, _<_, _≤_}
@@ -84,104 +83,58 @@ module _ {A : Type 0} where
         let q : suc n + (l - suc n) ≡ l = omega arith in
         ap (λ i. many f i s) (sym q) ∙ many-stays-bad (suc n) (l - suc n) s (many-bad-next n s xs m e b)
 
+    -- What holds of no record, and of one in front of others where it holds of those, holds of all that were read. It may speak of the bytes.
+    module _ (Q : ℕ → List ℕ → List A → ℕ → Type 0) (none : (s : List ℕ) → Q 0 s [] 0)
+        (more : (n : ℕ) (s : List ℕ) (a : A) (k : ℕ) (xs : List A) (m : ℕ) → f s ≡ got a k → Q n (drop k s) xs m → Q (suc n) s (a ∷ xs) (k + m)) where
+      abbrev Holds : ℕ → List ℕ → Got (List A) → Type 0
+      Holds n s bad = Unit {0}
+      Holds n s (got xs m) = Q n s xs m
+
+      holds-joined : (n : ℕ) (s : List ℕ) (a : A) (k : ℕ) (g : Got (List A)) → f s ≡ got a k → Holds n (drop k s) g → Holds (suc n) s (joined a k g)
+      unfolding joined
+      holds-joined n s a k bad e h = tt
+      holds-joined n s a k (got xs m) e h = more n s a k xs m e h
+
+      holds-followed : (n : ℕ) → ((s : List ℕ) → Holds n s (many f n s)) → (s : List ℕ) (g : Got A) → f s ≡ g → Holds (suc n) s (followed g (many f n) s)
+      unfolding followed
+      holds-followed n ih s bad e = tt
+      holds-followed n ih s (got a k) e = holds-joined n s a k (many f n (drop k s)) e (ih (drop k s))
+
+      holds : (n : ℕ) (s : List ℕ) → Holds n s (many f n s)
+      unfolding many
+      holds zero s = none s
+      holds (suc n) s = holds-followed n (holds n) s (f s) refl
+
+      pub many-holds : (n : ℕ) (s : List ℕ) (xs : List A) (m : ℕ) → many f n s ≡ got xs m → Q n s xs m
+      many-holds n s xs m e = subst (Holds n s) e (holds n s)
+
     -- As many were read as were asked for.
-    abbrev Counted : ℕ → Got (List A) → Type 0
-    Counted n bad = Unit {0}
-    Counted n (got xs m) = length xs ≡ n
-
-    counted-joined : (n : ℕ) (a : A) (k : ℕ) (g : Got (List A)) → Counted n g → Counted (suc n) (joined a k g)
-    unfolding joined
-    counted-joined n a k bad c = tt
-    counted-joined n a k (got xs m) c = ap suc c
-
-    counted-followed : (n : ℕ) → ((s : List ℕ) → Counted n (many f n s)) → (s : List ℕ) (g : Got A) → Counted (suc n) (followed g (many f n) s)
-    unfolding followed
-    counted-followed n ih s bad = tt
-    counted-followed n ih s (got a k) = counted-joined n a k (many f n (drop k s)) (ih (drop k s))
-
-    counted : (n : ℕ) (s : List ℕ) → Counted n (many f n s)
-    unfolding many
-    counted zero s = refl
-    counted (suc n) s = counted-followed n (counted n) s (f s)
-
     pub many-length : (n : ℕ) (s : List ℕ) (xs : List A) (m : ℕ) → many f n s ≡ got xs m → length xs ≡ n
-    many-length n s xs m e = subst (Counted n) e (counted n s)
+    many-length = many-holds (λ n s xs m. length xs ≡ n) (λ s. refl) (λ n s a k xs m e h. ap suc h)
 
     -- Records of at least c bytes each take at least c bytes each together.
-    module _ (c : ℕ) (each : (s : List ℕ) (a : A) (k : ℕ) → f s ≡ got a k → c ≤ k) where
-      abbrev Least : ℕ → Got (List A) → Type 0
-      Least n bad = Unit {0}
-      Least n (got xs m) = n * c ≤ m
-
-      least-joined : (n : ℕ) (a : A) (k : ℕ) (g : Got (List A)) → c ≤ k → Least n g → Least (suc n) (joined a k g)
-      unfolding joined
-      least-joined n a k bad h l = tt
-      least-joined n a k (got xs m) h l = omega arith
-
-      least-followed : (n : ℕ) → ((s : List ℕ) → Least n (many f n s)) → (s : List ℕ) (g : Got A) → f s ≡ g → Least (suc n) (followed g (many f n) s)
-      unfolding followed
-      least-followed n ih s bad e = tt
-      least-followed n ih s (got a k) e = least-joined n a k (many f n (drop k s)) (each s a k e) (ih (drop k s))
-
-      least : (n : ℕ) (s : List ℕ) → Least n (many f n s)
-      unfolding many
-      least zero s = omega arith
-      least (suc n) s = least-followed n (least n) s (f s) refl
-
-      pub many-least : (n : ℕ) (s : List ℕ) (xs : List A) (m : ℕ) → many f n s ≡ got xs m → n * c ≤ m
-      many-least n s xs m e = subst (Least n) e (least n s)
+    pub many-least : (c : ℕ) → ((s : List ℕ) (a : A) (k : ℕ) → f s ≡ got a k → c ≤ k)
+        → (n : ℕ) (s : List ℕ) (xs : List A) (m : ℕ) → many f n s ≡ got xs m → n * c ≤ m
+    many-least c each = many-holds (λ n s xs m. n * c ≤ m) (λ s. omega arith) (λ n s a k xs m e h. omega (arith, each s a k e))
 
     -- What holds of each record that can be read holds of all that were.
     module _ (d : A) (P : A → Type 0) (each : (s : List ℕ) (a : A) (k : ℕ) → f s ≡ got a k → P a) where
-      abbrev Each : Got (List A) → Type 0
-      Each bad = Unit {0}
-      Each (got xs m) = (i : ℕ) → i < length xs → P (getD xs i d)
-
-      each-joined : (a : A) (k : ℕ) (g : Got (List A)) → P a → Each g → Each (joined a k g)
-      unfolding joined
-      each-joined a k bad p e = tt
-      each-joined a k (got xs m) p e = more
-        where
-          more : (i : ℕ) → i < length (a ∷ xs) → P (getD (a ∷ xs) i d)
-          more zero h = p
-          more (suc i) h = e i (le-of-suc-le-suc h)
-
-      each-followed : (n : ℕ) → ((s : List ℕ) → Each (many f n s)) → (s : List ℕ) (g : Got A) → f s ≡ g → Each (followed g (many f n) s)
-      unfolding followed
-      each-followed n ih s bad e = tt
-      each-followed n ih s (got a k) e = each-joined a k (many f n (drop k s)) (each s a k e) (ih (drop k s))
-
-      each-read : (n : ℕ) (s : List ℕ) → Each (many f n s)
-      unfolding many
-      each-read zero s = λ i h. absurd (not-suc-le-zero h)
-      each-read (suc n) s = each-followed n (each-read n) s (f s) refl
+      in-front : (a : A) (xs : List A) → P a → ((i : ℕ) → i < length xs → P (getD xs i d)) → (i : ℕ) → i < length (a ∷ xs) → P (getD (a ∷ xs) i d)
+      in-front a xs p h zero l = p
+      in-front a xs p h (suc i) l = h i (le-of-suc-le-suc l)
 
       pub many-each : (n : ℕ) (s : List ℕ) (xs : List A) (m : ℕ) → many f n s ≡ got xs m → (i : ℕ) → i < length xs → P (getD xs i d)
-      many-each n s xs m e = subst Each e (each-read n s)
+      many-each =
+          many-holds (λ n s xs m. (i : ℕ) → i < length xs → P (getD xs i d)) (λ s i h. absurd (not-suc-le-zero h))
+          (λ n s a k xs m e h. in-front a xs (each s a k e) h)
 
     -- Lists that are as long as the bytes of each record are together as long as the bytes of all.
-    module _ (g : A → List ℕ) (each : (s : List ℕ) (a : A) (k : ℕ) → f s ≡ got a k → length (g a) ≡ k) where
-      abbrev Summed : Got (List A) → Type 0
-      Summed bad = Unit {0}
-      Summed (got xs m) = length (concat (map g xs)) ≡ m
-
-      summed-joined : (a : A) (k : ℕ) (r : Got (List A)) → length (g a) ≡ k → Summed r → Summed (joined a k r)
-      unfolding joined concat
-      summed-joined a k bad h l = tt
-      summed-joined a k (got xs m) h l = length-append (g a) (concat (map g xs)) ∙ ap₂ (λ x y. x + y) h l
-
-      summed-followed : (n : ℕ) → ((s : List ℕ) → Summed (many f n s)) → (s : List ℕ) (r : Got A) → f s ≡ r → Summed (followed r (many f n) s)
-      unfolding followed
-      summed-followed n ih s bad e = tt
-      summed-followed n ih s (got a k) e = summed-joined a k (many f n (drop k s)) (each s a k e) (ih (drop k s))
-
-      summed : (n : ℕ) (s : List ℕ) → Summed (many f n s)
-      unfolding many concat
-      summed zero s = refl
-      summed (suc n) s = summed-followed n (summed n) s (f s) refl
-
-      pub many-sum : (n : ℕ) (s : List ℕ) (xs : List A) (m : ℕ) → many f n s ≡ got xs m → length (concat (map g xs)) ≡ m
-      many-sum n s xs m e = subst Summed e (summed n s)
+    pub many-sum : (g : A → List ℕ) → ((s : List ℕ) (a : A) (k : ℕ) → f s ≡ got a k → length (g a) ≡ k)
+        → (n : ℕ) (s : List ℕ) (xs : List A) (m : ℕ) → many f n s ≡ got xs m → length (concat (map g xs)) ≡ m
+    unfolding concat
+    many-sum g each =
+        many-holds (λ n s xs m. length (concat (map g xs)) ≡ m) (λ s. refl)
+        (λ n s a k xs m e h. length-append (g a) (concat (map g xs)) ∙ ap₂ (λ x y. x + y) (each s a k e) h)
 
 -- The kinds that were read.
 pub kinds-got : (g : Got (List Kind)) (ks : List Kind) (m : ℕ) → g ≡ got ks m → kindsIn g ≡ ks

@@ -1,20 +1,20 @@
 -- What a part and a kind that were read say of the bytes.
-use mathlib.Core.Bool.{Bool, true, false, not, cond, _&&_, _||_}
-use mathlib.Core.List.{List, [], _∷_, _++_, map}
-use mathlib.Core.Path.{_≡_, refl, sym, ap, ap₂, subst, _∙_}
+use mathlib.Core.Bool.{Bool, true, false, cond, _&&_}
+use mathlib.Core.List.{List}
+use mathlib.Core.Path.{_≡_, refl, sym, ap, ap₂, _∙_}
 use Prim.Native.Nat.{ℕ, zero, suc, _+_, _-_, _*_, _<_, _≤_}
-use native.Mathlib.Nat.{add-zero, zero-add, add-assoc}
+use native.Mathlib.Nat.{add-zero}
 use native.Mathlib.Omega.{arith}
-use borrow.Author.Tests.{leb-true}
-use lib.Dec.{leb, eqb}
-use lib.ListN.{length, getD, take, drop, length-append, length-take, length-drop}
-use lib.Seq.{getD-drop, getD-take}
+use borrow.Author.Tests.{leb-true, le-leb}
+use lib.Dec.{leb}
+use lib.ListN.{length, getD, drop}
+use lib.Seq.{getD-drop}
 use Rattle.integers.specs.Byte.{signed}
-use Rattle.model.specs.Content.{Vertex, vertex, origin, Part, Kind, kind, noKind}
+use Rattle.model.specs.Content.{vertex, origin, Part, Kind, kind}
 use Rattle.model.specs.Format.{byteAt, Got, bad, got, many, vertices, readPart, headInRange, withParts, readKind}
 use Rattle.model.specs.Lists.{between}
-use Rattle.model.proofs.Lists.{and-left, and-right, and-four}
-use Rattle.model.proofs.Readers.{many-none, many-length, many-extended, extended, appended}
+use Rattle.model.proofs.Lists.{and-left, and-right, and-both, and-four}
+use Rattle.model.proofs.Readers.{many-length}
 
 -- Byte i behind the first o bytes.
 pub byte-behind : (s : List ℕ) (o i : ℕ) → byteAt (drop o s) i ≡ byteAt s (o + i)
@@ -28,6 +28,10 @@ byte-first s o = byte-behind s o 0 ∙ ap (byteAt s) (add-zero o)
 pub between-both : (lo hi n : ℕ) → between lo hi n ≡ true → (lo ≤ n) × (n ≤ hi)
 unfolding between
 between-both lo hi n e = (leb-true lo n (and-left _ _ e), leb-true n hi (and-right (leb lo n) _ e))
+
+pub between-of : (lo hi n : ℕ) → lo ≤ n → n ≤ hi → between lo hi n ≡ true
+unfolding between
+between-of lo hi n l h = and-both _ _ (le-leb lo n l) (le-leb n hi h)
 
 -- ---- Corners
 

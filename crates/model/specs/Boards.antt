@@ -14,7 +14,7 @@ use Rattle.model.specs.Grid.{setWords}
 use Rattle.model.specs.Lists.{all, below}
 use Rattle.model.specs.Output.{program}
 use Rattle.model.specs.Problem.{under}
-use Rattle.model.specs.Services.{RunOutcome, WriteOutcome, read, run, check, conflictRow, numbersIn, wordsIn, workWords}
+use Rattle.model.specs.Services.{RunOutcome, WriteOutcome, read, save, run, check, conflictRow, numbersIn, wordsIn, workWords}
 use Rattle.model.specs.declared.Checked.{Checked}
 use Rattle.model.specs.declared.Checked.the-variants as C
 use Rattle.model.specs.declared.Held.the-variants.{Layout, Nothing}
@@ -26,8 +26,8 @@ use Rattle.model.specs.declared.Written.the-variants as W
 -- ---- Questions and answers
 
 -- A run of a job at a budget; a check of a job and a layout's numbers; a row of a job, of the candidate of a number of its first type, against that type; each of
--- the three under a margin instead of 0; the numbers that read gives of a job, where room for so many is lent; whether squares at (0,0) and (x,y) are in conflict at a
--- gap; by which number a job's sender is refused; what the program prints of a job.
+-- the three under a margin instead of 0; the numbers that read gives of a job, where room for so many is lent; a job saved into so many bytes; whether squares at (0,0)
+-- and (x,y) are in conflict at a gap; by which number a job's sender is refused; what the program prints of a job.
 pub data Question : Type 0 where
   prints : List ℕ → Question
   runs : List ℕ → ℕ → Question
@@ -35,11 +35,12 @@ pub data Question : Type 0 where
   rows : List ℕ → ℕ → Question
   clamped : ℕ → Question → Question
   reads : List ℕ → ℕ → Question
+  saves : List ℕ → ℕ → Question
   conflicts : ℕ → ℕ → ℕ → Question
   sends : List ℕ → Question
 
--- What a run says, whether its work words are zero, and the answer numbers after it; what check says; what row says and its words, or read and its
--- numbers; whether there is conflict; the number of the refusal, 0 for an accepted job; the bytes printed.
+-- What a run says, whether its work words are zero, and the answer numbers after it; what check says; what row says and its words, read and its
+-- numbers, or save and its bytes; whether there is conflict; the number of the refusal, 0 for an accepted job; the bytes printed.
 pub data Answer : Type 0 where
   text : List ℕ → Answer
   says : RunAnswer → Bool → List ℕ → Answer
@@ -80,8 +81,12 @@ shownBy r = shows (r .answer) (map (λ i. numberAt 8 (r .buffer) (i * 8)) (below
 unfoldable pub toldBy : WriteOutcome → Answer
 toldBy r = shows (r .answer) (numbersOf (r .buffer))
 
+-- What save told and left, as an answer of the table.
+unfoldable pub savedBy : WriteOutcome → Answer
+savedBy r = shows (r .answer) (r .buffer)
+
 -- The answer under a margin. A run is given just enough work words, each byte 255, and just enough answer numbers, each 7; a row just enough words, each 0; read
--- numbers that are each 7.
+-- numbers that are each 7; save bytes that are each 7.
 unfoldable pub answerUnder : ℕ → Question → Answer
 answerUnder m (runs s budget) =
     saidBy
@@ -91,6 +96,7 @@ answerUnder m (checks s ns) = finds (check s m (bytesOf 2 ns))
 answerUnder m (rows s n) = shownBy (conflictRow s m 0 n 0 (replicate (setWords (content s .sheet) * 8) 0))
 answerUnder m (clamped k q) = answerUnder k q
 answerUnder m (reads s n) = toldBy (read s (bytesOf 2 (replicate n 7)))
+answerUnder m (saves s n) = savedBy (save s (replicate n 7))
 answerUnder m (prints s) = text (program s)
 answerUnder m (sends s) = isRefused (refusal s)
 answerUnder m (conflicts gap x y) = isConflict (piecesConflict gap (square ∷ []) (map (moved x y) square ∷ []))
@@ -338,4 +344,51 @@ cutReads =
     ⇒ shows (W.Count 23) (2 ∷ 4 ∷ 1 ∷ 1 ∷ 0 ∷ 0 ∷ 63 ∷ 0 ∷ 1 ∷ 2 ∷ 1 ∷ 1 ∷ 1 ∷ 4 ∷ 0 ∷ 0 ∷ 2 ∷ 0 ∷ 2 ∷ 2 ∷ 0 ∷ 2 ∷ 2 ∷ []))
     -- One number fewer, as many as document 01's content had: refused.
     ∷ (reads (gapSquares 129 2 4) 22 ⇒ shows (W.Refused 9) (replicate 22 7))
+    ∷ []
+
+-- A byte that is skipped, the type list, the classes 1 and 0, the board, the trailer. Class 1 is marked, gap byte 131; the type has corners at -1.
+unfoldable pub scattered : List ℕ
+scattered =
+    255
+    ∷ 2 ∷ 1 ∷ 3 ∷ 1 ∷ 4 ∷ 255 ∷ 255 ∷ 1 ∷ 255 ∷ 1 ∷ 1 ∷ 255 ∷ 1
+    ∷ 1 ∷ 9 ∷ 131 ∷ 0 ∷ 5 ∷ 1
+    ∷ 4 ∷ 0 ∷ 8 ∷ 0 ∷ 1 ∷ 0
+    ∷ 20 ∷ 0 ∷ 14 ∷ 0 ∷ 1 ∷ 0 ∷ 13 ∷ 0 ∷ 2 ∷ 1 ∷ 40 ∷ 0 ∷ 0x44 ∷ 0x42 ∷ []
+
+-- The same job saved: the board, the classes 0 and 1, the type list, the trailer.
+unfoldable pub scatteredSaved : List ℕ
+scatteredSaved =
+    4 ∷ 0 ∷ 8 ∷ 0 ∷ 1 ∷ 0
+    ∷ 0 ∷ 5 ∷ 1 ∷ 1 ∷ 9 ∷ 131
+    ∷ 2 ∷ 1 ∷ 3 ∷ 1 ∷ 4 ∷ 255 ∷ 255 ∷ 1 ∷ 255 ∷ 1 ∷ 1 ∷ 255 ∷ 1
+    ∷ 0 ∷ 0 ∷ 6 ∷ 0 ∷ 12 ∷ 0 ∷ 13 ∷ 0 ∷ 2 ∷ 1 ∷ 39 ∷ 0 ∷ 0x44 ∷ 0x42 ∷ []
+
+-- The job that document 01 prints, saved: "an empty class list has offset 6", where the printed one has it at 0.
+unfoldable pub printedSaved : List ℕ
+printedSaved =
+    0x02 ∷ 0x00 ∷ 0x04 ∷ 0x00 ∷ 0x01 ∷ 0x00 ∷ 0x02 ∷ 0x01 ∷ 0x00 ∷ 0x01 ∷ 0x04 ∷ 0x00 ∷ 0x00 ∷ 0x02 ∷ 0x00 ∷ 0x02 ∷ 0x02 ∷ 0x00 ∷ 0x02 ∷ 0x00 ∷ 0x00 ∷ 0x06 ∷ 0x00 ∷ 0x06 ∷ 0x00 ∷ 0x0D ∷ 0x00 ∷ 0x00 ∷ 0x01 ∷ 0x21 ∷ 0x00 ∷ 0x44 ∷ 0x42 ∷ []
+
+-- Boards of document 02's fourth request: a job saved into so many bytes.
+unfoldable pub savedJobs : List Marked
+savedJobs =
+    -- "tells how many it wrote; bytes past the job stay unchanged"
+    (saves printedJob 33 ⇒ shows (W.Count 33) printedSaved)
+    ∷ (saves scattered 41 ⇒ shows (W.Count 39) (scatteredSaved ++ (7 ∷ 7 ∷ [])))
+    -- What was saved is saved to the same bytes.
+    ∷ (saves printedSaved 33 ⇒ shows (W.Count 33) printedSaved)
+    ∷ (saves scatteredSaved 39 ⇒ shows (W.Count 39) scatteredSaved)
+    -- "types as given": demands 2 and 1, and 1 and 2.
+    ∷ (saves (jobOf 2 8 [] 2 (squareOf 2 0 ++ squareOf 1 0)) 46
+    ⇒ shows (W.Count 46)
+    ((2 ∷ 0 ∷ 8 ∷ 0 ∷ 1 ∷ 0 ∷ []) ++ squareOf 2 0 ++ squareOf 1 0 ++ (0 ∷ 0 ∷ 6 ∷ 0 ∷ 6 ∷ 0 ∷ 26 ∷ 0 ∷ 0 ∷ 2 ∷ 46 ∷ 0 ∷ 0x44 ∷ 0x42 ∷ [])))
+    ∷ (saves (jobOf 2 8 [] 2 (squareOf 1 0 ++ squareOf 2 0)) 46
+    ⇒ shows (W.Count 46)
+    ((2 ∷ 0 ∷ 8 ∷ 0 ∷ 1 ∷ 0 ∷ []) ++ squareOf 1 0 ++ squareOf 2 0 ++ (0 ∷ 0 ∷ 6 ∷ 0 ∷ 6 ∷ 0 ∷ 26 ∷ 0 ∷ 0 ∷ 2 ∷ 46 ∷ 0 ∷ 0x44 ∷ 0x42 ∷ [])))
+    -- "Writing needs enough answer bytes, else 9": one byte fewer than that.
+    ∷ (saves printedJob 32 ⇒ shows (W.Refused 9) (replicate 32 7))
+    ∷ (saves scattered 38 ⇒ shows (W.Refused 9) (replicate 38 7))
+    -- "refuses it by 1 to 7 as read does", before 9.
+    ∷ (saves star 64 ⇒ shows (W.Refused 7) (replicate 64 7))
+    ∷ (saves star 0 ⇒ shows (W.Refused 7) [])
+    ∷ (saves (gapSquares 64 2 4) 64 ⇒ shows (W.Refused 5) (replicate 64 7))
     ∷ []

@@ -94,9 +94,13 @@ shareByte a b = ltb (max (a .offset) (b .offset)) (min (a .offset + a .size) (b 
 
 -- ---- Board and classes
 
--- "Board, 6 bytes: width W, length L, step g, two bytes each"
+-- "Board, 6 bytes: width W, length L, step g, two bytes each": the record at byte o.
+abbrev pub boardFrom : List ℕ → ℕ → Board
+boardFrom s o = board (wordAt s o) (wordAt s (o + 2)) (wordAt s (o + 4))
+
+-- The board of the job.
 unfoldable pub boardOf : List ℕ → Board
-boardOf s = board (wordAt s (boardAt s)) (wordAt s (boardAt s + 2)) (wordAt s (boardAt s + 4))
+boardOf s = boardFrom s (boardAt s)
 
 -- Document 02, "3/13 Common cut": "A class gap byte of 128 to 191 .. marks the class as common cut".
 unfoldable pub marksCut : ℕ → Bool
@@ -106,9 +110,13 @@ marksCut b = between 128 191 b
 unfoldable pub gapMeant : ℕ → ℕ
 gapMeant b = cond (marksCut b) (b - 128) b
 
--- "Class, 3 bytes: id .., rank .., gap ..": the record at byte o.
+-- "Class, 3 bytes: id .., rank .., gap ..": the class that three bytes say.
+abbrev pub classOfBytes : ℕ → ℕ → ℕ → SpacingClass
+classOfBytes i r b = spacingClass i r (gapMeant b) (marksCut b)
+
+-- The record at byte o.
 abbrev pub classFrom : List ℕ → ℕ → SpacingClass
-classFrom s o = spacingClass (byteAt s o) (byteAt s (o + 1)) (gapMeant (byteAt s (o + 2))) (marksCut (byteAt s (o + 2)))
+classFrom s o = classOfBytes (byteAt s o) (byteAt s (o + 1)) (byteAt s (o + 2))
 
 -- Record i of the class list.
 unfoldable pub classAt : List ℕ → ℕ → SpacingClass

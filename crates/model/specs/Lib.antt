@@ -10,7 +10,10 @@ pub mod Candidate
 pub mod Layout
 pub mod Search
 pub mod Answers
+pub mod Saving
+pub mod ContentFit
 pub mod Services
+pub mod SameAnswers
 pub mod Demand3
 pub mod Output
 pub mod ClassOrder

@@ -15,7 +15,8 @@ use Rattle.model.specs.Candidate.{placedPart, placedParts, placedVertice
 use Rattle.model.specs.Format.{byteAt, wordAt, trailerAt, boardAt, classesAt, kindsAt, kindsLength, classesStated, kindsStated, lengthStated, marked, boardSection, classesSection, kindsSection, inPlace, shareByte, boardOf, marksCut, gapMeant, classAt, classesOf, byRisingId, joined, followed, many, vertices, readPart, headInRange, withParts, readKind, kindBytes, kindsGot, kindsIn, content, cause1, cause2, cause3, cause4, classInRange, distinct, cause5, namesPresent, kindsUnfit, cause6, vertexInRange, cause7, refusal}
 use Rattle.model.specs.Layout.{entryOf, entryNumber, entryKind, isEntry, entryExtent, conflict, inOrder, ordered, copies, demandMet, apart, passes, largestEnd, layoutLength}
 use Rattle.model.specs.Search.{pieces, candidateTable, free, abovePrevious, beats, staysBelow, live, copiesLeft, forwardCheck, then, completed, tryCandidates, searchPieces, searchFrom, lengthOf, stepsFrom, stepsNeeded, isStopped, stepsTaken, latest, bestAfter, held}
-use Rattle.model.specs.Services.{numbersIn, wordsIn, withNumbers, withWords, coordinate, vertexNumbers, partNumbers, kindNumbers, classNumbers, contentNumbers, readContent, read, refusalUnder, cause12, rowBit, rowWords, rowContent, conflictRow, entryIn, layoutIn, cause11, checkContent, check, workWords, cleared, entryNumbers, layoutNumbers, withLayout, heldAs, finishedAs, stepCount, verdict, runContent, run}
+use Rattle.model.specs.Saving.{boardRecord, gapByte, classRecord, classList, signedByte, vertexBytes, partBytes, kindRecord, kindList, sectionBytes, pointerBytes, trailerBytes, written}
+use Rattle.model.specs.Services.{numbersIn, wordsIn, withNumbers, withWords, coordinate, vertexNumbers, partNumbers, kindNumbers, classNumbers, contentNumbers, readContent, read, withBytes, saveContent, save, refusalUnder, cause12, rowBit, rowWords, rowContent, conflictRow, entryIn, layoutIn, cause11, checkContent, check, workWords, cleared, entryNumbers, layoutNumbers, withLayout, heldAs, finishedAs, stepCount, verdict, runContent, run}
 use Rattle.model.specs.Output.{digitsBefore, decimal, line, shortestWord, stoppedWord, noneWord, refusedWord, heldWord, firstLine, entryLine, entryLines, heldLines, layoutLines, printed, program}
 
 unfoldable pub openedWords : ℕ
@@ -58,8 +59,12 @@ unfoldable pub openedSearch : ℕ
 unfolding pieces candidateTable free abovePrevious beats staysBelow live copiesLeft forwardCheck then completed tryCandidates searchPieces searchFrom lengthOf stepsFrom stepsNeeded isStopped stepsTaken latest bestAfter held
 openedSearch = 0
 
+unfoldable pub openedSaving : ℕ
+unfolding boardRecord gapByte classRecord classList signedByte vertexBytes partBytes kindRecord kindList sectionBytes pointerBytes trailerBytes written
+openedSaving = 0
+
 unfoldable pub openedServices : ℕ
-unfolding numbersIn wordsIn withNumbers withWords coordinate vertexNumbers partNumbers kindNumbers classNumbers contentNumbers readContent read cause13 refusalUnder cause12 rowBit rowWords rowContent conflictRow entryIn layoutIn cause11 checkContent check workWords cleared entryNumbers layoutNumbers withLayout heldAs finishedAs stepCount verdict runContent run
+unfolding numbersIn wordsIn withNumbers withWords coordinate vertexNumbers partNumbers kindNumbers classNumbers contentNumbers readContent read withBytes saveContent save cause13 refusalUnder cause12 rowBit rowWords rowContent conflictRow entryIn layoutIn cause11 checkContent check workWords cleared entryNumbers layoutNumbers withLayout heldAs finishedAs stepCount verdict runContent run
 openedServices = 0
 
 unfoldable pub openedOutput : ℕ
@@ -67,5 +72,5 @@ unfolding digitsBefore decimal line shortestWord stoppedWord noneWord refusedWor
 openedOutput = 0
 
 unfoldable pub opened : ℕ
-unfolding openedWords openedLists openedContent openedGrid openedGeometry openedGap openedCandidate openedFormat openedLayout openedSearch openedServices openedOutput
+unfolding openedWords openedLists openedContent openedGrid openedGeometry openedGap openedCandidate openedFormat openedLayout openedSearch openedSaving openedServices openedOutput
 opened = 0

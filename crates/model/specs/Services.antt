@@ -1,13 +1,13 @@
 -- Document 01, "Services" and "Who can cause a refusal": what each service answers, and what it leaves in every buffer handed in.
 -- "They are tested as 1 to 7, then 12, 11, 8, 9, then 10, each only after those before it." Document 02: "13 .., tested after 7".
--- So the order is 1 to 7, 13, 12, 11, 8, 9, 10.
+-- So the order is 1 to 7, 13, 12, 11, 8, 9, 10. "Saving, like every later service that is handed a job, refuses it by 1 to 7 as read does."
 use mathlib.Core.Bool.{Bool, true, false, not, _&&_, _||_, cond}
 use mathlib.Core.List.{List, [], _∷_, _++_, map}
 use mathlib.Core.Option.{Option, none, some}
 use Prim.Native.Nat.{ℕ, _+_, _*_, _-_}
 use lib.Dec.{ltb, eqb}
 use lib.IntN.{ℤ, pos, negsuc}
-use lib.ListN.{length, replicate}
+use lib.ListN.{length, drop, replicate}
 use Rattle.words.specs.Bits.{bitsWhere}
 use Rattle.words.specs.Number.{numberAt, count, filled}
 use Rattle.model.specs.Candidate.{isCandidate}
@@ -17,6 +17,7 @@ use Rattle.model.specs.Grid.{placement, setWords}
 use Rattle.model.specs.Layout.{Entry, Layout, entry, entryOf, conflict, passes, layoutLength}
 use Rattle.model.specs.Lists.{concat, below}
 use Rattle.model.specs.Problem.{Problem, under, cause13}
+use Rattle.model.specs.Saving.{written}
 use Rattle.model.specs.Search.{isStopped, stepsTaken, held}
 use Rattle.model.specs.declared.Checked.{Checked}
 use Rattle.model.specs.declared.Checked.the-variants as C
@@ -93,6 +94,26 @@ read s out =
     elim (eqb (refusal s) 0) [
       | false ↦ writeOutcome (W.Refused (refusal s)) out
       | true ↦ readContent (content s) out
+    ]
+
+-- ---- Save: document 02, "4/13 Saving a job"
+
+-- The buffer with these as its first bytes: "bytes past the job stay unchanged".
+unfoldable pub withBytes : List ℕ → List ℕ → List ℕ
+withBytes bs s = bs ++ drop (length bs) s
+
+-- Saving, of an accepted job. "Writing needs enough answer bytes, else 9, and tells how many it wrote."
+unfoldable pub saveContent : Job → List ℕ → WriteOutcome
+saveContent j out =
+    cond (ltb (length out) (length (written j))) (writeOutcome (W.Refused 9) out)
+    (writeOutcome (W.Count (length (written j))) (withBytes (written j) out))
+
+-- The save service. "Saving .. refuses it by 1 to 7 as read does."
+unfoldable pub save : List ℕ → List ℕ → WriteOutcome
+save s out =
+    elim (eqb (refusal s) 0) [
+      | false ↦ writeOutcome (W.Refused (refusal s)) out
+      | true ↦ saveContent (content s) out
     ]
 
 -- ---- What row, check and run are given besides the job: the margin

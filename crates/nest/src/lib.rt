@@ -1,4 +1,4 @@
-// The engine for programs in C: the four services on numbers and byte slices, each with its answer in one 64-bit number.
+// The engine for programs in C: the five services on numbers and byte slices, each with its answer in one 64-bit number.
 // include/nest.h declares them. A slice passes as a pointer and a length.
 ghost use mathlib.Core.Path.{_≡_};
 ghost use Rattle.model.specs.Answers.{writtenWord, checkWord, runWord};
@@ -10,6 +10,14 @@ pub extern "C" fn nest_read(job: &[u8], answer: &mut [u8]) -> u64
     ensures { λ r. ⌜ (r ≡ writtenWord (Services.read (now (job .entry)) (now (answer .entry)) .answer)) × (now (answer .exit) ≡ Services.read (now (job .entry)) (now (answer .entry)) .buffer) ⌝ }
 {
     answers::written_word(reading::read(job, answer))
+}
+
+// "Writing .. tells how many it wrote": the bytes of the job, from the answer's first on.
+#[no_mangle]
+pub extern "C" fn nest_save(job: &[u8], answer: &mut [u8]) -> u64
+    ensures { λ r. ⌜ (r ≡ writtenWord (Services.save (now (job .entry)) (now (answer .entry)) .answer)) × (now (answer .exit) ≡ Services.save (now (job .entry)) (now (answer .entry)) .buffer) ⌝ }
+{
+    answers::written_word(saving::save(job, answer))
 }
 
 // "Conflict row takes a candidate, given as its type and its number, and a second type."

@@ -8,23 +8,22 @@ use borrow.Author.Tests.{lt-ltb, le-ltb, eq-eqb, ne-eqb}
 use lib.ListN.{length, length-append, take, drop}
 use Rattle.words.specs.Number.{count}
 use Rattle.model.specs.Content.{kindCount, pieceCount}
-use Rattle.model.specs.Format.{wordAt, boardAt, boardOf, classesAt, classesStated, classesOf, byRisingId, kindsAt, kindsLength, kindsStated, kindBytes, kindsGot, readKind, content, refusal}
+use Rattle.model.specs.Format.{wordAt, boardAt, boardOf, classesAt, classesStated, byRisingId, kindsAt, kindsLength, kindsStated, kindBytes, kindsGot, readKind, content, refusal}
 use Rattle.model.specs.Lists.{concat, below, rising}
 use Rattle.model.specs.Services.{writeOutcome, numbersIn, withNumbers, kindNumbers, contentNumbers, readContent}
 use Rattle.model.specs.Services as Services
 use Rattle.model.specs.declared.Written.the-variants as W
-use Rattle.model.proofs.Causes.{no-cause, classes-in-range}
 use Rattle.model.proofs.Readers.{many-sum, many-least}
 use Rattle.model.proofs.Records.{kind-read}
+use Rattle.model.proofs.Saving.Kept.{classes-count}
 use Rattle.records.specs.Classes.{classesFrom}
-use Rattle.job.specs.Refusal.{refusalTo6}
-use Rattle.reading.specs.Write.{written, wordsFrom, frontNumbers, backNumbers, classesNumbers, kindsNumbers}
+use Rattle.reading.specs.Write.{withNumbersAt, wordsFrom, frontNumbers, backNumbers, classesNumbers, kindsNumbers}
 use Rattle.job.proofs.CauseLaws.{classes-are}
 use Rattle.reading.proofs.ListingLaws.{kind-each}
 use Rattle.records.proofs.RecordLaws.{values-from}
-use Rattle.reading.proofs.RisingLaws.{risen-length, length-from, length-classes}
-use Rattle.job.proofs.ViewLaws.{kinds-in, got-list, kind-count, length-list, list-reads}
-use Rattle.reading.proofs.WriteLaws.{written-then, written-all, records-length}
+use Rattle.reading.proofs.ClassLaws.{length-classes}
+use Rattle.job.proofs.ViewLaws.{six-none, kinds-in, got-list, kind-count, length-list, list-reads}
+use Rattle.reading.proofs.WriteLaws.{numbers-then, numbers-all, records-length}
 
 -- The three numbers of the board record at byte o.
 abbrev boardNumbers : ℕ → List ℕ → List ℕ
@@ -34,17 +33,7 @@ three-words : (s : List ℕ) (o : ℕ) → wordsFrom o 3 s ≡ boardNumbers o s
 unfolding below rising
 three-words s o = rw (add-zero o)
 
-pub six-none : (s : List ℕ) → refusal s ≡ 0 → refusalTo6 s ≡ 0
-unfolding refusalTo6
-six-none s e = let n = no-cause s e in rw (n .no1, n .no2, n .no3, n .no4, n .no5, n .no6)
-
 module _ (s : List ℕ) (e : refusal s ≡ 0) where
-  pub class-count : length (content s .classes) ≡ classesStated s
-  unfolding content
-  class-count =
-      risen-length (classesOf s) (classes-in-range s (no-cause s e .no5)) ∙ ap length (classes-are s)
-      ∙ length-from s (classesAt s) (classesStated s)
-
   -- ---- In front
 
   front-is : (o m n : ℕ) → o ≡ boardAt s → m ≡ classesAt s → n ≡ classesStated s
@@ -52,19 +41,19 @@ module _ (s : List ℕ) (e : refusal s ≡ 0) where
   unfolding content boardOf
   front-is o m n eo em en =
       ap (λ x. boardNumbers x s ++ (n ∷ []) ++ classesNumbers (byRisingId (classesFrom s m n))) eo
-      ∙ ap₂ (λ y cs. boardNumbers (boardAt s) s ++ (y ∷ []) ++ classesNumbers (byRisingId cs)) (en ∙ sym class-count)
+      ∙ ap₂ (λ y cs. boardNumbers (boardAt s) s ++ (y ∷ []) ++ classesNumbers (byRisingId cs)) (en ∙ sym (classes-count s e))
       (ap₂ (classesFrom s) em en ∙ sym (classes-are s))
 
   pub front-written : (o m n : ℕ) (a u v w : List ℕ) → 8 ≤ length a → o ≡ boardAt s → m ≡ classesAt s → n ≡ classesStated s
-      → u ≡ written 0 (wordsFrom o 3 s) a → v ≡ written 3 (n ∷ []) u → w ≡ written 4 (classesNumbers (byRisingId (classesFrom s m n))) v
-      → w ≡ written 0 (frontNumbers (content s)) a
+      → u ≡ withNumbersAt 0 (wordsFrom o 3 s) a → v ≡ withNumbersAt 3 (n ∷ []) u → w ≡ withNumbersAt 4 (classesNumbers (byRisingId (classesFrom s m n))) v
+      → w ≡ withNumbersAt 0 (frontNumbers (content s)) a
   front-written o m n a u v w h eo em en eu ev ew =
-      written-then 0 4 (boardNumbers o s ++ (n ∷ [])) (classesNumbers (byRisingId (classesFrom s m n))) a v w refl (omega arith)
-      (written-then 0 3 (boardNumbers o s) (n ∷ []) a u v refl (omega arith) (eu ∙ ap (λ r. written 0 r a) (three-words s o)) ev) ew
-      ∙ ap (λ r. written 0 r a) (front-is o m n eo em en)
+      numbers-then 0 4 (boardNumbers o s ++ (n ∷ [])) (classesNumbers (byRisingId (classesFrom s m n))) a v w refl (omega arith)
+      (numbers-then 0 3 (boardNumbers o s) (n ∷ []) a u v refl (omega arith) (eu ∙ ap (λ r. withNumbersAt 0 r a) (three-words s o)) ev) ew
+      ∙ ap (λ r. withNumbersAt 0 r a) (front-is o m n eo em en)
 
   pub front-length : length (frontNumbers (content s)) ≡ 4 + classesStated s * 4
-  front-length = let c = class-count in let l = length-classes (content s .classes) in omega arith
+  front-length = let c = classes-count s e in let l = length-classes (content s .classes) in omega arith
 
   -- ---- Behind
 
@@ -96,15 +85,15 @@ module _ (s : List ℕ) (e : refusal s ≡ 0) where
         ∙ ap₂ (λ i q. (i ∷ []) ++ concat (map kindNumbers (content s .kinds)) ++ (q ∷ [])) (sym (kind-count s (six-none s e) base size n eb es en)) ep
 
     pub back-written : (at p : ℕ) (a u v w : List ℕ) → (at + 2 + kindsLength s) * 2 ≤ length a → p ≡ pieceCount (content s .kinds)
-        → u ≡ written at (n ∷ []) a → v ≡ written (at + 1) (kindsNumbers n list) u → w ≡ written (at + 1 + size) (p ∷ []) v
-        → w ≡ written at (backNumbers (content s)) a
+        → u ≡ withNumbersAt at (n ∷ []) a → v ≡ withNumbersAt (at + 1) (kindsNumbers n list) u → w ≡ withNumbersAt (at + 1 + size) (p ∷ []) v
+        → w ≡ withNumbersAt at (backNumbers (content s)) a
     back-written at p a u v w h ep eu ev ew =
         let r = list-reads s (six-none s e) base size n eb es en in
         let l : length (kindsNumbers n list) ≡ length list = records-length readKind kindNumbers kind-each n (length list) list r in
         let z = length-list s (six-none s e) base size n eb es en in
-        written-then at (at + 1 + size) ((n ∷ []) ++ kindsNumbers n list) (p ∷ []) a v w (omega arith) (omega arith)
-        (written-then at (at + 1) (n ∷ []) (kindsNumbers n list) a u v refl (omega arith) eu ev) ew
-        ∙ ap (λ r. written at r a) (back-is p ep)
+        numbers-then at (at + 1 + size) ((n ∷ []) ++ kindsNumbers n list) (p ∷ []) a v w (omega arith) (omega arith)
+        (numbers-then at (at + 1) (n ∷ []) (kindsNumbers n list) a u v refl (omega arith) eu ev) ew
+        ∙ ap (λ r. withNumbersAt at r a) (back-is p ep)
 
   -- ---- All
 
@@ -128,13 +117,13 @@ module _ (s : List ℕ) (e : refusal s ≡ 0) where
   unfolding readContent numbersIn count
   content-fits out h = rw (le-ltb _ _ h)
 
-  pub content-written : (at : ℕ) (a u v : List ℕ) → at ≡ 4 + classesStated s * 4 → at * 2 ≤ length a → u ≡ written 0 (frontNumbers (content s)) a
-      → v ≡ written at (backNumbers (content s)) u → v ≡ withNumbers (contentNumbers (content s)) a
+  pub content-written : (at : ℕ) (a u v : List ℕ) → at ≡ 4 + classesStated s * 4 → at * 2 ≤ length a → u ≡ withNumbersAt 0 (frontNumbers (content s)) a
+      → v ≡ withNumbersAt at (backNumbers (content s)) u → v ≡ withNumbers (contentNumbers (content s)) a
   unfolding withNumbers
   content-written at a u v ea h eu ev =
       let f = front-length in
-      written-then 0 at (frontNumbers (content s)) (backNumbers (content s)) a u v (omega arith) h eu ev
-      ∙ ap (λ r. written 0 r a) (sym content-is) ∙ written-all (contentNumbers (content s)) a
+      numbers-then 0 at (frontNumbers (content s)) (backNumbers (content s)) a u v (omega arith) h eu ev
+      ∙ ap (λ r. withNumbersAt 0 r a) (sym content-is) ∙ numbers-all (contentNumbers (content s)) a
 
 module _ (s out : List ℕ) where
   pub read-refused : (refusal s ≡ 0 → ⊥) → Services.read s out ≡ writeOutcome (W.Refused (refusal s)) out

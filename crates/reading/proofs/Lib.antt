@@ -1,4 +1,4 @@
+pub mod ClassLaws
 pub mod ContentLaws
 pub mod ListingLaws
-pub mod RisingLaws
 pub mod WriteLaws

@@ -19,8 +19,8 @@ use Rattle.records.specs.Records.{Reads}
 use Rattle.records.proofs.NextLaws.{PartNext, nextKind, kind-next, kind-begins, kind-values, kind-parts}
 use Rattle.records.proofs.PartLaws.{part-corners}
 use Rattle.records.proofs.RecordLaws.{values-from}
-use Rattle.reading.specs.Write.{written, asNumber, bytesFrom, partsNumbers, kindsNumbers}
-use Rattle.reading.proofs.WriteLaws.{written-then, corner-numbers, length-vertex, length-row, numbers-length, records-more}
+use Rattle.reading.specs.Write.{withNumbersAt, asNumber, bytesFrom, partsNumbers, kindsNumbers}
+use Rattle.reading.proofs.WriteLaws.{numbers-then, corner-numbers, length-vertex, length-row, numbers-length, records-more}
 
 -- ---- Parts
 
@@ -51,17 +51,17 @@ part-numbers list here c k P e ec =
 -- One part more: its number of corners, and its coordinates.
 pub parts-more : (list : List ℕ) (from i here c at : ℕ) (a u v w : List ℕ) → from ≤ here → Reads (many readPart i (drop from list)) (here - from)
     → PartNext list from i here c → c ≡ byteAt list here → (at + length list) * 2 ≤ length a → length u ≡ length a
-    → u ≡ written (at + from) (partsNumbers i (drop from list)) a → v ≡ written (at + here) (c ∷ []) u
-    → w ≡ written (at + here + 1) (bytesFrom true (here + 1) (c * 2) list) v → w ≡ written (at + from) (partsNumbers (i + 1) (drop from list)) a
+    → u ≡ withNumbersAt (at + from) (partsNumbers i (drop from list)) a → v ≡ withNumbersAt (at + here) (c ∷ []) u
+    → w ≡ withNumbersAt (at + here + 1) (bytesFrom true (here + 1) (c * 2) list) v → w ≡ withNumbersAt (at + from) (partsNumbers (i + 1) (drop from list)) a
 parts-more list from i here c at a u v w l r p ec h lu eu ev ew =
     let j = p .inside in
     records-more readPart partNumbers part-each (at + from) (at + here) i (here - from) (drop from list) (c ∷ bytesFrom true (here + 1) (c * 2) list) a u w _
     (omega arith) (omega arith) r (p .values) (part-numbers list here c _ _ (p .reads) ec) eu
-    (written-then (at + here) (at + here + 1) (c ∷ []) (bytesFrom true (here + 1) (c * 2) list) u v w refl (omega arith) ev ew)
+    (numbers-then (at + here) (at + here + 1) (c ∷ []) (bytesFrom true (here + 1) (c * 2) list) u v w refl (omega arith) ev ew)
 
-pub parts-done : (list : List ℕ) (from n i at : ℕ) (a u : List ℕ) → i ≡ n → u ≡ written (at + from) (partsNumbers i (drop from list)) a
-    → u ≡ written (at + from) (partsNumbers n (drop from list)) a
-parts-done list from n i at a u e eu = eu ∙ ap (λ m. written (at + from) (partsNumbers m (drop from list)) a) e
+pub parts-done : (list : List ℕ) (from n i at : ℕ) (a u : List ℕ) → i ≡ n → u ≡ withNumbersAt (at + from) (partsNumbers i (drop from list)) a
+    → u ≡ withNumbersAt (at + from) (partsNumbers n (drop from list)) a
+parts-done list from n i at a u e eu = eu ∙ ap (λ m. withNumbersAt (at + from) (partsNumbers m (drop from list)) a) e
 
 -- ---- Kinds
 
@@ -94,11 +94,11 @@ module _ (list : List ℕ) (kinds size t here : ℕ) (w : Reads (many readKind k
       )
 
   pub kinds-more : (n at : ℕ) (a u v x : List ℕ) → n ≡ byteAt list (here + 3) → (at + length list) * 2 ≤ length a → length u ≡ length a
-      → u ≡ written at (kindsNumbers t list) a → v ≡ written (at + here) (bytesFrom false here 4 list) u
-      → x ≡ written (at + (here + 4)) (partsNumbers n (drop (here + 4) list)) v → x ≡ written at (kindsNumbers (t + 1) list) a
+      → u ≡ withNumbersAt at (kindsNumbers t list) a → v ≡ withNumbersAt (at + here) (bytesFrom false here 4 list) u
+      → x ≡ withNumbersAt (at + (here + 4)) (partsNumbers n (drop (here + 4) list)) v → x ≡ withNumbersAt at (kindsNumbers (t + 1) list) a
   kinds-more n at a u v x e f lu eu ev ex =
       let b = kind-begins list kinds size t here w h r in
       let l = length-row (λ i. asNumber false (byteAt list (here + i))) 4 in
       records-more readKind kindNumbers kind-each at (at + here) t here list (bytesFrom false here 4 list ++ partsNumbers n (drop (here + 4) list)) a u x _
       refl (omega arith) r (kind-values list kinds size t here w h r) (kind-numbers n e) eu
-      (written-then (at + here) (at + (here + 4)) (bytesFrom false here 4 list) (partsNumbers n (drop (here + 4) list)) u v x (omega arith) (omega arith) ev ex)
+      (numbers-then (at + here) (at + (here + 4)) (bytesFrom false here 4 list) (partsNumbers n (drop (here + 4) list)) u v x (omega arith) (omega arith) ev ex)

@@ -24,30 +24,30 @@ use Rattle.model.proofs.Lists.{length-below}
 use Rattle.model.proofs.Readers.{many-sum}
 use Rattle.records.specs.Parts.{vertexFrom, partFrom}
 use Rattle.records.specs.Records.{Reads, valuesOf}
-use Rattle.reading.specs.Write.{written, asNumber, bytesFrom}
+use Rattle.reading.specs.Write.{withNumbersAt, asNumber, bytesFrom}
 use Rattle.records.proofs.RecordLaws.{values-none}
 
-pub written-none : (at : ℕ) (s : List ℕ) → written at [] s ≡ s
-unfolding written bytesOf
-written-none at s =
+pub numbers-none : (at : ℕ) (s : List ℕ) → withNumbersAt at [] s ≡ s
+unfolding withNumbersAt bytesOf
+numbers-none at s =
     let e : (at + 0) * 2 ≡ at * 2 = omega arith in
     rw (append-nil, e) (take-append-drop (at * 2) s)
 
-pub written-one : (at n : ℕ) (s : List ℕ) → withNumber 2 s (at * 2) n ≡ written at (n ∷ []) s
-unfolding written bytesOf withNumber
-written-one at n s = let e : at * 2 + 2 ≡ (at + 1) * 2 = omega arith in rw (append-nil, e)
+pub numbers-one : (at n : ℕ) (s : List ℕ) → withNumber 2 s (at * 2) n ≡ withNumbersAt at (n ∷ []) s
+unfolding withNumbersAt bytesOf withNumber
+numbers-one at n s = let e : at * 2 + 2 ≡ (at + 1) * 2 = omega arith in rw (append-nil, e)
 
-pub written-all : (ns s : List ℕ) → written 0 ns s ≡ filled 2 ns s
-unfolding written filled
-written-all ns s = let e : (0 + length ns) * 2 ≡ length ns * 2 = omega arith in rw e
+pub numbers-all : (ns s : List ℕ) → withNumbersAt 0 ns s ≡ filled 2 ns s
+unfolding withNumbersAt filled
+numbers-all ns s = let e : (0 + length ns) * 2 ≡ length ns * 2 = omega arith in rw e
 
 module _ (at : ℕ) (ns s : List ℕ) (fits : (at + length ns) * 2 ≤ length s) where
   head-length : length (take (at * 2) s ++ bytesOf 2 ns) ≡ (at + length ns) * 2
   head-length = rw (length-append, length-take-le (at * 2) s (omega arith), length-bytesOf) (omega arith)
 
-  pub written-more : (ms : List ℕ) → written (at + length ns) ms (written at ns s) ≡ written at (ns ++ ms) s
-  unfolding written
-  written-more ms =
+  pub numbers-more : (ms : List ℕ) → withNumbersAt (at + length ns) ms (withNumbersAt at ns s) ≡ withNumbersAt at (ns ++ ms) s
+  unfolding withNumbersAt
+  numbers-more ms =
       let x = (at + length ns) * 2 in
       let front : take x (take (at * 2) s ++ bytesOf 2 ns ++ drop x s) ≡ take (at * 2) s ++ bytesOf 2 ns =
       take-at (take (at * 2) s ++ bytesOf 2 ns) (drop x s) x head-length in
@@ -62,10 +62,10 @@ module _ (at : ℕ) (ns s : List ℕ) (fits : (at + length ns) * 2 ≤ length s)
       rw (front, back, bytesOf-append, append-assoc (take (at * 2) s) (bytesOf 2 ns) (bytesOf 2 ms))
 
 -- One write after another.
-pub written-then : (at at′ : ℕ) (ns ms s u v : List ℕ) → at′ ≡ at + length ns → at′ * 2 ≤ length s → u ≡ written at ns s → v ≡ written at′ ms u
-    → v ≡ written at (ns ++ ms) s
-written-then at at′ ns ms s u v e h p q =
-    q ∙ ap₂ (λ a b. written a ms b) e p ∙ written-more at ns s (omega arith) ms
+pub numbers-then : (at at′ : ℕ) (ns ms s u v : List ℕ) → at′ ≡ at + length ns → at′ * 2 ≤ length s → u ≡ withNumbersAt at ns s → v ≡ withNumbersAt at′ ms u
+    → v ≡ withNumbersAt at (ns ++ ms) s
+numbers-then at at′ ns ms s u v e h p q =
+    q ∙ ap₂ (λ a b. withNumbersAt a ms b) e p ∙ numbers-more at ns s (omega arith) ms
 
 -- ---- A byte as a number
 
@@ -96,19 +96,19 @@ module _ (f : ℕ → ℕ) where
   pub length-row : (k : ℕ) → length (map f (below k)) ≡ k
   length-row k = length-map (below k) f ∙ length-below k
 
-  pub row-none : (at : ℕ) (a : List ℕ) → a ≡ written at (map f (below 0)) a
+  pub row-none : (at : ℕ) (a : List ℕ) → a ≡ withNumbersAt at (map f (below 0)) a
   unfolding below rising
-  row-none at a = sym (written-none at a)
+  row-none at a = sym (numbers-none at a)
 
-  pub row-more : (at at′ k n : ℕ) (a u v : List ℕ) → at′ ≡ at + k → at′ * 2 ≤ length a → n ≡ f k → u ≡ written at (map f (below k)) a
-      → v ≡ written at′ (n ∷ []) u → v ≡ written at (map f (below (k + 1))) a
+  pub row-more : (at at′ k n : ℕ) (a u v : List ℕ) → at′ ≡ at + k → at′ * 2 ≤ length a → n ≡ f k → u ≡ withNumbersAt at (map f (below k)) a
+      → v ≡ withNumbersAt at′ (n ∷ []) u → v ≡ withNumbersAt at (map f (below (k + 1))) a
   row-more at at′ k n a u v e h en eu ev =
       let l = length-row k in
-      written-then at at′ (map f (below k)) (f k ∷ []) a u v (omega arith) h eu (ev ∙ ap (λ m. written at′ (m ∷ []) u) en)
-      ∙ ap (λ r. written at r a) (sym (map-below-more f k))
+      numbers-then at at′ (map f (below k)) (f k ∷ []) a u v (omega arith) h eu (ev ∙ ap (λ m. withNumbersAt at′ (m ∷ []) u) en)
+      ∙ ap (λ r. withNumbersAt at r a) (sym (map-below-more f k))
 
-  pub row-end : (at k n : ℕ) (a u : List ℕ) → k ≡ n → u ≡ written at (map f (below k)) a → u ≡ written at (map f (below n)) a
-  row-end at k n a u e eu = eu ∙ ap (λ m. written at (map f (below m)) a) e
+  pub row-end : (at k n : ℕ) (a u : List ℕ) → k ≡ n → u ≡ withNumbersAt at (map f (below k)) a → u ≡ withNumbersAt at (map f (below n)) a
+  row-end at k n a u e eu = eu ∙ ap (λ m. withNumbersAt at (map f (below m)) a) e
 
 -- ---- The corners of a part
 
@@ -158,9 +158,9 @@ module _ {A : Type 0} (f : List ℕ → Got A) (g : A → List ℕ) (each : (s :
   abbrev pub recordNumbers : ℕ → List ℕ → List ℕ
   recordNumbers n s = concat (map g (valuesOf (many f n s)))
 
-  pub records-none : (at : ℕ) (s a : List ℕ) → a ≡ written at (recordNumbers 0 s) a
+  pub records-none : (at : ℕ) (s a : List ℕ) → a ≡ withNumbersAt at (recordNumbers 0 s) a
   unfolding concat
-  records-none at s a = sym (ap (λ l. written at (concat (map g l)) a) (values-none f s) ∙ written-none at a)
+  records-none at s a = sym (ap (λ l. withNumbersAt at (concat (map g l)) a) (values-none f s) ∙ numbers-none at a)
 
   -- They are as many as the bytes of the records.
   pub records-length : (n m : ℕ) (s : List ℕ) → Reads (many f n s) m → length (recordNumbers n s) ≡ m
@@ -169,10 +169,10 @@ module _ {A : Type 0} (f : List ℕ → Got A) (g : A → List ℕ) (each : (s :
   -- One record more: the numbers ns of x, from number at′ on.
   pub records-more : (at at′ n m : ℕ) (s ns a u v : List ℕ) (x : A) → at′ ≡ at + m → at′ * 2 ≤ length a → Reads (many f n s) m
       → valuesOf (many f (n + 1) s) ≡ valuesOf (many f n s) ++ (x ∷ []) → g x ≡ ns
-      → u ≡ written at (recordNumbers n s) a → v ≡ written at′ ns u → v ≡ written at (recordNumbers (n + 1) s) a
+      → u ≡ withNumbersAt at (recordNumbers n s) a → v ≡ withNumbersAt at′ ns u → v ≡ withNumbersAt at (recordNumbers (n + 1) s) a
   records-more at at′ n m s ns a u v x ea h r e en eu ev =
       let l = records-length n m s r in
       let more : recordNumbers (n + 1) s ≡ recordNumbers n s ++ g x =
       ap (λ l. concat (map g l)) e ∙ ap concat (map-append g (valuesOf (many f n s)) (x ∷ [])) ∙ concat-more (map g (valuesOf (many f n s))) (g x) in
-      written-then at at′ (recordNumbers n s) ns a u v (omega arith) h eu ev
-      ∙ ap (λ l. written at l a) (ap (λ x. recordNumbers n s ++ x) (sym en) ∙ sym more)
+      numbers-then at at′ (recordNumbers n s) ns a u v (omega arith) h eu ev
+      ∙ ap (λ l. withNumbersAt at l a) (ap (λ x. recordNumbers n s ++ x) (sym en) ∙ sym more)

@@ -12,8 +12,8 @@ use Rattle.model.specs.Services.{coordinate, classNumbers, partNumbers, kindNum
 use Rattle.records.specs.Records.{valuesOf}
 
 -- The buffer after its numbers from number `at` on became ns; every other byte is unchanged.
-unfoldable pub written : ℕ → List ℕ → List ℕ → List ℕ
-written at ns s = take (at * 2) s ++ bytesOf 2 ns ++ drop ((at + length ns) * 2) s
+unfoldable pub withNumbersAt : ℕ → List ℕ → List ℕ → List ℕ
+withNumbersAt at ns s = take (at * 2) s ++ bytesOf 2 ns ++ drop ((at + length ns) * 2) s
 
 -- A byte as a number: the coordinate that it stands for, or as it is.
 unfoldable pub asNumber : Bool → ℕ → ℕ

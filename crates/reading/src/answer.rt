@@ -4,12 +4,12 @@ ghost use mathlib.Core.List.{[], _∷_};
 ghost use mathlib.Core.Path.{_≡_};
 ghost use Prim.Native.Nat.{_+_, _*_, _≤_, _<_};
 ghost use lib.ListN.{length};
-ghost use Rattle.reading.specs.Write.{written, asNumber, bytesFrom, wordsFrom};
+ghost use Rattle.reading.specs.Write.{withNumbersAt, asNumber, bytesFrom, wordsFrom};
 
 // One number.
 pub fn put(answer: &mut [u8], at: usize, n: usize)
     requires { ⌜ ((at + 1) * 2 ≤ length (now answer)) × (n < 65536) ⌝ }
-    ensures { λ _. ⌜ now (answer .exit) ≡ written at (n ∷ []) (now (answer .entry)) ⌝ }
+    ensures { λ _. ⌜ now (answer .exit) ≡ withNumbersAt at (n ∷ []) (now (answer .entry)) ⌝ }
 {
     words::numbers::put_u16(answer, at * 2, n as u16);
 }
@@ -25,7 +25,7 @@ fn to_number(b: usize, coordinate: bool) -> usize
 // The n bytes from byte `from` on, a number for each. They are coordinates, or plain.
 pub fn put_bytes(s: &[u8], from: usize, n: usize, coordinates: bool, answer: &mut [u8], at: usize)
     requires { ⌜ (from + n ≤ length (now s)) × ((at + n) * 2 ≤ length (now answer)) ⌝ }
-    ensures { λ _. ⌜ now (answer .exit) ≡ written at (bytesFrom coordinates from n (now (s .entry))) (now (answer .entry)) ⌝ }
+    ensures { λ _. ⌜ now (answer .exit) ≡ withNumbersAt at (bytesFrom coordinates from n (now (s .entry))) (now (answer .entry)) ⌝ }
 {
     let mut k = 0;
     while k < n {
@@ -41,7 +41,7 @@ pub fn put_bytes(s: &[u8], from: usize, n: usize, coordinates: bool, answer: &mu
 // The n two-byte numbers from byte `from` on, at the front of the answer.
 pub fn put_words(s: &[u8], from: usize, n: usize, answer: &mut [u8])
     requires { ⌜ (from + n * 2 ≤ length (now s)) × (n * 2 ≤ length (now answer)) ⌝ }
-    ensures { λ _. ⌜ now (answer .exit) ≡ written 0 (wordsFrom from n (now (s .entry))) (now (answer .entry)) ⌝ }
+    ensures { λ _. ⌜ now (answer .exit) ≡ withNumbersAt 0 (wordsFrom from n (now (s .entry))) (now (answer .entry)) ⌝ }
 {
     let mut k = 0;
     while k < n {

@@ -1,7 +1,7 @@
 // The numbers of an accepted job's content: board and classes in front, types and the number of pieces behind them.
 use crate::answer;
+use crate::classes;
 use crate::listing;
-use crate::rising;
 use frame::trailer;
 use model::Written;
 ghost use mathlib.Core.Path.{_≡_};
@@ -10,23 +10,23 @@ ghost use lib.ListN.{length};
 ghost use Rattle.model.specs.Content.{pieceCount};
 ghost use Rattle.model.specs.Format.{classesStated, content, kindsLength, refusal};
 ghost use Rattle.model.specs.Services.{readContent};
-ghost use Rattle.reading.specs.Write.{written, frontNumbers, backNumbers};
+ghost use Rattle.reading.specs.Write.{withNumbersAt, frontNumbers, backNumbers};
 
-// The board and the classes behind their count. (There is room for four numbers more: put_classes asks for it.)
+// The board and the classes behind their count.
 pub fn put_front(job: &[u8], answer: &mut [u8])
-    requires { ⌜ (refusal (now job) ≡ 0) × ((4 + classesStated (now job) * 4 + 4) * 2 ≤ length (now answer)) ⌝ }
-    ensures { λ _. ⌜ now (answer .exit) ≡ written 0 (frontNumbers (content (now (job .entry)))) (now (answer .entry)) ⌝ }
+    requires { ⌜ (refusal (now job) ≡ 0) × ((4 + classesStated (now job) * 4) * 2 ≤ length (now answer)) ⌝ }
+    ensures { λ _. ⌜ now (answer .exit) ≡ withNumbersAt 0 (frontNumbers (content (now (job .entry)))) (now (answer .entry)) ⌝ }
 {
     let t = trailer::read_trailer(job);
     answer::put_words(job, t.board, 3, answer);
     answer::put(answer, 3, t.class_count);
-    rising::put_classes(job, t.classes, t.class_count, answer, 4);
+    classes::put_classes(job, t.classes, t.class_count, answer, 4);
 }
 
 // The types behind their count, and the number of pieces.
 pub fn put_back(job: &[u8], pieces: usize, answer: &mut [u8], at: usize)
     requires { ⌜ ((refusal (now job) ≡ 0) × (pieces ≡ pieceCount (content (now job) .kinds))) × ((at + 2 + kindsLength (now job)) * 2 ≤ length (now answer)) ⌝ }
-    ensures { λ _. ⌜ now (answer .exit) ≡ written at (backNumbers (content (now (job .entry)))) (now (answer .entry)) ⌝ }
+    ensures { λ _. ⌜ now (answer .exit) ≡ withNumbersAt at (backNumbers (content (now (job .entry)))) (now (answer .entry)) ⌝ }
 {
     let t = trailer::read_trailer(job);
     let base = t.kinds;

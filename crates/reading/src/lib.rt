@@ -4,9 +4,9 @@ ghost use Rattle.model.specs.Services as Services;
 use model::Written;
 
 mod answer;
+mod classes;
 mod content;
 mod listing;
-mod rising;
 
 // The read service: W, L, g, the classes by rising id, the types and the number of pieces, as numbers. A refusal changes no byte of the answer.
 pub fn read(job: &[u8], answer: &mut [u8]) -> Written

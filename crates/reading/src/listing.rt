@@ -7,12 +7,12 @@ ghost use Prim.Native.Nat.{_+_, _*_, _≤_, _<_};
 ghost use lib.ListN.{length, drop};
 ghost use Rattle.model.specs.Format.{many, readPart, readKind};
 ghost use Rattle.records.specs.Records.{Reads, sizeOf};
-ghost use Rattle.reading.specs.Write.{written, partsNumbers, kindsNumbers};
+ghost use Rattle.reading.specs.Write.{withNumbersAt, partsNumbers, kindsNumbers};
 
 // The n parts that stand from byte `from` on: of each the number of corners, then x and y of each corner. The result is where they end.
 fn put_parts(list: &[u8], from: usize, n: usize, answer: &mut [u8], at: usize) -> usize
     requires { ⌜ ((at + length (now list)) * 2 ≤ length (now answer)) × Reads (many readPart n (drop from (now list))) (sizeOf (many readPart n (drop from (now list)))) ⌝ }
-    ensures { λ _. ⌜ now (answer .exit) ≡ written (at + from) (partsNumbers n (drop from (now (list .entry)))) (now (answer .entry)) ⌝ }
+    ensures { λ _. ⌜ now (answer .exit) ≡ withNumbersAt (at + from) (partsNumbers n (drop from (now (list .entry)))) (now (answer .entry)) ⌝ }
     ensures { λ r. ⌜ r ≡ from + sizeOf (many readPart n (drop from (now (list .entry)))) ⌝ }
 {
     let mut here = from;
@@ -30,7 +30,7 @@ fn put_parts(list: &[u8], from: usize, n: usize, answer: &mut [u8], at: usize) -
 // The n type records of the list: of each its four fields, then its parts.
 pub fn put_kinds(list: &[u8], n: usize, answer: &mut [u8], at: usize)
     requires { ⌜ ((at + length (now list)) * 2 ≤ length (now answer)) × Reads (many readKind n (now list)) (length (now list)) ⌝ }
-    ensures { λ _. ⌜ now (answer .exit) ≡ written at (kindsNumbers n (now (list .entry))) (now (answer .entry)) ⌝ }
+    ensures { λ _. ⌜ now (answer .exit) ≡ withNumbersAt at (kindsNumbers n (now (list .entry))) (now (answer .entry)) ⌝ }
 {
     let mut here = 0;
     let mut t = 0;

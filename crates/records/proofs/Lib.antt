@@ -1,5 +1,6 @@
 mod Loops
 pub mod ClassLaws
+pub mod RisingLaws
 pub mod KindLaws
 pub mod PartLaws
 pub mod RecordLaws

@@ -1,4 +1,5 @@
 pub mod Classes
+pub mod Rising
 pub mod Records
 pub mod Kinds
 pub mod Parts

@@ -2,4 +2,5 @@
 pub mod classes;
 pub mod kinds;
 pub mod parts;
+pub mod rising;
 pub mod sizes;

@@ -3,10 +3,11 @@ use mathlib.Core.Bool.{Bool, true, false, cond, _&&_}
 use mathlib.Core.List.{List, [], _∷_, _++_}
 use mathlib.Core.Path.{_≡_, refl, sym, ap, _∙_}
 use Prim.Native.Nat.{ℕ, zero, suc, _+_, _-_, _≤_, _<_}
-use native.Mathlib.Nat.{suc-add, add-suc, add-zero, zero-add}
+use native.Mathlib.Nat.{add-zero, zero-add}
 use native.Mathlib.Omega.{arith}
 use Rattle.words.specs.Sets.{howMany}
 use Rattle.model.specs.Lists.{all, keep, countOf, rising, below}
+use Rattle.model.proofs.Folds.{rising-append}
 use Rattle.model.proofs.Sorted.{mem-rising, countOf-append, countOf-none}
 
 module _ {A : Type 0} where
@@ -26,12 +27,6 @@ module _ {A : Type 0} where
   unfolding countOf
   countOf-same p q f [] = refl
   countOf-same p q f (x ∷ xs) = rw (f x, countOf-same p q f xs)
-
--- The numbers below n, and then those from n on.
-pub rising-append : (i n k : ℕ) → rising i (n + k) ≡ rising i n ++ rising (i + n) k
-unfolding rising
-rising-append i zero k = rw (zero-add, add-zero)
-rising-append i (suc n) k = rw (suc-add, rising, rising-append (suc i) n k, suc-add, add-suc)
 
 -- A test that holds of no number from n on counts the same below n and below any larger number.
 pub countOf-below : (p : ℕ → Bool) (n m : ℕ) → n ≤ m → ((i : ℕ) → n ≤ i → p i ≡ false) → countOf p (below m) ≡ countOf p (below n)

@@ -3,8 +3,10 @@ use mathlib.Core.Path.{_≡_, refl}
 use mathlib.Core.Bool.{Bool, true, false}
 use mathlib.Core.Logic.{_⊎_, inl, inr}
 use Prim.Native.Nat.{ℕ, _≤_, _<_}
+use native.Mathlib.Omega.{arith}
 use lib.Dec.{leb, eqb}
 use borrow.Author.Tests.{leb-true, leb-false, eqb-true, eqb-false}
+use mir.Val.{boolByte}
 
 -- A Bool is true or false.
 pub true-or-false : (b : Bool) → (b ≡ true) ⊎ (b ≡ false)
@@ -26,3 +28,8 @@ eq-or-ne a b = go (true-or-false (eqb a b))
     go : (eqb a b ≡ true) ⊎ (eqb a b ≡ false) → (a ≡ b) ⊎ (a ≡ b → ⊥)
     go (inl e) = inl (eqb-true a b e)
     go (inr e) = inr (eqb-false a b e)
+
+-- A truth value as a number.
+pub at-most-one : (t : Bool) → boolByte t ≤ 1
+at-most-one true = omega arith
+at-most-one false = omega arith

@@ -1,10 +1,11 @@
 -- Elements of two lists, one after the other, and lists of bytes.
-use mathlib.Core.Path.{_≡_, subst}
+use mathlib.Core.Path.{_≡_, ap, subst, _∙_}
 use mathlib.Core.List.{List, [], _∷_, _++_}
 use Prim.Native.Nat.{ℕ, zero, suc, _+_, _<_}
+use native.Mathlib.Nat.{add-zero}
 use native.Mathlib.Omega.{arith}
-use lib.ListN.{length, getD, take, drop, List·getD-append}
-use lib.Seq.{getD-append-add, getD-drop}
+use lib.ListN.{length, getD, set, take, drop, List·getD-append}
+use lib.Seq.{getD-append-add, getD-drop, sets}
 use Rattle.words.specs.Bytes.{AreBytes}
 
 -- What stands m places behind a first list of n elements.
@@ -14,6 +15,13 @@ getD-behind p q n m e = subst (λ (k : ℕ). getD (p ++ q) (k + m) 0 ≡ getD q 
 -- What stands within a first list of n elements.
 pub getD-within : (p q : List ℕ) (n m : ℕ) → length p ≡ n → m < n → getD (p ++ q) m 0 ≡ getD p m 0
 getD-within p q n m e h = List·getD-append p q 0 m (rw e h)
+
+-- Elements stored from index i on, and others behind them, are all of them stored from there on.
+pub sets-append : (l : List ℕ) (i : ℕ) (vs ws : List ℕ) → sets (sets l i vs) (i + length vs) ws ≡ sets l i (vs ++ ws)
+sets-append l i [] ws = ap (λ k. sets l k ws) (add-zero i)
+sets-append l i (v ∷ vs) ws =
+    let next : i + suc (length vs) ≡ suc i + length vs = omega arith in
+    ap (λ k. sets (sets (set l i v) (suc i) vs) k ws) next ∙ sets-append (set l i v) (suc i) vs ws
 
 -- Two lists of bytes, one after the other, the first k of one and what is behind them are lists of bytes.
 pub bytes-append : (p q : List ℕ) → AreBytes p → AreBytes q → AreBytes (p ++ q)

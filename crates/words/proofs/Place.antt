@@ -178,12 +178,15 @@ pub withNumber-mod : (k : ℕ) (s : List ℕ) (i n : ℕ) → withNumber k s i (
 unfolding withNumber
 withNumber-mod k s i n = rw bytes-mod
 
--- A write of the number that stands there changes nothing.
-pub withNumber-numberAt : (k : ℕ) (s : List ℕ) (i : ℕ) → AreBytes s → i + k ≤ length s → withNumber k s i (numberAt k s i) ≡ s
-unfolding withNumber numberAt
-withNumber-numberAt k s i h fits =
+-- The bytes of the number that stands there are those that stand there.
+pub bytes-numberAt : (k : ℕ) (s : List ℕ) (i : ℕ) → AreBytes s → i + k ≤ length s → bytes k (numberAt k s i) ≡ take k (drop i s)
+unfolding numberAt
+bytes-numberAt k s i h fits =
     let xs : List ℕ = take k (drop i s) in
     let long : length xs ≡ k = length-take-le k (drop i s) (rw length-drop (omega arith)) in
-    let same : bytes k (value xs) ≡ xs =
-    subst (λ (n : ℕ). bytes n (value xs) ≡ xs) long (bytes-value xs (bytes-take k (drop i s) (bytes-drop i s h))) in
-    rw (same, ← take-add) (take-append-drop (i + k) s)
+    subst (λ (n : ℕ). bytes n (value xs) ≡ xs) long (bytes-value xs (bytes-take k (drop i s) (bytes-drop i s h)))
+
+-- A write of the number that stands there changes nothing.
+pub withNumber-numberAt : (k : ℕ) (s : List ℕ) (i : ℕ) → AreBytes s → i + k ≤ length s → withNumber k s i (numberAt k s i) ≡ s
+unfolding withNumber
+withNumber-numberAt k s i h fits = rw (bytes-numberAt k s i h fits, ← take-add) (take-append-drop (i + k) s)

@@ -48,26 +48,15 @@ fn word(bytes: &[u8], at: usize) -> usize {
     usize::from(u16::from_le_bytes([bytes[at], bytes[at + 1]]))
 }
 
+/// Offset and length of the board, the class list and the type list, as the trailer states them.
+pub fn sections(trailer: &[u8]) -> [(usize, usize); 3] {
+    let t = trailer;
+    [(word(t, 0), 6), (word(t, 2), 3 * t[8] as usize), (word(t, 4), word(t, 6))]
+}
+
 pub fn read(bytes: &[u8]) -> Result<Job, u8> {
-    if bytes.len() < 14 || bytes.len() > 1024 {
-        return Err(1);
-    }
-    let end = bytes.len() - 14;
-    let t = &bytes[end..];
-    if t[12] != 0x44 || t[13] != 0x42 || word(t, 10) != bytes.len() {
-        return Err(2);
-    }
-    let sections = [(word(t, 0), 6), (word(t, 2), 3 * t[8] as usize), (word(t, 4), word(t, 6))];
-    check_sections(&sections, end)?;
     let mut job = Job::default();
-    read_board(&mut job, &bytes[sections[0].0..])?;
-    read_classes(&mut job, &bytes[sections[1].0..sections[1].0 + sections[1].1])?;
-    let list = &bytes[sections[2].0..sections[2].0 + sections[2].1];
-    if mutant::is("seven_before_six") {
-        // Judges each part as it comes.
-        read_kinds(&mut job, list, t[9] as usize, true)?;
-    }
-    read_kinds(&mut job, list, t[9] as usize, false)?;
+    read_records(&mut job, bytes)?;
     for kind in &job.kinds[..job.kind_count] {
         for part in &kind.parts[..kind.part_count] {
             if !part.good() {
@@ -76,6 +65,28 @@ pub fn read(bytes: &[u8]) -> Result<Job, u8> {
         }
     }
     Ok(job)
+}
+
+/// All but the soundness of parts.
+pub fn read_records(job: &mut Job, bytes: &[u8]) -> Result<(), u8> {
+    if bytes.len() < 14 || bytes.len() > 1024 {
+        return Err(1);
+    }
+    let end = bytes.len() - 14;
+    let t = &bytes[end..];
+    if t[12] != 0x44 || t[13] != 0x42 || word(t, 10) != bytes.len() {
+        return Err(2);
+    }
+    let sections = sections(t);
+    check_sections(&sections, end)?;
+    read_board(job, &bytes[sections[0].0..])?;
+    read_classes(job, &bytes[sections[1].0..sections[1].0 + sections[1].1])?;
+    let list = &bytes[sections[2].0..sections[2].0 + sections[2].1];
+    if mutant::is("seven_before_six") {
+        // Judges each part as it comes.
+        read_kinds(job, list, t[9] as usize, true)?;
+    }
+    read_kinds(job, list, t[9] as usize, false)
 }
 
 fn check_sections(sections: &[(usize, usize); 3], end: usize) -> Result<(), u8> {

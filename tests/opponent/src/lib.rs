@@ -7,4 +7,5 @@ pub mod geometry;
 pub mod job;
 pub mod mutant;
 pub mod rows;
+pub mod save;
 pub mod walk;

@@ -9,3 +9,4 @@ pub mod print;
 pub mod reader;
 pub mod services;
 pub mod walk;
+pub mod writer;

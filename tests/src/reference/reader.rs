@@ -30,7 +30,7 @@ pub struct Job {
     pub types: Vec<Type>,
 }
 
-const TRAILER: usize = 14;
+pub const TRAILER: usize = 14;
 
 struct Section {
     offset: usize,

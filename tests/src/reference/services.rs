@@ -1,9 +1,10 @@
-//! The four services: each gives its answer and changes the lent buffers as documents 01 and 02 say.
+//! The five services: each gives its answer and changes the lent buffers as documents 01 and 02 say.
 
 use super::board::{Board, Piece};
 use super::layout::{passing, to_numbers};
 use super::reader::Job;
 use super::walk::walk;
+use super::writer::saved;
 use crate::answer::{Answer, ENDED, STOPPED_WITH_LAYOUT, STOPPED_WITH_NOTHING};
 
 /// A job as it was read, or the number that refuses it.
@@ -40,6 +41,20 @@ pub fn read(reading: &Reading, answer: &mut [u8]) -> Answer {
     }
     write_numbers(answer, &numbers);
     Answer::counted(numbers.len())
+}
+
+/// The answer is counted in bytes.
+pub fn save(reading: &Reading, answer: &mut [u8]) -> Answer {
+    let job = match reading {
+        Err(number) => return Answer::refused(*number),
+        Ok(job) => job,
+    };
+    let bytes = saved(job);
+    if answer.len() < bytes.len() {
+        return Answer::refused(9);
+    }
+    answer[..bytes.len()].copy_from_slice(&bytes);
+    Answer::counted(bytes.len())
 }
 
 pub fn row(clamped: &Clamped, kind: u64, number: u64, other: u64, row: &mut [u8]) -> Answer {

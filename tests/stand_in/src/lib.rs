@@ -1,4 +1,4 @@
-//! The four services over the unverified opponent: what the comparison tests are tried on, as it is and
+//! The five services over the unverified opponent: what the comparison tests are tried on, as it is and
 //! with each of the deliberate mistakes.
 
 use std::slice;
@@ -6,6 +6,7 @@ use std::slice;
 use opponent::job::{read, Job};
 use opponent::mutant;
 use opponent::rows::{place, Board, Rows};
+use opponent::save::save;
 use opponent::walk::Walk;
 
 fn packed(number: u8, verdict: u8, count: usize, steps: u64) -> u64 {
@@ -41,6 +42,16 @@ pub unsafe extern "C" fn nest_read(job: *const u8, job_len: usize, answer: *mut 
     match read(job) {
         Err(number) => refused(number),
         Ok(job) => write_content(&job, answer),
+    }
+}
+
+/// # Safety
+/// Pointers and lengths name the caller's buffers.
+#[no_mangle]
+pub unsafe extern "C" fn nest_save(job: *const u8, job_len: usize, answer: *mut u8, answer_len: usize) -> u64 {
+    match save(lent(job, job_len), lent_mut(answer, answer_len)) {
+        Err(number) => refused(number),
+        Ok(count) => packed(0, 0, count, 0),
     }
 }
 

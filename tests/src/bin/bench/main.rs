@@ -13,6 +13,7 @@ use measure::best_time;
 use nest_tests::answer::Answer;
 use opponent::job::{read, Job};
 use opponent::rows::{Board, Rows};
+use opponent::save::save;
 use opponent::walk::Walk;
 
 const HEAD: &str = "\
@@ -28,8 +29,10 @@ fn main() {
     let jobs = bench_jobs();
     for bench in &jobs {
         check_agreement(bench);
+        check_saved(bench);
     }
-    reads(&jobs);
+    calls("read", &jobs, nest::read, |job, _| read(job).is_ok());
+    calls("save", &jobs, nest::save, |job, answer| save(job, answer).is_ok());
     rows(&jobs);
     runs(&jobs);
     budgets(&jobs);
@@ -54,6 +57,14 @@ fn check_agreement(bench: &BenchJob) {
     }
 }
 
+/// And on the bytes that the job is saved to.
+fn check_saved(bench: &BenchJob) {
+    let (mut proved, mut plain) = (vec![0; 1024], vec![0; 1024]);
+    let count = save(&bench.bytes, &mut plain).expect("an accepted job");
+    assert_eq!(usize::from(nest::save(&bench.bytes, &mut proved).count), count, "{}", bench.name);
+    assert_eq!(proved, plain, "{}", bench.name);
+}
+
 /// The proved engine's run, under the margin that belongs to the job.
 fn nested(bench: &BenchJob, budget: u32, work: &mut [u8], answer: &mut [u8]) -> Answer {
     nest::run(&bench.bytes, bench.margin.into(), budget, work, answer)
@@ -70,13 +81,14 @@ fn whole_walk(bench: &BenchJob, job: &Job, budget: u64) -> opponent::walk::Outco
     Walk::new(&board, &mut rows).run(budget)
 }
 
-fn reads(jobs: &[BenchJob]) {
-    println!("read: microseconds a call");
+/// A service that is handed a job and a buffer for its answer.
+fn calls(name: &str, jobs: &[BenchJob], proved: fn(&[u8], &mut [u8]) -> Answer, plain: fn(&[u8], &mut [u8]) -> bool) {
+    println!("{name}: microseconds a call");
     println!("{:<28} {:>6} {:>9} {:>9} {:>7}", "job", "bytes", "nest", "rust", "ratio");
     let mut answer = vec![0; 4096];
     for bench in jobs {
-        let proved = best_time(|| nest::read(&bench.bytes, &mut answer));
-        let plain = best_time(|| read(&bench.bytes).is_ok());
+        let proved = best_time(|| proved(&bench.bytes, &mut answer));
+        let plain = best_time(|| plain(&bench.bytes, &mut answer));
         let (length, ratio) = (bench.bytes.len(), proved / plain);
         println!("{:<28} {:>6} {:>9.3} {:>9.3} {:>7.2}", bench.name, length, proved * 1e6, plain * 1e6, ratio);
     }

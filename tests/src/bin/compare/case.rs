@@ -6,6 +6,7 @@ use nest_tests::reference::board::{Board, Piece};
 use nest_tests::reference::reader::read_job;
 use nest_tests::reference::services::{Clamped, Reading};
 use nest_tests::reference::walk::{walk, Walked};
+use nest_tests::reference::writer::saved;
 
 /// Walks are followed to their end up to this many steps.
 const STEPS_AT_MOST: u64 = 2000;
@@ -15,21 +16,42 @@ pub struct Case {
     pub margin: u64,
     pub reading: Reading,
     pub clamped: Clamped,
-    /// The same job with its classes in another order.
-    pub reordered: Option<Vec<u8>>,
+    /// Jobs of the same content in other bytes.
+    pub twins: Vec<Twin>,
     walked: OnceCell<Walked>,
+}
+
+/// A job that every service has to answer as it answers another.
+#[derive(Clone)]
+pub struct Twin {
+    pub what: &'static str,
+    pub counted_as: &'static str,
+    pub bytes: Vec<u8>,
+}
+
+impl Twin {
+    fn reordered(bytes: Vec<u8>) -> Twin {
+        Twin { what: "with its classes in another order", counted_as: "calls with the classes reordered", bytes }
+    }
+
+    /// By the reference, to which the library's save is held.
+    fn saved(bytes: Vec<u8>) -> Twin {
+        Twin { what: "as it is saved", counted_as: "calls with the job as it is saved", bytes }
+    }
 }
 
 impl Case {
     pub fn new(bytes: Vec<u8>, margin: u64, reordered: Option<Vec<u8>>) -> Case {
         let reading = read_job(&bytes);
-        let clamped = reading.clone().and_then(|job| Board::new(job, margin));
-        Case { bytes, margin, reading, clamped, reordered, walked: OnceCell::new() }
+        let saved = reading.as_ref().ok().map(saved).filter(|saved| *saved != bytes);
+        let twins = reordered.map(Twin::reordered).into_iter().chain(saved.map(Twin::saved)).collect();
+        Case { margin, clamped: clamped(&reading, margin), bytes, reading, twins, walked: OnceCell::new() }
     }
 
     /// The same job under another margin.
     pub fn under(&self, margin: u64) -> Case {
-        Case::new(self.bytes.clone(), margin, self.reordered.clone())
+        let (bytes, reading, twins) = (self.bytes.clone(), self.reading.clone(), self.twins.clone());
+        Case { margin, clamped: clamped(&reading, margin), bytes, reading, twins, walked: OnceCell::new() }
     }
 
     /// The walk, where nothing is refused; to its end, where it is short enough.
@@ -42,6 +64,10 @@ impl Case {
     pub fn best(&self) -> Option<&[Piece]> {
         self.walked()?.best.as_deref()
     }
+}
+
+fn clamped(reading: &Reading, margin: u64) -> Clamped {
+    reading.clone().and_then(|job| Board::new(job, margin))
 }
 
 /// The walk to its end, where it is short enough.

@@ -5,7 +5,7 @@ use nest_tests::answer::Answer;
 use nest_tests::noise::Noise;
 use nest_tests::small_boards::PRINTED;
 
-use crate::nest::{check_at, read_at, row_at, run_at, Given};
+use crate::nest::{check_at, read_at, row_at, run_at, save_at, Given};
 use crate::report::Report;
 
 /// Null, and two places where no byte can be read: the second, and the last of all.
@@ -22,13 +22,14 @@ struct Service {
 }
 
 /// The services on the job that document 01 prints, each with buffers that are long enough.
-fn services(noise: &mut Noise) -> [Service; 4] {
+fn services(noise: &mut Noise) -> [Service; 5] {
     let job = PRINTED.to_vec();
     let layout = vec![0, 0, 0, 0, 0, 0, 0, 0, 0, 0, 2, 0, 0, 0, 0, 0];
-    let (numbers, words, answer) = (noise.bytes(100), noise.bytes(64), noise.bytes(16));
+    let (numbers, saved, words, answer) = (noise.bytes(100), noise.bytes(33), noise.bytes(64), noise.bytes(16));
     // SAFETY of the calls: `asked` gives places in buffers of its own, or a length of 0.
     [
         Service { name: "read", buffers: vec![job.clone(), numbers], call: |b, _| unsafe { read_at(b[0], b[1]) } },
+        Service { name: "save", buffers: vec![job.clone(), saved], call: |b, _| unsafe { save_at(b[0], b[1]) } },
         Service {
             name: "row",
             buffers: vec![job.clone(), words.clone()],

@@ -6,15 +6,25 @@ use nest_tests::noise::Noise;
 use nest_tests::reference::board::{Board, Piece};
 use nest_tests::reference::exhaustive;
 use nest_tests::reference::layout::to_numbers;
-use nest_tests::reference::services::{self, bytes_of, content, work_words};
+use nest_tests::reference::services::{self, bytes_of, content, work_words, Reading};
 
-use crate::case::Case;
+use crate::case::{Case, Twin};
 use crate::lent::{awkward_lengths, Lent};
 use crate::nest;
 use crate::report::{hexadecimal, Report};
 
 /// Boards with at most this many layouts are also searched exhaustively.
 const LAYOUTS_AT_MOST: u64 = 4000;
+
+/// A service that is handed a job and a buffer for its answer, and nothing else.
+pub struct Writing {
+    name: &'static str,
+    expected: fn(&Reading, &mut [u8]) -> Answer,
+    got: fn(&[u8], &mut [u8]) -> Answer,
+}
+
+const READ: Writing = Writing { name: "read", expected: services::read, got: nest::read };
+pub const SAVE: Writing = Writing { name: "save", expected: services::save, got: nest::save };
 
 pub struct Harness<'a> {
     pub noise: &'a mut Noise,
@@ -24,6 +34,7 @@ pub struct Harness<'a> {
 impl Harness<'_> {
     pub fn every_service(&mut self, case: &Case) {
         self.reads(case);
+        self.saves(case);
         self.rows(case);
         self.checks(case);
         self.runs(case);
@@ -32,13 +43,13 @@ impl Harness<'_> {
         self.refused_margins(case);
     }
 
-    fn mismatch(&mut self, case: &Case, what: &str) {
+    pub fn mismatch(&mut self, case: &Case, what: &str) {
         self.report.mismatch(what, &case.bytes, case.margin);
     }
 
     fn judge(&mut self, service: &'static str, case: &Case, call: &str, got: Answer, expected: Answer) {
         self.report.call(service, expected);
-        if expected.number == 0 && service != "read" && case.margin > 0 {
+        if expected.number == 0 && !matches!(service, "read" | "save") && case.margin > 0 {
             self.report.note("answers that are no refusals under a margin above 0");
         }
         if got != expected {
@@ -58,59 +69,61 @@ impl Harness<'_> {
     }
 
     /// A length of each kind that a refused job is called with.
-    fn any_length(&mut self) -> usize {
+    pub fn any_length(&mut self) -> usize {
         self.noise.pick(&[0, 1, 2, 7, 8, 9, 64, 500, 4000])
     }
 
-    // Read.
+    // Read, and what it has in common with save.
 
     fn reads(&mut self, case: &Case) {
         match &case.reading {
             Err(_) => {
                 let length = self.any_length();
-                self.read(case, length);
+                self.write(&READ, case, length);
             }
             Ok(job) => {
                 let needed = 2 * content(job).len();
                 for length in awkward_lengths(needed, 2) {
-                    self.read(case, length);
+                    self.write(&READ, case, length);
                 }
                 // One number a class too few: no room for the marks.
-                self.read(case, needed - 2 * job.classes.len());
+                self.write(&READ, case, needed - 2 * job.classes.len());
             }
         }
     }
 
-    fn read(&mut self, case: &Case, length: usize) {
+    pub fn write(&mut self, service: &Writing, case: &Case, length: usize) {
+        let name = service.name;
         let call = format!("with {length} answer bytes");
         let lent = Lent::noisy(self.noise, length);
         let job = Lent::holding(self.noise, &case.bytes);
         let kept_job = job.clone();
         let (mut got_bytes, mut expected_bytes) = (lent.clone(), lent.clone());
-        let expected = services::read(&case.reading, expected_bytes.bytes_mut());
-        let got = nest::read(job.bytes(), got_bytes.bytes_mut());
-        self.judge("read", case, &call, got, expected);
-        self.compare_bytes("read", case, &call, "answer", &got_bytes, &expected_bytes);
-        self.compare_read_only("read", case, &call, &job, &kept_job);
-        if let Some(other) = &case.reordered {
-            let mut other_bytes = lent;
-            let other_answer = nest::read(other, other_bytes.bytes_mut());
-            self.same_for_reordered("read", case, &call, (got, other_answer), &[(&got_bytes, &other_bytes)]);
+        let expected = (service.expected)(&case.reading, expected_bytes.bytes_mut());
+        let got = (service.got)(job.bytes(), got_bytes.bytes_mut());
+        self.judge(name, case, &call, got, expected);
+        self.compare_bytes(name, case, &call, "answer", &got_bytes, &expected_bytes);
+        self.compare_read_only(name, case, &call, &job, &kept_job);
+        for twin in &case.twins {
+            let mut other_bytes = lent.clone();
+            let other_answer = (service.got)(&twin.bytes, other_bytes.bytes_mut());
+            self.same_for(twin, name, case, &call, (got, other_answer), &[(&got_bytes, &other_bytes)]);
         }
     }
 
-    fn same_for_reordered(
+    fn same_for(
         &mut self,
+        twin: &Twin,
         service: &str,
         case: &Case,
         call: &str,
         answers: (Answer, Answer),
         buffers: &[(&Lent, &Lent)],
     ) {
-        self.report.note("calls with the classes reordered");
+        self.report.note(twin.counted_as);
         let same_bytes = buffers.iter().all(|(one, other)| one.difference(other).is_none());
         if answers.0 != answers.1 || !same_bytes {
-            self.mismatch(case, &format!("{service} {call}: another result with the classes in another order"));
+            self.mismatch(case, &format!("{service} {call}: another result of the job {}", twin.what));
         }
     }
 
@@ -182,10 +195,10 @@ impl Harness<'_> {
         self.judge("row", case, &call, got, expected);
         self.compare_bytes("row", case, &call, "row", &got_bytes, &expected_bytes);
         self.compare_read_only("row", case, &call, &job, &kept_job);
-        if let Some(job) = &case.reordered {
-            let mut other_bytes = lent;
-            let other_answer = nest::row(job, case.margin, kind, number, other, other_bytes.bytes_mut());
-            self.same_for_reordered("row", case, &call, (got, other_answer), &[(&got_bytes, &other_bytes)]);
+        for twin in &case.twins {
+            let mut other_bytes = lent.clone();
+            let other_answer = nest::row(&twin.bytes, case.margin, kind, number, other, other_bytes.bytes_mut());
+            self.same_for(twin, "row", case, &call, (got, other_answer), &[(&got_bytes, &other_bytes)]);
         }
     }
 
@@ -303,9 +316,9 @@ impl Harness<'_> {
         self.judge("check", case, &call, got, expected);
         self.compare_read_only("check", case, &call, &job, &kept_job);
         self.compare_read_only("check", case, &call, &layout, &kept_layout);
-        if let Some(other) = &case.reordered {
-            let other_answer = nest::check(other, case.margin, layout.bytes());
-            self.same_for_reordered("check", case, &call, (got, other_answer), &[]);
+        for twin in &case.twins {
+            let other_answer = nest::check(&twin.bytes, case.margin, layout.bytes());
+            self.same_for(twin, "check", case, &call, (got, other_answer), &[]);
         }
     }
 
@@ -377,11 +390,13 @@ impl Harness<'_> {
         self.compare_bytes("run", case, &call, "work", &got_work, &expected_work);
         self.compare_bytes("run", case, &call, "answer", &got_answer, &expected_answer);
         self.compare_read_only("run", case, &call, &job, &kept_job);
-        if let Some(other) = &case.reordered {
+        // Runs take most of the time: one of the twins, as it falls.
+        if let Some(twin) = case.twins.get(self.noise.below(case.twins.len().max(1))) {
             let (mut other_work, mut other_answer) = (work, answer);
-            let result = nest::run(other, case.margin, budget, other_work.bytes_mut(), other_answer.bytes_mut());
+            let result =
+                nest::run(&twin.bytes, case.margin, budget, other_work.bytes_mut(), other_answer.bytes_mut());
             let buffers = [(&got_work, &other_work), (&got_answer, &other_answer)];
-            self.same_for_reordered("run", case, &call, (got, result), &buffers);
+            self.same_for(twin, "run", case, &call, (got, result), &buffers);
         }
     }
 

@@ -12,6 +12,7 @@ mod margins;
 mod nest;
 mod paper;
 mod report;
+mod saving;
 
 use std::process::exit;
 
@@ -22,7 +23,8 @@ use nest_tests::noise::Noise;
 use report::Report;
 
 const DEFAULT_COUNT: u64 = 4000;
-/// From the default count on, each refusal and each thing counted of common cut must have been seen this often.
+/// From the default count on, each refusal and each thing counted of common cut and of saving must have been seen this
+/// often.
 const SEEN_AT_LEAST: u64 = 100;
 
 fn main() {
@@ -53,8 +55,10 @@ fn main() {
 /// What a run of the default count should have seen more often.
 fn rarely_seen(report: &Report) -> Vec<String> {
     let refusals = (1..=13).filter(|&n| report.seen(n) < SEEN_AT_LEAST).map(|n| format!("refusal {n}"));
-    let cuts = common_cut::COUNTED.iter().filter(|what| report.noted(what) < SEEN_AT_LEAST);
-    refusals.chain(cuts.map(|what| what.to_string())).collect()
+    let of_save = (1..=7).chain([9]).filter(|&n| report.seen_of("save", n) < SEEN_AT_LEAST);
+    let counted = common_cut::COUNTED.into_iter().chain(saving::counted_things());
+    let things = counted.filter(|what| report.noted(what) < SEEN_AT_LEAST).map(str::to_string);
+    refusals.chain(of_save.map(|n| format!("refusal {n} of save"))).chain(things).collect()
 }
 
 struct Arguments {
@@ -88,5 +92,6 @@ fn random_case(seed: u64, report: &mut Report) {
         report.mismatch(&what, &case.bytes, case.margin);
     }
     common_cut::count(&case, report);
+    saving::count(&case, report);
     Harness { noise: &mut noise, report }.every_service(&case);
 }

@@ -10,6 +10,7 @@ use nest_tests::small_boards::{small_boards, Claim, Dot, SmallBoard};
 use crate::case::Case;
 use crate::harness::Harness;
 use crate::nest;
+use crate::saving::saved_by_library;
 
 /// Enough for every job.
 const WORK_BYTES: usize = 49_152;
@@ -44,6 +45,7 @@ fn holds(board: &SmallBoard, claim: &Claim) -> Result<(), String> {
         Claim::Run { margin, budget, printed } => same(printed_by_run(job, margin, budget).as_str(), printed),
         Claim::Reads(number) => same(nest::read(job, &mut [0; 4096]).number, number),
         Claim::Gives(ref numbers) => same(&given_by_read(job), numbers),
+        Claim::Saves(ref bytes) => same(&saved_by_library(job), bytes),
         Claim::Conflict { margin, types, one, other, holds } => same(conflict(job, margin, types, one, other), holds),
         Claim::Check { margin, layout, length } => same(checked(job, margin, layout), length),
     }
@@ -56,14 +58,15 @@ fn same<T: PartialEq + Debug>(got: T, expected: T) -> Result<(), String> {
     Err(format!("got {got:?}, expected {expected:?}"))
 }
 
-fn given_by_read(job: &[u8]) -> Vec<u16> {
+/// The numbers that read writes, none if it refuses the job.
+pub fn given_by_read(job: &[u8]) -> Vec<u16> {
     let mut answer = [0; 4096];
     let count = nest::read(job, &mut answer).count;
     numbers_of(&answer).into_iter().take(count.into()).collect()
 }
 
 /// The count of an answer, or its refusal.
-fn counted(answer: Answer) -> Result<u16, u8> {
+pub fn counted(answer: Answer) -> Result<u16, u8> {
     match answer.number {
         0 => Ok(answer.count),
         number => Err(number),

@@ -1,6 +1,7 @@
 //! What a run has seen, and every mismatch with all that is needed to see it again.
 
 use std::collections::BTreeMap;
+use std::fmt::Display;
 
 use nest_tests::answer::{Answer, ENDED, STOPPED_WITH_LAYOUT};
 
@@ -10,8 +11,8 @@ pub struct Report {
     pub origin: String,
     /// Give up at the first mismatch.
     pub first_only: bool,
-    calls: BTreeMap<&'static str, u64>,
-    numbers: BTreeMap<u8, u64>,
+    /// Calls by service and expected number.
+    calls: BTreeMap<(&'static str, u8), u64>,
     verdicts: BTreeMap<&'static str, u64>,
     notes: BTreeMap<&'static str, u64>,
     mismatches: u64,
@@ -22,8 +23,7 @@ const SHOWN_AT_MOST: u64 = 5;
 
 impl Report {
     pub fn call(&mut self, service: &'static str, expected: Answer) {
-        *self.calls.entry(service).or_default() += 1;
-        *self.numbers.entry(expected.number).or_default() += 1;
+        *self.calls.entry((service, expected.number)).or_default() += 1;
         if service == "run" && matches!(expected.number, 0 | 10) {
             *self.verdicts.entry(verdict(expected)).or_default() += 1;
         }
@@ -44,8 +44,14 @@ impl Report {
         }
     }
 
+    /// How often a number was expected, whatever the service.
     pub fn seen(&self, number: u8) -> u64 {
-        self.numbers.get(&number).copied().unwrap_or(0)
+        self.calls.iter().filter(|((_, n), _)| *n == number).map(|(_, count)| count).sum()
+    }
+
+    /// How often a number was expected of this service.
+    pub fn seen_of(&self, service: &'static str, number: u8) -> u64 {
+        self.calls.get(&(service, number)).copied().unwrap_or(0)
     }
 
     pub fn noted(&self, what: &str) -> u64 {
@@ -57,11 +63,20 @@ impl Report {
     }
 
     pub fn print(&self) {
-        print_counts("calls", self.calls.iter().map(|(k, v)| (k.to_string(), *v)));
-        print_counts("answers by refusal number (0: none)", self.numbers.iter().map(|(k, v)| (k.to_string(), *v)));
-        print_counts("runs by verdict", self.verdicts.iter().map(|(k, v)| (k.to_string(), *v)));
-        print_counts("also", self.notes.iter().map(|(k, v)| (k.to_string(), *v)));
+        print_counts("calls", self.calls_by(|service, _| service).into_iter());
+        print_counts("answers by refusal number (0: none)", self.calls_by(|_, number| number).into_iter());
+        print_counts("runs by verdict", self.verdicts.iter().map(|(k, v)| (k, *v)));
+        print_counts("also", self.notes.iter().map(|(k, v)| (k, *v)));
         println!("mismatches: {}", self.mismatches);
+    }
+
+    /// The calls summed up by their service or by their number.
+    fn calls_by<K: Ord>(&self, key: fn(&'static str, u8) -> K) -> BTreeMap<K, u64> {
+        let mut sums = BTreeMap::new();
+        for (&(service, number), count) in &self.calls {
+            *sums.entry(key(service, number)).or_default() += count;
+        }
+        sums
     }
 }
 
@@ -74,7 +89,7 @@ fn verdict(answer: Answer) -> &'static str {
     }
 }
 
-fn print_counts(title: &str, counts: impl Iterator<Item = (String, u64)>) {
+fn print_counts<K: Display>(title: &str, counts: impl Iterator<Item = (K, u64)>) {
     let listed: Vec<String> = counts.map(|(name, count)| format!("{name}: {count}")).collect();
     println!("{title}: {}", listed.join(", "));
 }

@@ -1,5 +1,5 @@
 use mathlib.Core.Path.{_∙_}
-use Rattle.reading.proofs.WriteLaws.{written-one}
+use Rattle.reading.proofs.WriteLaws.{numbers-one}
 use borrow.Author.Needs.{needs}
 use Rattle.reading.proofs.answer.put.Statement.{statement}
 use Rattle.reading.proofs.answer.put.Tie as tie
@@ -17,7 +17,7 @@ same-length : tie.Need-same-length
 same-length c = search needs
 
 returns : tie.Need-returns
-returns c = c .before .before .put-u16 .ensures ∙ written-one (c .before .before .before .before .before .args .at) (c .before .before .before .before .before .args .n) (c .before .before .before .before .before .args .answer .now)
+returns c = c .before .before .put-u16 .ensures ∙ numbers-one (c .before .before .before .before .before .args .at) (c .before .before .before .before .before .args .n) (c .before .before .before .before .before .args .answer .now)
 
 pub put-spec : {M : Type 1} → statement M
 put-spec = tie.close (tie.spec mul-put-u16 cast-put-u16 put-u16-requires same-length returns)

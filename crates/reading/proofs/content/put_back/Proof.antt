@@ -1,7 +1,7 @@
 use native.Mathlib.Omega.{arith}
 use Rattle.model.proofs.AcceptedKinds.{pieces-most}
-use Rattle.reading.proofs.ContentLaws.{six-none, back-written}
-use Rattle.job.proofs.ViewLaws.{inside, length-list, list-reads}
+use Rattle.reading.proofs.ContentLaws.{back-written}
+use Rattle.job.proofs.ViewLaws.{six-none, inside, length-list, list-reads}
 use borrow.Author.Needs.{needs}
 use Rattle.reading.proofs.content.put_back.Statement.{statement}
 use Rattle.reading.proofs.content.put_back.Tie as tie

@@ -1,6 +1,6 @@
 use native.Mathlib.Omega.{arith}
-use Rattle.reading.proofs.ContentLaws.{six-none, front-written}
-use Rattle.job.proofs.ViewLaws.{inside, ids-in}
+use Rattle.reading.proofs.ContentLaws.{front-written}
+use Rattle.job.proofs.ViewLaws.{six-none, inside, classes-in}
 use borrow.Author.Needs.{needs}
 use Rattle.reading.proofs.content.put_front.Statement.{statement}
 use Rattle.reading.proofs.content.put_front.Tie as tie
@@ -17,7 +17,8 @@ put-requires c κs = search needs
 put-classes-requires : tie.Need-put-classes-requires
 put-classes-requires c κs =
     let t = c .before .before .before .before .before .before .before .before .before .read-trailer .ensures in
-    (omega (arith, inside (c .before .before .before .before .before .before .before .before .before .before .before .before .args .job .now) (six-none (c .before .before .before .before .before .before .before .before .before .before .before .before .args .job .now) (c .before .before .before .before .before .before .before .before .before .before .before .before .pre .0))), ids-in (c .before .before .before .before .before .before .before .before .before .before .before .before .args .job .now) (six-none (c .before .before .before .before .before .before .before .before .before .before .before .before .args .job .now) (c .before .before .before .before .before .before .before .before .before .before .before .before .pre .0)) _ _ (t .classes) (t .classCount))
+    let six = six-none (c .before .before .before .before .before .before .before .before .before .before .before .before .args .job .now) (c .before .before .before .before .before .before .before .before .before .before .before .before .pre .0) in
+    (omega (arith, inside (c .before .before .before .before .before .before .before .before .before .before .before .before .args .job .now) six, c .before .before .before .before .before .before .before .before .before .before .before .before .pre .1, t .classes, t .classCount), classes-in (c .before .before .before .before .before .before .before .before .before .before .before .before .args .job .now) six _ _ (t .classes) (t .classCount))
 
 same-length : tie.Need-same-length
 same-length c = search needs

@@ -5,8 +5,8 @@ use lib.ListN.{length}
 use Rattle.model.specs.Format.{content}
 use Rattle.model.specs.Services.{contentNumbers}
 use Rattle.model.specs.declared.Written.the-variants as W
-use Rattle.reading.proofs.ContentLaws.{six-none, kinds-some, content-length, content-few, content-fits, content-written}
-use Rattle.job.proofs.ViewLaws.{inside}
+use Rattle.reading.proofs.ContentLaws.{kinds-some, content-length, content-few, content-fits, content-written}
+use Rattle.job.proofs.ViewLaws.{six-none, inside}
 use borrow.Author.Needs.{needs}
 use Rattle.reading.proofs.content.read_content.Statement.{statement}
 use Rattle.reading.proofs.content.read_content.Tie as tie

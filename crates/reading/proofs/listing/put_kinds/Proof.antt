@@ -7,7 +7,7 @@ use Rattle.model.specs.Services.{kindNumbers}
 use Rattle.records.specs.Records.{Reads}
 use Rattle.records.proofs.RecordLaws.{reads-none}
 use Rattle.records.proofs.NextLaws.{kind-begins, kind-ends, parts-read}
-use Rattle.reading.specs.Write.{written, kindsNumbers}
+use Rattle.reading.specs.Write.{withNumbersAt, kindsNumbers}
 use Rattle.reading.proofs.ListingLaws.{kind-each, kinds-more}
 use Rattle.reading.proofs.WriteLaws.{records-none}
 use borrow.Author.Needs.{needs}
@@ -15,7 +15,7 @@ use Rattle.reading.proofs.listing.put_kinds.Statement.{statement}
 use Rattle.reading.proofs.listing.put_kinds.Tie as tie
 
 abbrev Inv-loop : tie.InvT-loop
-Inv-loop list n answer₀ at here₀ t₀ answer here t = ((t ≤ n) × (length answer ≡ length answer₀)) × (Reads (many readKind t list) here × (answer ≡ written at (kindsNumbers t list) answer₀))
+Inv-loop list n answer₀ at here₀ t₀ answer here t = ((t ≤ n) × (length answer ≡ length answer₀)) × (Reads (many readKind t list) here × (answer ≡ withNumbersAt at (kindsNumbers t list) answer₀))
 
 abbrev μ-loop : tie.MeasureT-loop
 μ-loop list n answer₀ at here₀ t₀ answer here t = n - t
@@ -63,7 +63,7 @@ same-length : tie.Need-same-length Inv-loop μ-loop
 same-length c = c .before .loop .inv .0 .1
 
 returns : tie.Need-returns Inv-loop μ-loop
-returns c = c .before .loop .inv .1 .1 ∙ ap (λ m. written (c .before .before .before .before .args .at) (kindsNumbers m (c .before .before .before .before .args .list .now)) (c .before .before .before .before .args .answer .now)) (omega arith)
+returns c = c .before .loop .inv .1 .1 ∙ ap (λ m. withNumbersAt (c .before .before .before .before .args .at) (kindsNumbers m (c .before .before .before .before .args .list .now)) (c .before .before .before .before .args .answer .now)) (omega arith)
 
 pub put-kinds-spec : {M : Type 1} → statement M
 put-kinds-spec =

@@ -6,7 +6,7 @@ use Rattle.model.specs.Format.{many, readPart}
 use Rattle.model.specs.Services.{partNumbers}
 use Rattle.records.specs.Records.{Reads}
 use Rattle.records.proofs.NextLaws.{parts-start, parts-end, part-begins, part-next}
-use Rattle.reading.specs.Write.{written, partsNumbers}
+use Rattle.reading.specs.Write.{withNumbersAt, partsNumbers}
 use Rattle.reading.proofs.ListingLaws.{part-each, parts-more, parts-done}
 use Rattle.reading.proofs.WriteLaws.{records-none}
 use borrow.Author.Needs.{needs}
@@ -14,7 +14,7 @@ use Rattle.reading.proofs.listing.put_parts.Statement.{statement}
 use Rattle.reading.proofs.listing.put_parts.Tie as tie
 
 abbrev Inv-loop : tie.InvT-loop
-Inv-loop list from n answer₀ at here₀ i₀ answer here i = ((i ≤ n) × (from ≤ here) × (length answer ≡ length answer₀)) × (Reads (many readPart i (drop from list)) (here - from) × (answer ≡ written (at + from) (partsNumbers i (drop from list)) answer₀))
+Inv-loop list from n answer₀ at here₀ i₀ answer here i = ((i ≤ n) × (from ≤ here) × (length answer ≡ length answer₀)) × (Reads (many readPart i (drop from list)) (here - from) × (answer ≡ withNumbersAt (at + from) (partsNumbers i (drop from list)) answer₀))
 
 abbrev μ-loop : tie.MeasureT-loop
 μ-loop list from n answer₀ at here₀ i₀ answer here i = n - i

@@ -1,9 +1,10 @@
 use native.Mathlib.Omega.{arith}
 use Rattle.model.proofs.CommonCut.{meant-most}
-use Rattle.reading.proofs.RisingLaws.{mark-fits, gap-written}
+use Rattle.reading.proofs.ClassLaws.{gap-written}
+use Rattle.words.proofs.Cases.{at-most-one}
 use borrow.Author.Needs.{needs}
-use Rattle.reading.proofs.rising.put_gap.Statement.{statement}
-use Rattle.reading.proofs.rising.put_gap.Tie as tie
+use Rattle.reading.proofs.classes.put_gap.Statement.{statement}
+use Rattle.reading.proofs.classes.put_gap.Tie as tie
 
 gap-meant-requires : tie.Need-gap-meant-requires
 gap-meant-requires c κs = search needs
@@ -21,7 +22,7 @@ cast-put : tie.Need-cast-put
 cast-put c = search needs
 
 put-requires-2 : tie.Need-put-requires-2
-put-requires-2 c κs = (omega (arith, c .before .before .before .before .before .before .before .before .pre .1), mark-fits (c .marks-cut .result))
+put-requires-2 c κs = omega (arith, c .before .before .before .before .before .before .before .before .pre .1, at-most-one (c .marks-cut .result))
 
 same-length : tie.Need-same-length
 same-length c = search needs
