@@ -1,5 +1,6 @@
 //! The section "Small boards" of document 01, marked and unmarked, with what it says of each; and small boards that
-//! are refused, under a margin, of common cut and saved, with what documents 01 and 02 make of them, worked out by hand.
+//! are refused, under a margin, of common cut and saved, with what documents 01 and 02 make of them, worked out by hand
+//! (but for the bytes of the largest content, which the encoder of the drafts puts together).
 
 use crate::draft::{encode, Arrangement, Draft};
 
