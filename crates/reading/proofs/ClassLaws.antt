@@ -2,7 +2,7 @@
 use mathlib.Core.Bool.{Bool, true, false, cond}
 use mathlib.Core.List.{List, [], _∷_, _++_}
 use mathlib.Core.Path.{_≡_, refl, sym, ap, ap₂, _∙_}
-use Prim.Native.Nat.{ℕ, _+_, _*_, _≤_}
+use Prim.Native.Nat.{ℕ, _+_, _*_}
 use native.Mathlib.Nat.{add-zero}
 use native.Mathlib.Omega.{arith}
 use lib.ListN.{length, getD}
@@ -20,10 +20,10 @@ use Rattle.reading.proofs.WriteLaws.{numbers-none, numbers-then, length
 
 -- ---- Gap and mark
 
-pub gap-written : (at b g : ℕ) (t : Bool) (a u v : List ℕ) → (at + 1) * 2 ≤ length a → g ≡ gapMeant b → t ≡ marksCut b → u ≡ withNumbersAt at (g ∷ []) a
+pub gap-written : (at b g : ℕ) (t : Bool) (a u v : List ℕ) → g ≡ gapMeant b → t ≡ marksCut b → u ≡ withNumbersAt at (g ∷ []) a
     → v ≡ withNumbersAt (at + 1) (boolByte t ∷ []) u → v ≡ withNumbersAt at (gapNumbers b) a
-gap-written at b g t a u v h eg et eu ev =
-    numbers-then at (at + 1) (g ∷ []) (boolByte t ∷ []) a u v refl h eu ev
+gap-written at b g t a u v eg et eu ev =
+    numbers-then at (at + 1) (g ∷ []) (boolByte t ∷ []) a u v refl eu ev
     ∙ ap₂ (λ x y. withNumbersAt at (x ∷ y ∷ []) a) eg (mark t ∙ ap (λ t. cond t 1 0) et)
   where
     mark : (t : Bool) → boolByte t ≡ cond t 1 0
@@ -37,10 +37,10 @@ class-bytes : (s : List ℕ) (o : ℕ) → bytesFrom false o 2 s ++ gapNumbers (
 unfolding asNumber below rising classNumbers
 class-bytes s o = rw (add-zero o)
 
-pub class-written : (s : List ℕ) (o at b : ℕ) (a u v : List ℕ) → (at + 2) * 2 ≤ length a → b ≡ byteAt s (o + 2) → u ≡ withNumbersAt at (bytesFrom false o 2 s) a
+pub class-written : (s : List ℕ) (o at b : ℕ) (a u v : List ℕ) → b ≡ byteAt s (o + 2) → u ≡ withNumbersAt at (bytesFrom false o 2 s) a
     → v ≡ withNumbersAt (at + 2) (gapNumbers b) u → v ≡ withNumbersAt at (classNumbers (classFrom s o)) a
-class-written s o at b a u v f eb eu ev =
-    numbers-then at (at + 2) (bytesFrom false o 2 s) (gapNumbers b) a u v (ap (λ k. at + k) (sym (length-row (λ i. asNumber false (byteAt s (o + i))) 2))) f eu ev
+class-written s o at b a u v eb eu ev =
+    numbers-then at (at + 2) (bytesFrom false o 2 s) (gapNumbers b) a u v (ap (λ k. at + k) (sym (length-row (λ i. asNumber false (byteAt s (o + i))) 2))) eu ev
     ∙ ap (λ x. withNumbersAt at (bytesFrom false o 2 s ++ gapNumbers x) a) eb
     ∙ ap (λ r. withNumbersAt at r a) (class-bytes s o)
 
@@ -58,12 +58,12 @@ module _ (s places : List ℕ) where
   unfolding concat below rising
   classes-none at a = sym (numbers-none at a)
 
-  pub classes-more : (at k : ℕ) (a u v : List ℕ) → (at + k * 4) * 2 ≤ length a → u ≡ withNumbersAt at (numbersTo k) a
+  pub classes-more : (at k : ℕ) (a u v : List ℕ) → u ≡ withNumbersAt at (numbersTo k) a
       → v ≡ withNumbersAt (at + k * 4) (classNumbers (classFrom s (getD places k 0))) u → v ≡ withNumbersAt at (numbersTo (k + 1)) a
-  classes-more at k a u v h eu ev =
+  classes-more at k a u v eu ev =
       let l = length-classes (classesAtFirst s places k) in
       let m = length-first s places k in
-      numbers-then at (at + k * 4) (numbersTo k) (classNumbers (classFrom s (getD places k 0))) a u v (omega arith) h eu ev
+      numbers-then at (at + k * 4) (numbersTo k) (classNumbers (classFrom s (getD places k 0))) a u v (omega arith) eu ev
       ∙ ap (λ r. withNumbersAt at r a) (sym (concat-below-more (λ i. classFrom s (getD places i 0)) classNumbers k))
 
   pub classes-all : (at o n k : ℕ) (a u : List ℕ) → k ≡ n → ByRisingId s o n places → u ≡ withNumbersAt at (numbersTo k) a

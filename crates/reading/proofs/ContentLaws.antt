@@ -44,12 +44,12 @@ module _ (s : List ℕ) (e : refusal s ≡ 0) where
       ∙ ap₂ (λ y cs. boardNumbers (boardAt s) s ++ (y ∷ []) ++ classesNumbers (byRisingId cs)) (en ∙ sym (classes-count s e))
       (ap₂ (classesFrom s) em en ∙ sym (classes-are s))
 
-  pub front-written : (o m n : ℕ) (a u v w : List ℕ) → 8 ≤ length a → o ≡ boardAt s → m ≡ classesAt s → n ≡ classesStated s
+  pub front-written : (o m n : ℕ) (a u v w : List ℕ) → o ≡ boardAt s → m ≡ classesAt s → n ≡ classesStated s
       → u ≡ withNumbersAt 0 (wordsFrom o 3 s) a → v ≡ withNumbersAt 3 (n ∷ []) u → w ≡ withNumbersAt 4 (classesNumbers (byRisingId (classesFrom s m n))) v
       → w ≡ withNumbersAt 0 (frontNumbers (content s)) a
-  front-written o m n a u v w h eo em en eu ev ew =
-      numbers-then 0 4 (boardNumbers o s ++ (n ∷ [])) (classesNumbers (byRisingId (classesFrom s m n))) a v w refl (omega arith)
-      (numbers-then 0 3 (boardNumbers o s) (n ∷ []) a u v refl (omega arith) (eu ∙ ap (λ r. withNumbersAt 0 r a) (three-words s o)) ev) ew
+  front-written o m n a u v w eo em en eu ev ew =
+      numbers-then 0 4 (boardNumbers o s ++ (n ∷ [])) (classesNumbers (byRisingId (classesFrom s m n))) a v w refl
+      (numbers-then 0 3 (boardNumbers o s) (n ∷ []) a u v refl (eu ∙ ap (λ r. withNumbersAt 0 r a) (three-words s o)) ev) ew
       ∙ ap (λ r. withNumbersAt 0 r a) (front-is o m n eo em en)
 
   pub front-length : length (frontNumbers (content s)) ≡ 4 + classesStated s * 4
@@ -84,15 +84,15 @@ module _ (s : List ℕ) (e : refusal s ≡ 0) where
         ap (λ l. (n ∷ []) ++ concat (map kindNumbers l) ++ (p ∷ [])) (values-from _ _ _ (got-list s (six-none s e) base size n eb es en))
         ∙ ap₂ (λ i q. (i ∷ []) ++ concat (map kindNumbers (content s .kinds)) ++ (q ∷ [])) (sym (kind-count s (six-none s e) base size n eb es en)) ep
 
-    pub back-written : (at p : ℕ) (a u v w : List ℕ) → (at + 2 + kindsLength s) * 2 ≤ length a → p ≡ pieceCount (content s .kinds)
+    pub back-written : (at p : ℕ) (a u v w : List ℕ) → p ≡ pieceCount (content s .kinds)
         → u ≡ withNumbersAt at (n ∷ []) a → v ≡ withNumbersAt (at + 1) (kindsNumbers n list) u → w ≡ withNumbersAt (at + 1 + size) (p ∷ []) v
         → w ≡ withNumbersAt at (backNumbers (content s)) a
-    back-written at p a u v w h ep eu ev ew =
+    back-written at p a u v w ep eu ev ew =
         let r = list-reads s (six-none s e) base size n eb es en in
         let l : length (kindsNumbers n list) ≡ length list = records-length readKind kindNumbers kind-each n (length list) list r in
         let z = length-list s (six-none s e) base size n eb es en in
-        numbers-then at (at + 1 + size) ((n ∷ []) ++ kindsNumbers n list) (p ∷ []) a v w (omega arith) (omega arith)
-        (numbers-then at (at + 1) (n ∷ []) (kindsNumbers n list) a u v refl (omega arith) eu ev) ew
+        numbers-then at (at + 1 + size) ((n ∷ []) ++ kindsNumbers n list) (p ∷ []) a v w (omega arith)
+        (numbers-then at (at + 1) (n ∷ []) (kindsNumbers n list) a u v refl eu ev) ew
         ∙ ap (λ r. withNumbersAt at r a) (back-is p ep)
 
   -- ---- All
@@ -117,13 +117,13 @@ module _ (s : List ℕ) (e : refusal s ≡ 0) where
   unfolding readContent numbersIn count
   content-fits out h = rw (le-ltb _ _ h)
 
-  pub content-written : (at : ℕ) (a u v : List ℕ) → at ≡ 4 + classesStated s * 4 → at * 2 ≤ length a → u ≡ withNumbersAt 0 (frontNumbers (content s)) a
+  pub content-written : (at : ℕ) (a u v : List ℕ) → at ≡ 4 + classesStated s * 4 → length (contentNumbers (content s)) * 2 ≤ length a → u ≡ withNumbersAt 0 (frontNumbers (content s)) a
       → v ≡ withNumbersAt at (backNumbers (content s)) u → v ≡ withNumbers (contentNumbers (content s)) a
   unfolding withNumbers
   content-written at a u v ea h eu ev =
       let f = front-length in
-      numbers-then 0 at (frontNumbers (content s)) (backNumbers (content s)) a u v (omega arith) h eu ev
-      ∙ ap (λ r. withNumbersAt 0 r a) (sym content-is) ∙ numbers-all (contentNumbers (content s)) a
+      numbers-then 0 at (frontNumbers (content s)) (backNumbers (content s)) a u v (omega arith) eu ev
+      ∙ ap (λ r. withNumbersAt 0 r a) (sym content-is) ∙ numbers-all (contentNumbers (content s)) a h
 
 module _ (s out : List ℕ) where
   pub read-refused : (refusal s ≡ 0 → ⊥) → Services.read s out ≡ writeOutcome (W.Refused (refusal s)) out

@@ -16,7 +16,7 @@ use Rattle.model.proofs.Readers.{many-sum}
 use Rattle.model.proofs.Records.{byte-first, byte-behind, length-vertices, part-read, kind-read}
 use Rattle.records.specs.Parts.{vertexFrom, partFrom}
 use Rattle.records.specs.Records.{Reads}
-use Rattle.records.proofs.NextLaws.{PartNext, nextKind, kind-next, kind-begins, kind-values, kind-parts}
+use Rattle.records.proofs.NextLaws.{PartNext, nextKind, kind-next, kind-values, kind-parts}
 use Rattle.records.proofs.PartLaws.{part-corners}
 use Rattle.records.proofs.RecordLaws.{values-from}
 use Rattle.reading.specs.Write.{withNumbersAt, asNumber, bytesFrom, partsNumbers, kindsNumbers}
@@ -50,14 +50,13 @@ part-numbers list here c k P e ec =
 
 -- One part more: its number of corners, and its coordinates.
 pub parts-more : (list : List ℕ) (from i here c at : ℕ) (a u v w : List ℕ) → from ≤ here → Reads (many readPart i (drop from list)) (here - from)
-    → PartNext list from i here c → c ≡ byteAt list here → (at + length list) * 2 ≤ length a → length u ≡ length a
+    → PartNext list from i here c → c ≡ byteAt list here
     → u ≡ withNumbersAt (at + from) (partsNumbers i (drop from list)) a → v ≡ withNumbersAt (at + here) (c ∷ []) u
     → w ≡ withNumbersAt (at + here + 1) (bytesFrom true (here + 1) (c * 2) list) v → w ≡ withNumbersAt (at + from) (partsNumbers (i + 1) (drop from list)) a
-parts-more list from i here c at a u v w l r p ec h lu eu ev ew =
-    let j = p .inside in
+parts-more list from i here c at a u v w l r p ec eu ev ew =
     records-more readPart partNumbers part-each (at + from) (at + here) i (here - from) (drop from list) (c ∷ bytesFrom true (here + 1) (c * 2) list) a u w _
-    (omega arith) (omega arith) r (p .values) (part-numbers list here c _ _ (p .reads) ec) eu
-    (numbers-then (at + here) (at + here + 1) (c ∷ []) (bytesFrom true (here + 1) (c * 2) list) u v w refl (omega arith) ev ew)
+    (omega arith) r (p .values) (part-numbers list here c _ _ (p .reads) ec) eu
+    (numbers-then (at + here) (at + here + 1) (c ∷ []) (bytesFrom true (here + 1) (c * 2) list) u v w refl ev ew)
 
 pub parts-done : (list : List ℕ) (from n i at : ℕ) (a u : List ℕ) → i ≡ n → u ≡ withNumbersAt (at + from) (partsNumbers i (drop from list)) a
     → u ≡ withNumbersAt (at + from) (partsNumbers n (drop from list)) a
@@ -93,12 +92,11 @@ module _ (list : List ℕ) (kinds size t here : ℕ) (w : Reads (many readKind k
         values-from _ _ _ (kind-parts list kinds size t here w h r n e),
       )
 
-  pub kinds-more : (n at : ℕ) (a u v x : List ℕ) → n ≡ byteAt list (here + 3) → (at + length list) * 2 ≤ length a → length u ≡ length a
+  pub kinds-more : (n at : ℕ) (a u v x : List ℕ) → n ≡ byteAt list (here + 3)
       → u ≡ withNumbersAt at (kindsNumbers t list) a → v ≡ withNumbersAt (at + here) (bytesFrom false here 4 list) u
       → x ≡ withNumbersAt (at + (here + 4)) (partsNumbers n (drop (here + 4) list)) v → x ≡ withNumbersAt at (kindsNumbers (t + 1) list) a
-  kinds-more n at a u v x e f lu eu ev ex =
-      let b = kind-begins list kinds size t here w h r in
+  kinds-more n at a u v x e eu ev ex =
       let l = length-row (λ i. asNumber false (byteAt list (here + i))) 4 in
       records-more readKind kindNumbers kind-each at (at + here) t here list (bytesFrom false here 4 list ++ partsNumbers n (drop (here + 4) list)) a u x _
-      refl (omega arith) r (kind-values list kinds size t here w h r) (kind-numbers n e) eu
-      (numbers-then (at + here) (at + (here + 4)) (bytesFrom false here 4 list) (partsNumbers n (drop (here + 4) list)) u v x (omega arith) (omega arith) ev ex)
+      refl r (kind-values list kinds size t here w h r) (kind-numbers n e) eu
+      (numbers-then (at + here) (at + (here + 4)) (bytesFrom false here 4 list) (partsNumbers n (drop (here + 4) list)) u v x (omega arith) ev ex)

@@ -8,12 +8,14 @@ use native.Mathlib.Omega.{arith}
 use borrow.Author.Tests.{le-ltb, ltb-true, ltb-false}
 use lib.Dec.{ltb}
 use lib.IntN.{pos, negsuc}
-use lib.ListN.{length, length-map, take, drop, length-append, take-append-drop}
-use lib.Seq.{length-take-le, take-at, drop-at, drop-drop}
+use lib.ListN.{length, length-map, drop, length-append}
+use lib.Seq.{sets}
 use mir.Val.{sel}
 use Rattle.integers.specs.Byte.{signed}
 use Rattle.integers.proofs.Bytes.{signed-low, signed-toZ}
-use Rattle.words.specs.Number.{bytesOf, withNumber, filled}
+use Rattle.words.specs.Number.{bytes, bytesOf, withNumber, filled}
+use Rattle.words.proofs.Lists.{sets-then, sets-front}
+use Rattle.words.proofs.Place.{withNumber-sets}
 use Rattle.words.proofs.Row.{length-bytesOf, bytesOf-append}
 use Rattle.model.specs.Content.{Vertex}
 use Rattle.model.specs.Lists.{concat, below, rising}
@@ -29,43 +31,24 @@ use Rattle.records.proofs.RecordLaws.{values-none}
 
 pub numbers-none : (at : ℕ) (s : List ℕ) → withNumbersAt at [] s ≡ s
 unfolding withNumbersAt bytesOf
-numbers-none at s =
-    let e : (at + 0) * 2 ≡ at * 2 = omega arith in
-    rw (append-nil, e) (take-append-drop (at * 2) s)
+numbers-none at s = refl
 
-pub numbers-one : (at n : ℕ) (s : List ℕ) → withNumber 2 s (at * 2) n ≡ withNumbersAt at (n ∷ []) s
-unfolding withNumbersAt bytesOf withNumber
-numbers-one at n s = let e : at * 2 + 2 ≡ (at + 1) * 2 = omega arith in rw (append-nil, e)
+pub numbers-one : (at n : ℕ) (s : List ℕ) → (at + 1) * 2 ≤ length s → withNumber 2 s (at * 2) n ≡ withNumbersAt at (n ∷ []) s
+unfolding withNumbersAt bytesOf
+numbers-one at n s h = withNumber-sets 2 s (at * 2) n (omega arith) ∙ ap (sets s (at * 2)) (sym (append-nil (bytes 2 n)))
 
-pub numbers-all : (ns s : List ℕ) → withNumbersAt 0 ns s ≡ filled 2 ns s
+pub numbers-all : (ns s : List ℕ) → length ns * 2 ≤ length s → withNumbersAt 0 ns s ≡ filled 2 ns s
 unfolding withNumbersAt filled
-numbers-all ns s = let e : (0 + length ns) * 2 ≡ length ns * 2 = omega arith in rw e
-
-module _ (at : ℕ) (ns s : List ℕ) (fits : (at + length ns) * 2 ≤ length s) where
-  head-length : length (take (at * 2) s ++ bytesOf 2 ns) ≡ (at + length ns) * 2
-  head-length = rw (length-append, length-take-le (at * 2) s (omega arith), length-bytesOf) (omega arith)
-
-  pub numbers-more : (ms : List ℕ) → withNumbersAt (at + length ns) ms (withNumbersAt at ns s) ≡ withNumbersAt at (ns ++ ms) s
-  unfolding withNumbersAt
-  numbers-more ms =
-      let x = (at + length ns) * 2 in
-      let front : take x (take (at * 2) s ++ bytesOf 2 ns ++ drop x s) ≡ take (at * 2) s ++ bytesOf 2 ns =
-      take-at (take (at * 2) s ++ bytesOf 2 ns) (drop x s) x head-length in
-      let e : (at + length ns + length ms) * 2 ≡ x + length ms * 2 = omega arith in
-      let f : x + length ms * 2 ≡ (at + length (ns ++ ms)) * 2 = omega (arith, length-append ns ms) in
-      let back : drop ((at + length ns + length ms) * 2) (take (at * 2) s ++ bytesOf 2 ns ++ drop x s) ≡ drop ((at + length (ns ++ ms)) * 2) s =
-      ap (λ m. drop m (take (at * 2) s ++ bytesOf 2 ns ++ drop x s)) e
-      ∙ sym (drop-drop (length ms * 2) x (take (at * 2) s ++ bytesOf 2 ns ++ drop x s))
-      ∙ ap (drop (length ms * 2)) (drop-at (take (at * 2) s ++ bytesOf 2 ns) (drop x s) x head-length)
-      ∙ drop-drop (length ms * 2) x s
-      ∙ ap (λ m. drop m s) f in
-      rw (front, back, bytesOf-append, append-assoc (take (at * 2) s) (bytesOf 2 ns) (bytesOf 2 ms))
+numbers-all ns s h =
+    let l : length (bytesOf 2 ns) ≡ length ns * 2 = length-bytesOf 2 ns in
+    sets-front (bytesOf 2 ns) s (omega arith) ∙ ap (λ n. bytesOf 2 ns ++ drop n s) l
 
 -- One write after another.
-pub numbers-then : (at at′ : ℕ) (ns ms s u v : List ℕ) → at′ ≡ at + length ns → at′ * 2 ≤ length s → u ≡ withNumbersAt at ns s → v ≡ withNumbersAt at′ ms u
-    → v ≡ withNumbersAt at (ns ++ ms) s
-numbers-then at at′ ns ms s u v e h p q =
-    q ∙ ap₂ (λ a b. withNumbersAt a ms b) e p ∙ numbers-more at ns s (omega arith) ms
+pub numbers-then : (at at′ : ℕ) (ns ms s u v : List ℕ) → at′ ≡ at + length ns → u ≡ withNumbersAt at ns s → v ≡ withNumbersAt at′ ms u → v ≡ withNumbersAt at (ns ++ ms) s
+unfolding withNumbersAt
+numbers-then at at′ ns ms s u v e p q =
+    let l = length-bytesOf 2 ns in
+    sets-then (at * 2) (at′ * 2) (bytesOf 2 ns) (bytesOf 2 ms) s u v (omega arith) p q ∙ ap (sets s (at * 2)) (sym (bytesOf-append 2 ns ms))
 
 -- ---- A byte as a number
 
@@ -100,11 +83,11 @@ module _ (f : ℕ → ℕ) where
   unfolding below rising
   row-none at a = sym (numbers-none at a)
 
-  pub row-more : (at at′ k n : ℕ) (a u v : List ℕ) → at′ ≡ at + k → at′ * 2 ≤ length a → n ≡ f k → u ≡ withNumbersAt at (map f (below k)) a
+  pub row-more : (at at′ k n : ℕ) (a u v : List ℕ) → at′ ≡ at + k → n ≡ f k → u ≡ withNumbersAt at (map f (below k)) a
       → v ≡ withNumbersAt at′ (n ∷ []) u → v ≡ withNumbersAt at (map f (below (k + 1))) a
-  row-more at at′ k n a u v e h en eu ev =
+  row-more at at′ k n a u v e en eu ev =
       let l = length-row k in
-      numbers-then at at′ (map f (below k)) (f k ∷ []) a u v (omega arith) h eu (ev ∙ ap (λ m. withNumbersAt at′ (m ∷ []) u) en)
+      numbers-then at at′ (map f (below k)) (f k ∷ []) a u v (omega arith) eu (ev ∙ ap (λ m. withNumbersAt at′ (m ∷ []) u) en)
       ∙ ap (λ r. withNumbersAt at r a) (sym (map-below-more f k))
 
   pub row-end : (at k n : ℕ) (a u : List ℕ) → k ≡ n → u ≡ withNumbersAt at (map f (below k)) a → u ≡ withNumbersAt at (map f (below n)) a
@@ -167,12 +150,12 @@ module _ {A : Type 0} (f : List ℕ → Got A) (g : A → List ℕ) (each : (s :
   records-length n m s r = many-sum f g each n s (valuesOf (many f n s)) m r
 
   -- One record more: the numbers ns of x, from number at′ on.
-  pub records-more : (at at′ n m : ℕ) (s ns a u v : List ℕ) (x : A) → at′ ≡ at + m → at′ * 2 ≤ length a → Reads (many f n s) m
+  pub records-more : (at at′ n m : ℕ) (s ns a u v : List ℕ) (x : A) → at′ ≡ at + m → Reads (many f n s) m
       → valuesOf (many f (n + 1) s) ≡ valuesOf (many f n s) ++ (x ∷ []) → g x ≡ ns
       → u ≡ withNumbersAt at (recordNumbers n s) a → v ≡ withNumbersAt at′ ns u → v ≡ withNumbersAt at (recordNumbers (n + 1) s) a
-  records-more at at′ n m s ns a u v x ea h r e en eu ev =
+  records-more at at′ n m s ns a u v x ea r e en eu ev =
       let l = records-length n m s r in
       let more : recordNumbers (n + 1) s ≡ recordNumbers n s ++ g x =
       ap (λ l. concat (map g l)) e ∙ ap concat (map-append g (valuesOf (many f n s)) (x ∷ [])) ∙ concat-more (map g (valuesOf (many f n s))) (g x) in
-      numbers-then at at′ (recordNumbers n s) ns a u v (omega arith) h eu ev
+      numbers-then at at′ (recordNumbers n s) ns a u v (omega arith) eu ev
       ∙ ap (λ l. withNumbersAt at l a) (ap (λ x. recordNumbers n s ++ x) (sym en) ∙ sym more)

@@ -2,7 +2,8 @@
 use mathlib.Core.Bool.{Bool, cond}
 use mathlib.Core.List.{List, [], _∷_, _++_, map}
 use Prim.Native.Nat.{ℕ, _+_, _*_}
-use lib.ListN.{length, take, drop}
+use lib.ListN.{length}
+use lib.Seq.{sets}
 use Rattle.integers.specs.Byte.{signed}
 use Rattle.words.specs.Number.{bytesOf}
 use Rattle.model.specs.Content.{SpacingClass, Job, kindCount, pieceCount}
@@ -13,7 +14,7 @@ use Rattle.records.specs.Records.{valuesOf}
 
 -- The buffer after its numbers from number `at` on became ns; every other byte is unchanged.
 unfoldable pub withNumbersAt : ℕ → List ℕ → List ℕ → List ℕ
-withNumbersAt at ns s = take (at * 2) s ++ bytesOf 2 ns ++ drop ((at + length ns) * 2) s
+withNumbersAt at ns s = sets s (at * 2) (bytesOf 2 ns)
 
 -- A byte as a number: the coordinate that it stands for, or as it is.
 unfoldable pub asNumber : Bool → ℕ → ℕ

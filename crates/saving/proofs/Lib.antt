@@ -1,2 +1,2 @@
-pub mod StoreLaws
+pub mod CopyLaws
 pub mod SavingLaws

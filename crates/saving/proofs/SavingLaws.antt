@@ -6,13 +6,14 @@ use native.Mathlib.Omega.{arith}
 use borrow.Author.Tests.{lt-ltb, le-ltb, eq-eqb, ne-eqb}
 use lib.ListN.{length, getD, take, drop, length-append}
 use lib.Seq.{sets}
+use Rattle.words.proofs.Lists.{sets-then, sets-front}
 use Rattle.words.specs.Bytes.{AreBytes}
 use Rattle.words.specs.Number.{bytes}
 use Rattle.model.specs.Content.{Job, kindCount}
 use Rattle.model.specs.Format.{boardAt, classesAt, classesStated, kindsAt, kindsLength, kindsStated, classFrom, byRisingId, kindBytes, content, refusal}
 use Rattle.model.specs.Lists.{concat, below, rising}
 use Rattle.model.specs.Saving.{boardRecord, classRecord, classList, kindList, sectionBytes, pointerBytes, trailerBytes, written}
-use Rattle.model.specs.Services.{writeOutcome, saveContent}
+use Rattle.model.specs.Services.{writeOutcome, withBytes, saveContent}
 use Rattle.model.specs.Services as Services
 use Rattle.model.specs.declared.Written.the-variants as W
 use Rattle.model.proofs.AcceptedKinds.{kind-count}
@@ -25,7 +26,6 @@ use Rattle.records.specs.Rising.{classesAtFirst, ByRisingId}
 use Rattle.records.proofs.RisingLaws.{length-first}
 use Rattle.job.proofs.CauseLaws.{classes-are}
 use Rattle.job.proofs.ViewLaws.{six-none, inside}
-use Rattle.saving.proofs.StoreLaws.{stored-then, stored-front}
 
 -- ---- The class list
 
@@ -43,7 +43,7 @@ module _ (s places : List ℕ) (at : ℕ) where
   classes-more k a u v h eu ev =
       let l = classes-size (classesAtFirst s places k) in
       let m = length-first s places k in
-      stored-then at (at + k * 3) (listTo k) (take 3 (drop (getD places k 0) s)) a u v (omega arith) eu ev
+      sets-then at (at + k * 3) (listTo k) (take 3 (drop (getD places k 0) s)) a u v (omega arith) eu ev
       ∙ ap (λ r. sets a at (listTo k ++ r)) (sym (class-copied s (getD places k 0) h))
       ∙ ap (sets a at) (sym (concat-below-more (λ i. classFrom s (getD places i 0)) classRecord k))
 
@@ -58,9 +58,9 @@ unfolding bytes
 offsets-written at kindsAt size a u0 u1 u2 u3 e0 e1 e2 e3 =
     let two : List ℕ = bytes 2 0 ++ bytes 2 6 in
     let three : List ℕ = two ++ bytes 2 kindsAt in
-    let w1 : u1 ≡ sets a at two = stored-then at (at + 2) (bytes 2 0) (bytes 2 6) a u0 u1 refl e0 e1 in
-    let w2 : u2 ≡ sets a at three = stored-then at (at + 4) two (bytes 2 kindsAt) a u1 u2 refl w1 e2 in
-    stored-then at (at + 6) three (bytes 2 size) a u2 u3 refl w2 e3
+    let w1 : u1 ≡ sets a at two = sets-then at (at + 2) (bytes 2 0) (bytes 2 6) a u0 u1 refl e0 e1 in
+    let w2 : u2 ≡ sets a at three = sets-then at (at + 4) two (bytes 2 kindsAt) a u1 u2 refl w1 e2 in
+    sets-then at (at + 6) three (bytes 2 size) a u2 u3 refl w2 e3
 
 pub counts-written : (at classes kinds whole : ℕ) (a u0 u1 u2 u3 u4 : List ℕ) → u0 ≡ sets a at (classes ∷ []) → u1 ≡ sets u0 (at + 1) (kinds ∷ [])
     → u2 ≡ sets u1 (at + 2) (bytes 2 whole) → u3 ≡ sets u2 (at + 4) (0x44 ∷ []) → u4 ≡ sets u3 (at + 5) (0x42 ∷ [])
@@ -69,10 +69,10 @@ unfolding bytes
 counts-written at classes kinds whole a u0 u1 u2 u3 u4 e0 e1 e2 e3 e4 =
     let counts : List ℕ = classes ∷ kinds ∷ [] in
     let three : List ℕ = counts ++ bytes 2 whole in
-    let w1 : u1 ≡ sets a at counts = stored-then at (at + 1) (classes ∷ []) (kinds ∷ []) a u0 u1 refl e0 e1 in
-    let w2 : u2 ≡ sets a at three = stored-then at (at + 2) counts (bytes 2 whole) a u1 u2 refl w1 e2 in
-    let w3 : u3 ≡ sets a at (three ++ (0x44 ∷ [])) = stored-then at (at + 4) three (0x44 ∷ []) a u2 u3 refl w2 e3 in
-    stored-then at (at + 5) (three ++ (0x44 ∷ [])) (0x42 ∷ []) a u3 u4 refl w3 e4
+    let w1 : u1 ≡ sets a at counts = sets-then at (at + 1) (classes ∷ []) (kinds ∷ []) a u0 u1 refl e0 e1 in
+    let w2 : u2 ≡ sets a at three = sets-then at (at + 2) counts (bytes 2 whole) a u1 u2 refl w1 e2 in
+    let w3 : u3 ≡ sets a at (three ++ (0x44 ∷ [])) = sets-then at (at + 4) three (0x44 ∷ []) a u2 u3 refl w2 e3 in
+    sets-then at (at + 5) (three ++ (0x44 ∷ [])) (0x42 ∷ []) a u3 u4 refl w3 e4
 
 pub trailer-written : (classes kinds size : ℕ) (a u v : List ℕ)
     → u ≡ sets a (6 + classes * 3 + size) (bytes 2 0 ++ bytes 2 6 ++ bytes 2 (6 + classes * 3) ++ bytes 2 size)
@@ -80,7 +80,7 @@ pub trailer-written : (classes kinds size : ℕ) (a u v : List ℕ)
     → v ≡ sets a (6 + classes * 3 + size) (trailerBytes classes kinds size)
 unfolding trailerBytes pointerBytes bytes
 trailer-written classes kinds size a u v eu ev =
-    stored-then (6 + classes * 3 + size) (6 + classes * 3 + size + 8) (bytes 2 0 ++ bytes 2 6 ++ bytes 2 (6 + classes * 3) ++ bytes 2 size)
+    sets-then (6 + classes * 3 + size) (6 + classes * 3 + size + 8) (bytes 2 0 ++ bytes 2 6 ++ bytes 2 (6 + classes * 3) ++ bytes 2 size)
     ((classes ∷ kinds ∷ []) ++ bytes 2 (6 + classes * 3 + size + 14) ++ (0x44 ∷ 0x42 ∷ [])) a u v refl eu ev
 
 -- ---- The job
@@ -122,10 +122,10 @@ module _ (s : List ℕ) (b : AreBytes s) (e : refusal s ≡ 0) where
       let lk = kinds-size s e b in
       let lb : length B ≡ 6 = board-size (content s .sheet) in
       let w0 : u0 ≡ sets a 0 B = e0 ∙ ap (sets a 0) (board-is board eb) in
-      let w1 : u1 ≡ sets a 0 (B ++ C) = stored-then 0 6 B C a u0 u1 (omega arith) w0 (e1 ∙ ap (sets u0 6) (classes-is classes nc ec enc)) in
+      let w1 : u1 ≡ sets a 0 (B ++ C) = sets-then 0 6 B C a u0 u1 (omega arith) w0 (e1 ∙ ap (sets u0 6) (classes-is classes nc ec enc)) in
       let w2 : u2 ≡ sets a 0 (B ++ C ++ K) =
-      stored-then 0 (6 + nc * 3) (B ++ C) K a u1 u2 (omega (arith, length-append B C)) w1 (e2 ∙ ap (sets u1 (6 + nc * 3)) (kinds-is kinds size ek es)) in
-      stored-then 0 (6 + nc * 3 + size) (B ++ C ++ K) T a u2 u3 (omega (arith, length-append (B ++ C) K, length-append B C)) w2
+      sets-then 0 (6 + nc * 3) (B ++ C) K a u1 u2 (omega (arith, length-append B C)) w1 (e2 ∙ ap (sets u1 (6 + nc * 3)) (kinds-is kinds size ek es)) in
+      sets-then 0 (6 + nc * 3 + size) (B ++ C ++ K) T a u2 u3 (omega (arith, length-append (B ++ C) K, length-append B C)) w2
       (e3 ∙ ap (sets u2 (6 + nc * 3 + size)) (trailer-is nc nk size enc enk es))
       ∙ ap (λ r. sets a 0 (r ++ T)) (append-assoc B C K)
 
@@ -134,8 +134,8 @@ unfolding saveContent
 save-short j out h = rw (lt-ltb _ _ h)
 
 pub save-fits : (j : Job) (out : List ℕ) → length (written j) ≤ length out → saveContent j out ≡ writeOutcome (W.Count (length (written j))) (sets out 0 (written j))
-unfolding saveContent
-save-fits j out h = rw (le-ltb _ _ h, stored-front (written j) out h)
+unfolding saveContent withBytes
+save-fits j out h = rw (le-ltb _ _ h, sets-front (written j) out h)
 
 module _ (s out : List ℕ) where
   pub save-refused : (refusal s ≡ 0 → ⊥) → Services.save s out ≡ writeOutcome (W.Refused (refusal s)) out

@@ -1,11 +1,11 @@
 -- Elements of two lists, one after the other, and lists of bytes.
-use mathlib.Core.Path.{_≡_, ap, subst, _∙_}
+use mathlib.Core.Path.{_≡_, ap, ap₂, subst, _∙_}
 use mathlib.Core.List.{List, [], _∷_, _++_}
-use Prim.Native.Nat.{ℕ, zero, suc, _+_, _<_}
-use native.Mathlib.Nat.{add-zero}
+use Prim.Native.Nat.{ℕ, zero, suc, _+_, _≤_, _<_}
+use native.Mathlib.Nat.{add-zero, zero-add}
 use native.Mathlib.Omega.{arith}
 use lib.ListN.{length, getD, set, take, drop, List·getD-append}
-use lib.Seq.{getD-append-add, getD-drop, sets}
+use lib.Seq.{getD-append-add, getD-drop, sets, sets-eq}
 use Rattle.words.specs.Bytes.{AreBytes}
 
 -- What stands m places behind a first list of n elements.
@@ -22,6 +22,13 @@ sets-append l i [] ws = ap (λ k. sets l k ws) (add-zero i)
 sets-append l i (v ∷ vs) ws =
     let next : i + suc (length vs) ≡ suc i + length vs = omega arith in
     ap (λ k. sets (sets (set l i v) (suc i) vs) k ws) next ∙ sets-append (set l i v) (suc i) vs ws
+
+pub sets-then : (i j : ℕ) (vs ws l u v : List ℕ) → j ≡ i + length vs → u ≡ sets l i vs → v ≡ sets u j ws → v ≡ sets l i (vs ++ ws)
+sets-then i j vs ws l u v e eu ev = ev ∙ ap₂ (λ k m. sets k m ws) eu e ∙ sets-append l i vs ws
+
+-- Stored at the front of a list that has room, they are its first elements, and what is behind stays.
+pub sets-front : (vs l : List ℕ) → length vs ≤ length l → sets l 0 vs ≡ vs ++ drop (length vs) l
+sets-front vs l h = sets-eq vs l 0 (omega arith) ∙ ap (λ n. vs ++ drop n l) (zero-add (length vs))
 
 -- Two lists of bytes, one after the other, the first k of one and what is behind them are lists of bytes.
 pub bytes-append : (p q : List ℕ) → AreBytes p → AreBytes q → AreBytes (p ++ q)

@@ -17,7 +17,7 @@ same-length : tie.Need-same-length
 same-length c = search needs
 
 returns : tie.Need-returns
-returns c = c .before .before .put-u16 .ensures ∙ numbers-one (c .before .before .before .before .before .args .at) (c .before .before .before .before .before .args .n) (c .before .before .before .before .before .args .answer .now)
+returns c = c .before .before .put-u16 .ensures ∙ numbers-one (c .before .before .before .before .before .args .at) (c .before .before .before .before .before .args .n) (c .before .before .before .before .before .args .answer .now) (c .before .before .before .before .before .pre .0)
 
 pub put-spec : {M : Type 1} → statement M
 put-spec = tie.close (tie.spec mul-put-u16 cast-put-u16 put-u16-requires same-length returns)

@@ -42,7 +42,7 @@ loop-less c = search needs
 loop-again : tie.Need-loop-again Inv-loop μ-loop
 loop-again c = (
   (omega arith, c .before .before .put .kept .0 ∙ c .before .before .before .before .before .before .before .loop .inv .0 .1),
-  row-more (λ i. asNumber (c .before .before .before .before .before .before .before .before .before .before .args .coordinates) (byteAt (c .before .before .before .before .before .before .before .before .before .before .args .s .now) (c .before .before .before .before .before .before .before .before .before .before .args .from + i))) (c .before .before .before .before .before .before .before .before .before .before .args .at) _ (c .before .before .before .before .before .before .before .loop .k) _ _ _ _ refl (omega arith)
+  row-more (λ i. asNumber (c .before .before .before .before .before .before .before .before .before .before .args .coordinates) (byteAt (c .before .before .before .before .before .before .before .before .before .before .args .s .now) (c .before .before .before .before .before .before .before .before .before .before .args .from + i))) (c .before .before .before .before .before .before .before .before .before .before .args .at) _ (c .before .before .before .before .before .before .before .loop .k) _ _ _ _ refl
       (c .before .before .before .to-number .ensures .0 ∙ ap (asNumber (c .before .before .before .before .before .before .before .before .before .before .args .coordinates)) (c .before .before .before .before .byte .ensures .0)) (c .before .before .before .before .before .before .before .loop .inv .1) (c .before .before .put .ensures),
 )
 

@@ -39,7 +39,7 @@ loop-less c = search needs
 loop-again : tie.Need-loop-again Inv-loop μ-loop
 loop-again c = (
   (omega arith, c .before .before .put .kept .0 ∙ c .before .before .before .before .before .before .loop .inv .0 .1),
-  row-more (λ i. wordAt (c .before .before .before .before .before .before .before .before .before .args .s .now) (c .before .before .before .before .before .before .before .before .before .args .from + i * 2)) 0 (c .before .before .before .before .before .before .loop .k) (c .before .before .before .before .before .before .loop .k) _ _ _ _ (omega arith) (omega arith)
+  row-more (λ i. wordAt (c .before .before .before .before .before .before .before .before .before .args .s .now) (c .before .before .before .before .before .before .before .before .before .args .from + i * 2)) 0 (c .before .before .before .before .before .before .loop .k) (c .before .before .before .before .before .before .loop .k) _ _ _ _ (omega arith)
       (c .before .before .before .word .ensures .0) (c .before .before .before .before .before .before .loop .inv .1) (c .before .before .put .ensures),
 )
 

@@ -1,4 +1,3 @@
-use native.Mathlib.Omega.{arith}
 use Rattle.reading.proofs.ClassLaws.{class-written}
 use borrow.Author.Needs.{needs}
 use Rattle.reading.proofs.classes.put_class.Statement.{statement}
@@ -23,7 +22,7 @@ same-length : tie.Need-same-length
 same-length c = search needs
 
 returns : tie.Need-returns
-returns c = class-written (c .before .before .before .before .before .before .before .before .before .before .before .args .job .now) (c .before .before .before .before .before .before .before .before .before .before .before .args .o) (c .before .before .before .before .before .before .before .before .before .before .before .args .at) _ (c .before .before .before .before .before .before .before .before .before .before .before .args .answer .now) _ _ (omega (arith, c .before .before .before .before .before .before .before .before .before .before .before .pre .1)) (c .before .before .before .before .byte .ensures .0) (c .before .before .before .before .before .before .before .put-bytes .ensures) (c .before .before .put-gap .ensures)
+returns c = class-written (c .before .before .before .before .before .before .before .before .before .before .before .args .job .now) (c .before .before .before .before .before .before .before .before .before .before .before .args .o) (c .before .before .before .before .before .before .before .before .before .before .before .args .at) _ (c .before .before .before .before .before .before .before .before .before .before .before .args .answer .now) _ _ (c .before .before .before .before .byte .ensures .0) (c .before .before .before .before .before .before .before .put-bytes .ensures) (c .before .before .put-gap .ensures)
 
 pub put-class-spec : {M : Type 1} → statement M
 put-class-spec = tie.close (tie.spec put-bytes-requires add-byte byte-requires add-put-gap put-gap-requires same-length returns)

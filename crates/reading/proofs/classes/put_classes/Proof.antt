@@ -44,7 +44,7 @@ loop-less : tie.Need-loop-less Inv-loop μ-loop
 loop-less c = search needs
 
 loop-again : tie.Need-loop-again Inv-loop μ-loop
-loop-again c = ((omega arith, c .before .before .put-class .kept .1 .1 .0 ∙ c .before .before .before .before .before .loop .inv .0 .1), classes-more (c .before .before .before .before .before .before .before .before .before .args .job .now) (c .before .before .before .before .before .before .places .result) (c .before .before .before .before .before .before .before .before .before .args .at) (c .before .before .before .before .before .loop .k) _ _ _ (omega (arith, c .before .before .before .before .before .before .before .before .before .pre .0 .1)) (c .before .before .before .before .before .loop .inv .1) (c .before .before .put-class .ensures))
+loop-again c = ((omega arith, c .before .before .put-class .kept .1 .1 .0 ∙ c .before .before .before .before .before .loop .inv .0 .1), classes-more (c .before .before .before .before .before .before .before .before .before .args .job .now) (c .before .before .before .before .before .before .places .result) (c .before .before .before .before .before .before .before .before .before .args .at) (c .before .before .before .before .before .loop .k) _ _ _ (c .before .before .before .before .before .loop .inv .1) (c .before .before .put-class .ensures))
 
 same-length : tie.Need-same-length Inv-loop μ-loop
 same-length c = c .before .loop .inv .0 .1

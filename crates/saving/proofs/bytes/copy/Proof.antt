@@ -3,7 +3,7 @@ use Prim.Native.Nat.{_≤_, _-_}
 use native.Mathlib.Omega.{arith}
 use lib.ListN.{length, take, drop, length-set}
 use lib.Seq.{sets}
-use Rattle.saving.proofs.StoreLaws.{copy-none, copy-more, copy-all}
+use Rattle.saving.proofs.CopyLaws.{copy-none, copy-more, copy-all}
 use borrow.Author.Needs.{needs}
 use Rattle.saving.proofs.bytes.copy.Statement.{statement}
 use Rattle.saving.proofs.bytes.copy.Tie as tie
