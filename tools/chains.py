@@ -74,7 +74,7 @@ def show(path):
 def typed(text, chains):
     """Of each definition whose `c` is one of the records: its chain and that record."""
     found = {}
-    for m in re.finditer(r"^([\w\-′]+) : (.*(?:\n    .*)*)", text, re.M):
+    for m in re.finditer(r"^(?:abbrev )?([\w\-′]+) : (.*(?:\n    .*)*)", text, re.M):
         need = re.search(r"\b([\w\-]+)\.(Need-[\w\-]+)", m.group(2))
         given = re.search(r"\(c : ([\w\-]+)\.([\w\-]+)", m.group(2))
         if need and need.group(1) in chains:
@@ -123,7 +123,7 @@ def fix(path, chains):
     out = [text[: heads[0]]]
     for a, b in zip(heads, heads[1:]):
         block = text[a:b]
-        name = re.match(r"([\w\-′]+) : ", block)
+        name = re.match(r"(?:abbrev )?([\w\-′]+) : ", block)
         known = name and lemmas.get(name.group(1))
         out.append(corrected(block, known[0], known[1], lemmas) if known else block)
     open(path, "w").write("".join(out))

@@ -1,27 +1,32 @@
 -- Pieces whose bounding boxes an axis direction separates at the gap are not in conflict. Assumes nothing.
 use mathlib.Core.Bool.{Bool, true, false, not, _||_}
 use mathlib.Core.List.{List, [], _∷_, map}
-use mathlib.Core.Path.{_≡_, refl, sym, ap, subst, _∙_}
+use mathlib.Core.Path.{_≡_, refl, sym, ap, subst, _∙_, fun-ext}
 use Prim.Native.Nat.{ℕ, _+_, _<_}
+use native.Mathlib.Nat.{mul-one}
 use native.Mathlib.Omega.{arith}
-use lib.IntN.{ℤ, pos, _+ℤ_}
+use lib.IntN.{ℤ, pos, natAbs, _+ℤ_, +ℤ-idr}
 use lib.ListN.{length, length-append}
 use lib.Signed.{leZ, _≤ℤ_, ≤ℤ-refl}
-use Rattle.integers.proofs.Solver.{_⊞_, _≲_}
+use Rattle.integers.proofs.Solver.{ring, #, _⊞_, _⊠_, _≈_, _≲_}
 use Rattle.integers.proofs.Certificates.{order, _⊢_by_, hyp, _⊕_}
 use Rattle.integers.proofs.Order.{≤ℤ-trans, leZ-true, le-leZ}
 use Rattle.integers.proofs.Extrema.{max-upper-left, max-upper-right, min-lower-left, min-lower-right}
-use Rattle.model.specs.Content.{Part}
-use Rattle.model.specs.Geometry.{separated, piecesConflict}
-use Rattle.model.specs.Lists.{any, concat}
+use Rattle.model.specs.Content.{Vertex, vertex, Part}
+use Rattle.model.specs.Geometry.{Direction, direction, along, separated, piecesConflict}
+use Rattle.model.specs.Lists.{any, concat, largestZ, smallestZ}
 use Rattle.model.proofs.Box.{concat-one}
-use Rattle.model.proofs.Moves.{Vertexed}
+use Rattle.model.proofs.Conflict.{separated-symmetric}
+use Rattle.model.proofs.Moves.{Vertexed, largest-shifted, smallest-shifted}
+use Rattle.convexity.specs.Parts.{SoundPart, SoundParts}
+use Rattle.convexity.specs.Square.{clearance, separatesBy}
+use Rattle.convexity.proofs.Soundness.{shifted-sound, vertexed-sound}
+use Rattle.convexity.proofs.Theorems.{direction-separated}
 use Rattle.polygons.specs.Boxes.{extentsOf, joined}
 use Rattle.polygons.specs.Flat.{shifted}
 use Rattle.polygons.specs.declared.extents.Extents.{Extents}
 use Rattle.polygons.proofs.BoxLaws.{extents-append}
-use Rattle.geometry.specs.Apart.{boxesApart}
-use Rattle.geometry.proofs.PairLaws.{apart-boxes, apart-moved}
+use Rattle.geometry.specs.Apart.{clearOf, boxesApart}
 
 -- ---- boxes within boxes
 
@@ -124,34 +129,102 @@ parts-inside (P ∷ Q ∷ Ps) h e i =
       parts-inside (Q ∷ Ps) (h .1) e (inside-trans _ _ _ (inside-second (extentsOf P) (extentsOf (concat (Q ∷ Ps)))) both),
     )
 
--- ---- pieces
+-- ---- parts whose boxes are apart
 
--- Parts whose boxes are apart are separated.
-pub separated-boxes : (gap : ℕ) (P Q : Part) (dx dy : ℤ) → 0 < length Q → boxesApart gap (extentsOf P) (extentsOf Q) dx dy ≡ true → separated gap P (map (shifted dx dy) Q) ≡ true
-separated-boxes gap P Q dx dy h e = sym (apart-moved gap P Q dx dy h) ∙ apart-boxes gap P Q dx dy e
+unitX : Direction
+unitX = direction (pos 1) (pos 0)
+
+unitY : Direction
+unitY = direction (pos 0) (pos 1)
+
+along-x : along unitX ≡ (λ v. v .x)
+unfolding along unitX
+along-x = fun-ext (λ v. ring 2 (λ x y. # (pos 1) ⊠ x ⊞ # (pos 0) ⊠ y ≈ x) tt (v .x) (v .y))
+
+along-y : along unitY ≡ (λ v. v .y)
+unfolding along unitY
+along-y = fun-ext (λ v. ring 2 (λ x y. # (pos 0) ⊠ x ⊞ # (pos 1) ⊠ y ≈ y) tt (v .x) (v .y))
+
+-- An axis direction u, along which g measures.
+pub record Axis (u : Direction) (g : Vertex → ℤ) : Type 0 where
+  pub measure : along u ≡ g
+  pub pad : (gap : ℕ) → clearance gap u ≡ pos gap
+  pub some : u ≡ direction (pos 0) (pos 0) → ⊥
+
+axis-x : Axis unitX (λ v. v .x)
+unfolding clearance unitX
+axis-x = record { measure = along-x; pad = λ gap. ap pos (mul-one gap); some = λ e. let n : _≡_ {A = ℕ} 1 0 = ap (λ (d : Direction). natAbs (d .a)) e in omega arith }
+
+axis-y : Axis unitY (λ v. v .y)
+unfolding clearance unitY
+axis-y = record { measure = along-y; pad = λ gap. ap pos (mul-one gap); some = λ e. let n : _≡_ {A = ℕ} 1 0 = ap (λ (d : Direction). natAbs (d .b)) e in omega arith }
+
+module _ (gap : ℕ) (P Q : Part) (dx dy : ℤ) (soundP : SoundPart P) (soundQ : SoundPart Q) where
+  abbrev R : Part
+  R = map (shifted dx dy) Q
+
+  someQ : 0 < length Q
+  someQ = omega (arith, soundQ .corners)
+
+  module _ {u : Direction} {g : Vertex → ℤ} (axis : Axis u g) where
+    -- P ends the gap before Q begins
+    before : clearOf gap (largestZ (map g P)) (pos 0) (smallestZ (map g Q)) (g (vertex dx dy)) ≡ true → separated gap P R ≡ true
+    unfolding separatesBy
+    before e =
+        direction-separated P R soundP (shifted-sound dx dy Q soundQ) gap u (axis .some)
+        (ap (leZ (largestZ (map (along u) P) +ℤ clearance gap u)) (smallest-shifted u dx dy Q someQ)
+        ∙ ap (λ k. leZ (largestZ (map (along u) P) +ℤ k) (smallestZ (map (along u) Q) +ℤ along u (vertex dx dy))) (axis .pad gap)
+        ∙ ap (λ (f : Vertex → ℤ). leZ (largestZ (map f P) +ℤ pos gap) (smallestZ (map f Q) +ℤ f (vertex dx dy))) (axis .measure)
+        ∙ ap (λ s. leZ (s +ℤ pos gap) (smallestZ (map g Q) +ℤ g (vertex dx dy))) (sym (+ℤ-idr (largestZ (map g P)))) ∙ e)
+
+    -- Q ends the gap before P begins
+    behind : clearOf gap (largestZ (map g Q)) (g (vertex dx dy)) (smallestZ (map g P)) (pos 0) ≡ true → separated gap P R ≡ true
+    unfolding separatesBy
+    behind e =
+        separated-symmetric gap P R
+        ∙ direction-separated R P (shifted-sound dx dy Q soundQ) soundP gap u (axis .some)
+        (ap (λ s. leZ (s +ℤ clearance gap u) (smallestZ (map (along u) P))) (largest-shifted u dx dy Q someQ)
+        ∙ ap (λ k. leZ (largestZ (map (along u) Q) +ℤ along u (vertex dx dy) +ℤ k) (smallestZ (map (along u) P))) (axis .pad gap)
+        ∙ ap (λ (f : Vertex → ℤ). leZ (largestZ (map f Q) +ℤ f (vertex dx dy) +ℤ pos gap) (smallestZ (map f P))) (axis .measure)
+        ∙ ap (leZ (largestZ (map g Q) +ℤ g (vertex dx dy) +ℤ pos gap)) (sym (+ℤ-idr (smallestZ (map g P)))) ∙ e)
+
+  -- Parts whose boxes are apart are separated.
+  pub separated-boxes : boxesApart gap (extentsOf P) (extentsOf Q) dx dy ≡ true → separated gap P R ≡ true
+  unfolding boxesApart extentsOf
+  separated-boxes = one-of-four _ _ _ _ (before axis-x) (before axis-y) (behind axis-x) (behind axis-y)
+    where
+      one-of-four : {C : Type 0} (a b c d : Bool) → (a ≡ true → C) → (b ≡ true → C) → (c ≡ true → C) → (d ≡ true → C) → (a || b || c || d) ≡ true → C
+      one-of-four true b c d p q r s e = p refl
+      one-of-four false true c d p q r s e = q refl
+      one-of-four false false true d p q r s e = r refl
+      one-of-four false false false d p q r s e = s e
+
+-- ---- pieces
 
 module _ (gap : ℕ) (E F : Extents) (dx dy : ℤ) (apart : boxesApart gap E F dx dy ≡ true) where
   -- one part against all of the other piece
-  part-apart : (P : Part) (Qs : List Part) → Inside (extentsOf P) E → Vertexed Qs → AllInside F Qs
+  part-apart : (P : Part) (Qs : List Part) → SoundPart P → Inside (extentsOf P) E → SoundParts Qs → AllInside F Qs
       → any (λ Q. not (separated gap P Q)) (map (map (shifted dx dy)) Qs) ≡ false
   unfolding any
-  part-apart P [] i h k = refl
-  part-apart P (Q ∷ Qs) i h k =
+  part-apart P [] g i h k = refl
+  part-apart P (Q ∷ Qs) g i h k =
       ap (λ t. not t || any (λ Q. not (separated gap P Q)) (map (map (shifted dx dy)) Qs))
-      (separated-boxes gap P Q dx dy (h .0) (apart-within gap (extentsOf P) (extentsOf Q) E F dx dy i (k .0) apart))
-      ∙ part-apart P Qs i (h .1) (k .1)
+      (separated-boxes gap P Q dx dy g (h .0) (apart-within gap (extentsOf P) (extentsOf Q) E F dx dy i (k .0) apart))
+      ∙ part-apart P Qs g i (h .1) (k .1)
 
   -- Pieces within boxes that are apart are not in conflict.
-  pub pieces-apart : (Ps Qs : List Part) → AllInside E Ps → Vertexed Qs → AllInside F Qs → piecesConflict gap Ps (map (map (shifted dx dy)) Qs) ≡ false
+  pieces-apart : (Ps Qs : List Part) → SoundParts Ps → AllInside E Ps → SoundParts Qs → AllInside F Qs → piecesConflict gap Ps (map (map (shifted dx dy)) Qs) ≡ false
   unfolding piecesConflict any
-  pieces-apart [] Qs i h k = refl
-  pieces-apart (P ∷ Ps) Qs i h k =
-      ap (λ t. t || any (λ P. any (λ Q. not (separated gap P Q)) (map (map (shifted dx dy)) Qs)) Ps) (part-apart P Qs (i .0) h k)
-      ∙ pieces-apart Ps Qs (i .1) h k
+  pieces-apart [] Qs g i h k = refl
+  pieces-apart (P ∷ Ps) Qs g i h k =
+      ap (λ t. t || any (λ P. any (λ Q. not (separated gap P Q)) (map (map (shifted dx dy)) Qs)) Ps) (part-apart P Qs (g .0) (i .0) h k)
+      ∙ pieces-apart Ps Qs (g .1) (i .1) h k
 
 -- Pieces whose boxes an axis direction separates at the gap are not in conflict.
-pub boxes-apart : (gap : ℕ) (Ps Qs : List Part) (dx dy : ℤ) → Vertexed Ps → Vertexed Qs → boxesApart gap (extentsOf (concat Ps)) (extentsOf (concat Qs)) dx dy ≡ true
+pub boxes-apart : (gap : ℕ) (Ps Qs : List Part) (dx dy : ℤ) → SoundParts Ps → SoundParts Qs → boxesApart gap (extentsOf (concat Ps)) (extentsOf (concat Qs)) dx dy ≡ true
     → piecesConflict gap Ps (map (map (shifted dx dy)) Qs) ≡ false
 boxes-apart gap Ps Qs dx dy h k e =
-    pieces-apart gap (extentsOf (concat Ps)) (extentsOf (concat Qs)) dx dy e Ps Qs (parts-inside Ps h (extentsOf (concat Ps)) (inside-self (extentsOf (concat Ps)))) k
-    (parts-inside Qs k (extentsOf (concat Qs)) (inside-self (extentsOf (concat Qs))))
+    pieces-apart gap (extentsOf (concat Ps)) (extentsOf (concat Qs)) dx dy e Ps Qs h (within Ps h) k (within Qs k)
+  where
+    within : (Ps : List Part) → SoundParts Ps → AllInside (extentsOf (concat Ps)) Ps
+    within Ps h = parts-inside Ps (vertexed-sound Ps h) (extentsOf (concat Ps)) (inside-self (extentsOf (concat Ps)))

@@ -3,5 +3,6 @@ pub mod Sizes
 pub mod Lowest
 pub mod EdgeLaws
 pub mod PairLaws
+pub mod DistanceLaws
 pub mod BoxesApart
 pub mod PieceLaws

@@ -11,8 +11,8 @@ use Rattle.model.specs.Content.{Part}
 use Rattle.model.specs.Geometry.{separated, piecesConflict}
 use Rattle.model.specs.Lists.{any, rising, below}
 use Rattle.model.proofs.Folds as Folds
-use Rattle.model.proofs.Moves.{Vertexed}
 use Rattle.model.proofs.Tests.{any-map}
+use Rattle.convexity.specs.Parts.{SoundPart, SoundParts}
 use Rattle.polygons.specs.Boxes.{box}
 use Rattle.polygons.specs.Flat.{partOf, shifted}
 use Rattle.polygons.proofs.Flat.{part-length}
@@ -81,15 +81,15 @@ part-some table p f size i l =
     let a : ℕ = p .first + i * 20 + 4 in
     omega (arith, f .least i l, f .short i l, f .few, f .within, part-length (take (getD (p .sizes) i 0 * 2) (drop a table)), length-take (getD (p .sizes) i 0 * 2) (drop a table), length-drop a table)
 
--- the parts before n, from part a on, have vertices
-vertexed-rising : (f : ℕ → Part) (a n : ℕ) → ((i : ℕ) → i < a + n → 0 < length (f i)) → Vertexed (map f (rising a n))
+-- the parts before n, from part a on, are sound
+sound-rising : (f : ℕ → Part) (a n : ℕ) → ((i : ℕ) → i < a + n → SoundPart (f i)) → SoundParts (map f (rising a n))
 unfolding rising
-vertexed-rising f a zero h = tt
-vertexed-rising f a (suc n) h = (h a (omega arith), vertexed-rising f (suc a) n (λ i l. h i (omega arith)))
+sound-rising f a zero h = tt
+sound-rising f a (suc n) h = (h a (omega arith), sound-rising f (suc a) n (λ i l. h i (omega arith)))
 
-pub standing-vertexed : (table : List ℤ) (p : Piece) → Standing table p → Vertexed (partsIn table p)
+pub standing-sound : (table : List ℤ) (p : Piece) → Standing table p → SoundParts (partsIn table p)
 unfolding partsIn below
-standing-vertexed table p s = vertexed-rising (partIn table p) 0 (p .count) (λ i l. part-some table p (s .fitting) (s .size) i (omega arith))
+standing-sound table p s = sound-rising (partIn table p) 0 (p .count) (λ i l. s .sound i (omega arith))
 
 -- Parts whose boxes in the table are apart are not in conflict.
 pub boxed-apart : (gap : ℕ) (table : List ℤ) (p q : Piece) (i m : ℕ) (dx dy : ℤ) → Standing table p → Standing table q → i < p .count → m < q .count
@@ -97,5 +97,5 @@ pub boxed-apart : (gap : ℕ) (table : List ℤ) (p q : Piece) (i m : ℕ) (dx d
 boxed-apart gap table p q i m dx dy sp sq hi hm e =
     sym
     (ap not
-    (separated-boxes gap (partIn table p i) (partIn table q m) dx dy (part-some table q (sq .fitting) (sq .size) m hm)
+    (separated-boxes gap (partIn table p i) (partIn table q m) dx dy (sp .sound i hi) (sq .sound m hm)
     ((λ j. boxesApart gap (sym (sp .boxed i hi) j) (sym (sq .boxed m hm) j) dx dy) ∙ e)))

@@ -1,4 +1,4 @@
--- The test of a pair of parts as it is computed: the normals of the edges, then the four axis directions by the boxes.
+-- The tests of a pair of parts as they are computed: of their boxes, and of the normals of their edges.
 use mathlib.Core.Bool.{Bool, _||_}
 use Prim.Native.Nat.{ℕ}
 use lib.IntN.{ℤ, pos, _+ℤ_, _-ℤ_}
@@ -6,7 +6,6 @@ use lib.Signed.{leZ}
 use Rattle.model.specs.Content.{vertex, Part}
 use Rattle.model.specs.Geometry.{normals}
 use Rattle.model.specs.Lists.{any}
-use Rattle.polygons.specs.Boxes.{extentsOf}
 use Rattle.geometry.specs.Clears.{clears}
 use Rattle.polygons.specs.declared.extents.Extents.{Extents}
 
@@ -22,9 +21,8 @@ boxesApart gap e f dx dy =
     || clearOf gap (f .«max_x») dx (e .«min_x») (pos 0)
     || clearOf gap (f .«max_y») dy (e .«min_y») (pos 0)
 
--- The test of a pair as it is computed: the normals of P, then those of Q with the parts changed over, then the axis directions by the boxes.
-unfoldable pub apartAt : ℕ → Part → Part → ℤ → ℤ → Bool
-apartAt gap P Q dx dy =
-    any (clears gap P Q (vertex (dx -ℤ pos 0) (dy -ℤ pos 0))) (normals P)
-    || any (clears gap Q P (vertex (pos 0 -ℤ dx) (pos 0 -ℤ dy))) (normals Q)
-    || boxesApart gap (extentsOf P) (extentsOf Q) dx dy
+-- The test of a pair at gap 0 as it is computed: the normals of P, then those of Q with the parts changed over.
+unfoldable pub disjointAt : Part → Part → ℤ → ℤ → Bool
+disjointAt P Q dx dy =
+    any (clears P Q (vertex (dx -ℤ pos 0) (dy -ℤ pos 0))) (normals P)
+    || any (clears Q P (vertex (pos 0 -ℤ dx) (pos 0 -ℤ dy))) (normals Q)

@@ -1,4 +1,5 @@
 -- The definitions that the contracts of this crate cite beside the model's.
 pub mod Clears
+pub mod Compact
 pub mod Apart
 pub mod Pieces

@@ -8,9 +8,11 @@ use lib.ListN.{length, getD, take, drop}
 use Rattle.model.specs.Content.{Part}
 use Rattle.model.specs.Geometry.{separated}
 use Rattle.model.specs.Lists.{any, below}
+use Rattle.convexity.specs.Parts.{SoundPart}
 use Rattle.polygons.specs.Boxes.{box, extentsOf}
 use Rattle.polygons.specs.Flat.{partOf}
 use Rattle.polygons.specs.declared.extents.Extents.{Extents}
+use Rattle.geometry.specs.Compact.{Compact}
 use Rattle.geometry.specs.declared.pieces.Piece.{Piece}
 
 -- Part i of the piece.
@@ -35,11 +37,13 @@ pub record Fitting (p : Piece) : Type 0 where
   pub least : (i : ℕ) → i < p .count → 1 ≤ getD (p .sizes) i 0
   pub short : (i : ℕ) → i < p .count → getD (p .sizes) i 0 ≤ 8
 
--- It stands in the table, each part under its own box.
+-- It stands in the table, each part under its own box. Its parts are sound and their numbers small.
 pub record Standing (table : List ℤ) (p : Piece) : Type 0 where
   pub size : length table ≡ 4096
   pub fitting : Fitting p
   pub boxed : (i : ℕ) → i < p .count → boxIn table p i ≡ extentsOf (partIn table p i)
+  pub sound : (i : ℕ) → i < p .count → SoundPart (partIn table p i)
+  pub compact : (i : ℕ) → i < p .count → Compact (partIn table p i)
 
 -- The part P is not separated from some part of Qs.
 unfoldable pub partConflicts : ℕ → Part → List Part → Bool

@@ -1,33 +1,19 @@
-// How far the vertices of a part lie along a direction (a, b), and how far apart two parts must lie along it.
+// How far the vertices of a part lie along a direction (a, b).
 ghost use mathlib.Core.List.{map};
 ghost use mathlib.Core.Path.{_≡_};
 ghost use Prim.Native.Nat.{_+_, _*_, _<_};
-ghost use lib.IntN.{natAbs, pos, _-ℤ_};
+ghost use lib.IntN.{_-ℤ_};
 ghost use lib.ListN.{length};
 ghost use lib.Signed.{leZ};
 ghost use Rattle.integers.specs.Extrema.{minZ};
 ghost use Rattle.model.specs.Content.{vertex};
 ghost use Rattle.model.specs.Geometry;
-ghost use Rattle.model.specs.Geometry.{direction, vertexAt, clearance};
+ghost use Rattle.model.specs.Geometry.{direction, vertexAt};
 ghost use Rattle.model.specs.Lists.{smallestZ};
 ghost use Rattle.polygons.specs.Flat.{partOf};
 ghost use Rattle.geometry.specs.Clears.{Small, leadOf};
 use integers::dot;
 use polygons::vertices::coordinate;
-
-// The size of a number, whatever its sign.
-fn magnitude(a: i32) -> i64
-    ensures { λ r. ⌜ Small (pos (natAbs a)) 31 r ⌝ }
-{
-    if a < 0 { 0 - (a as i64) } else { a as i64 }
-}
-
-// How far the gap reaches along (a, b): gap × (|a| + |b|).
-fn gap_along(gap: u16, a: i32, b: i32) -> i64
-    ensures { λ r. ⌜ Small (clearance gap (direction a b)) 48 r ⌝ }
-{
-    (gap as i64) * (magnitude(a) + magnitude(b))
-}
 
 // How far vertex k lies along (a, b).
 pub fn vertex_along(p: &[i16], k: usize, a: i32, b: i32) -> i64
@@ -79,9 +65,9 @@ pub fn lies_beyond(p: &[i16], a: i32, b: i32, limit: i64) -> bool
     true
 }
 
-// How much further along (a, b) than p the part q must lie before they are moved, p by (px, py) and q by (qx, qy), to clear it by the gap afterwards.
-pub fn lead(px: i16, py: i16, qx: i16, qy: i16, a: i32, b: i32, gap: u16) -> i64
-    ensures { λ r. ⌜ Small (leadOf gap (vertex (qx -ℤ px) (qy -ℤ py)) (direction a b)) 50 r ⌝ }
+// How much further along (a, b) than p the part q must lie before they are moved, p by (px, py) and q by (qx, qy), to lie no nearer than it afterwards.
+pub fn lead(px: i16, py: i16, qx: i16, qy: i16, a: i32, b: i32) -> i64
+    ensures { λ r. ⌜ Small (leadOf (vertex (qx -ℤ px) (qy -ℤ py)) (direction a b)) 48 r ⌝ }
 {
-    gap_along(gap, a, b) + dot(a, b, px, py) - dot(a, b, qx, qy)
+    dot(a, b, px, py) - dot(a, b, qx, qy)
 }

@@ -23,7 +23,7 @@ fn difference(p: &[i16], m: usize, k: usize, c: usize) -> i32
 }
 
 // The vertex after vertex k: the first one after the last.
-fn next_vertex(p: &[i16], k: usize) -> usize
+pub fn next_vertex(p: &[i16], k: usize) -> usize
     requires { ⌜ 2 * k + 1 < length (now p) ⌝ }
     ensures { λ r. ⌜ (r ≡ following (partOf (now (p .entry))) k) × (2 * r + 1 < length (now (p .entry))) ⌝ }
 {
@@ -33,8 +33,8 @@ fn next_vertex(p: &[i16], k: usize) -> usize
 // Whether the outward normal of an edge of p separates p, moved by (px, py), from q, moved by (qx, qy). The first one that does ends the test. In a sound part no
 // vertex lies further along the normal than the edge's own, so that one is asked first: a normal that does not separate is given up at the first vertex of q that
 // lies too near it. p need not be sound, so a normal that passes is tried against every vertex of p.
-pub fn edges_separate(p: &[i16], px: i16, py: i16, q: &[i16], qx: i16, qy: i16, gap: u16) -> bool
-    ensures { λ r. ⌜ r ≡ any (clears gap (partOf (now (p .entry))) (partOf (now (q .entry))) (vertex (qx -ℤ px) (qy -ℤ py))) (normals (partOf (now (p .entry)))) ⌝ }
+pub fn edges_separate(p: &[i16], px: i16, py: i16, q: &[i16], qx: i16, qy: i16) -> bool
+    ensures { λ r. ⌜ r ≡ any (clears (partOf (now (p .entry))) (partOf (now (q .entry))) (vertex (qx -ℤ px) (qy -ℤ py))) (normals (partOf (now (p .entry)))) ⌝ }
 {
     let n = p.len() / 2;
     let mut found = false;
@@ -44,7 +44,7 @@ pub fn edges_separate(p: &[i16], px: i16, py: i16, q: &[i16], qx: i16, qy: i16, 
         let m = next_vertex(p, k);
         let a = difference(p, m, k, 1);
         let b = difference(p, k, m, 0);
-        let ahead = lead(px, py, qx, qy, a, b, gap);
+        let ahead = lead(px, py, qx, qy, a, b);
         if lies_beyond(q, a, b, vertex_along(p, k, a, b) + ahead) {
             let limit = lowest(q, a, b) - ahead;
             let mut i: usize = 0;

@@ -1,5 +1,6 @@
 // The test of a pair of parts, by their corners alone, and of a pair of pieces, part by part.
 mod along;
+mod distances;
 mod edges;
 pub mod pairs;
 pub mod pieces;

@@ -7,6 +7,7 @@ ghost use lib.ListN.{length, getD};
 ghost use Rattle.model.specs.Geometry;
 ghost use Rattle.model.specs.Geometry.{piecesConflict};
 ghost use Rattle.polygons.specs.Flat.{shifted};
+ghost use Rattle.geometry.specs.Compact.{Compact, Short};
 ghost use Rattle.geometry.specs.Pieces.{Fitting, Standing, partIn, boxIn, partsIn, partConflicts};
 use crate::pairs::axes_separate;
 use crate::pairs::separated;
@@ -63,6 +64,7 @@ fn not_separated(
     gap: u16,
 ) -> bool
     requires { ⌜ ((Fitting p × (i < p .count)) × (Fitting q × (m < q .count))) × (length (now table) ≡ 4096) ⌝ }
+    requires { ⌜ Short 4096 dx dy × (Compact (partIn (now table) p i) × Compact (partIn (now table) q m)) ⌝ }
     ensures { λ r. ⌜ r ≡ not (Geometry.separated gap (partIn (now (table .entry)) p i) (map (shifted dx dy) (partIn (now (table .entry)) q m))) ⌝ }
 {
     let a = part_start(p, i) + 4;
@@ -83,7 +85,7 @@ fn parts_conflict(
     dy: i16,
     gap: u16,
 ) -> bool
-    requires { ⌜ (Standing (now table) p × (i < p .count)) × (Standing (now table) q × (m < q .count)) ⌝ }
+    requires { ⌜ ((Standing (now table) p × (i < p .count)) × (Standing (now table) q × (m < q .count))) × Short 4096 dx dy ⌝ }
     ensures { λ r. ⌜ r ≡ not (Geometry.separated gap (partIn (now (table .entry)) p i) (map (shifted dx dy) (partIn (now (table .entry)) q m))) ⌝ }
 {
     if axes_separate(part_box(table, p, i), part_box(table, q, m), dx, dy, gap) {
@@ -94,7 +96,7 @@ fn parts_conflict(
 
 // Whether part i of p is not separated from some part of q. The first such part ends the test.
 fn part_conflicts(table: &[i16], p: Piece, i: usize, q: Piece, dx: i16, dy: i16, gap: u16) -> bool
-    requires { ⌜ (Standing (now table) p × (i < p .count)) × Standing (now table) q ⌝ }
+    requires { ⌜ ((Standing (now table) p × (i < p .count)) × Standing (now table) q) × Short 4096 dx dy ⌝ }
     ensures { λ r. ⌜ r ≡ partConflicts gap (partIn (now (table .entry)) p i) (map (map (shifted dx dy)) (partsIn (now (table .entry)) q)) ⌝ }
 {
     let n = q.count;
@@ -110,7 +112,7 @@ fn part_conflicts(table: &[i16], p: Piece, i: usize, q: Piece, dx: i16, dy: i16,
 
 // Whether the piece p is in conflict at this gap with the piece q, moved by (dx, dy).
 pub fn pieces_conflict(table: &[i16], p: Piece, q: Piece, dx: i16, dy: i16, gap: u16) -> bool
-    requires { ⌜ Standing (now table) p × Standing (now table) q ⌝ }
+    requires { ⌜ (Standing (now table) p × Standing (now table) q) × Short 4096 dx dy ⌝ }
     ensures { λ r. ⌜ r ≡ piecesConflict gap (partsIn (now (table .entry)) p) (map (map (shifted dx dy)) (partsIn (now (table .entry)) q)) ⌝ }
 {
     let n = p.count;

@@ -7,10 +7,10 @@ use Prim.Native.Nat.{ℕ, zero, suc, _+_, _-_, _*_, _≤_, _<_}
 use native.Mathlib.Nat.{le-refl}
 use native.Mathlib.Omega.{arith}
 use lib.Dec.{T, ltb, ltb→lt, nltb→le}
-use lib.IntN.{ℤ, pos, negsuc, negℤ, subℕ, natAbs, _+ℤ_, _*ℤ_}
+use lib.IntN.{ℤ, pos, negsuc, negℤ, subℕ, natAbs, _+ℤ_, _-ℤ_, _*ℤ_}
 use lib.Signed.{_≤ℤ_, _<ℤ_, ≤ℤ-refl}
 use Rattle.integers.specs.Absolute.{absZ}
-use Rattle.integers.proofs.Solver.{⊖_, _≲_}
+use Rattle.integers.proofs.Solver.{#, _⊟_, ⊖_, _≲_}
 use Rattle.integers.proofs.Slack.{nonneg-pos}
 use Rattle.integers.proofs.Certificates.{order, _⊢_by_, hyp, _⊕_}
 use Rattle.integers.proofs.Order.{pos-≤ℤ, ≤ℤ-pos, ≤ℤ-trans}
@@ -97,3 +97,10 @@ natAbs-lower z n h =
 pub natAbs-between : (z : ℤ) (n : ℕ) → negℤ (pos n) ≤ℤ z → z ≤ℤ pos n → natAbs z ≤ n
 natAbs-between z n h k =
     ≤ℤ-pos (absZ-least z (pos n) k (order 2 (λ z n. (⊖ n ≲ z) ∷ [] ⊢ ⊖ z ≲ n by hyp 0) tt z (pos n) h))
+
+-- two numbers from 0 to n differ by at most n
+pub natAbs-less : (a b n : ℕ) → a ≤ n → b ≤ n → natAbs (pos a -ℤ pos b) ≤ n
+natAbs-less a b n h k =
+    natAbs-between (pos a -ℤ pos b) n
+    (order 3 (λ a b n. (# (pos 0) ≲ a) ∷ (b ≲ n) ∷ [] ⊢ ⊖ n ≲ a ⊟ b by hyp 0 ⊕ hyp 1) tt (pos a) (pos b) (pos n) (nonneg-pos a) (pos-≤ℤ k))
+    (order 3 (λ a b n. (# (pos 0) ≲ b) ∷ (a ≲ n) ∷ [] ⊢ a ⊟ b ≲ n by hyp 0 ⊕ hyp 1) tt (pos a) (pos b) (pos n) (nonneg-pos b) (pos-≤ℤ h))

@@ -14,6 +14,7 @@ use Rattle.model.specs.Grid.{Placement}
 use Rattle.model.specs.Lists.{all, concat, largestZ, smallestZ}
 use Rattle.model.proofs.Extremes.{largest-test, smallest-test, largest-append, smallest-append, largest-through, smallest-through}
 use Rattle.model.proofs.Moves.{placed-moved}
+use Rattle.model.proofs.Tests.{all-map}
 
 -- ---- tests of all elements
 
@@ -30,12 +31,6 @@ module _ {A : Type 0} where
       four true true false d = refl
       four true false true d = refl
       four true false false d = refl
-
-  -- a test of the images
-  pub all-map : {B : Type 0} (p : B → Bool) (f : A → B) (xs : List A) → all p (map f xs) ≡ all (λ x. p (f x)) xs
-  unfolding all
-  all-map p f [] = refl
-  all-map p f (x ∷ xs) = ap (λ t. p (f x) && t) (all-map p f xs)
 
 -- ---- the box decides
 

@@ -19,10 +19,9 @@ use Rattle.model.specs.Lists.{all, any, concat, below, between}
 use Rattle.model.specs.Problem.{under}
 use Rattle.model.specs.Services.{classNumbers}
 use Rattle.model.proofs.AcceptedKinds.{all-risen}
-use Rattle.model.proofs.Box.{all-map}
 use Rattle.model.proofs.Lists.{and-left, and-right, all-below}
 use Rattle.model.proofs.Records.{between-both}
-use Rattle.model.proofs.Tests.{any-same}
+use Rattle.model.proofs.Tests.{all-map, any-same}
 
 -- ---- Gap bytes
 

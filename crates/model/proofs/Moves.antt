@@ -1,9 +1,9 @@
 -- Moving parts: by a signed amount (`shifted`), by the model's `moved`, and as a placement moves them. Moving both parts by the same amount
 -- changes nothing; what counts is how far one is moved against the other. Each part has a vertex: of none the largest is 0 wherever it is moved.
 -- Assumes nothing.
-use mathlib.Core.Bool.{Bool, true, false, not, cond, _||_}
+use mathlib.Core.Bool.{Bool, true, false, not, cond, _&&_, _||_}
 use mathlib.Core.List.{List, [], _∷_, map, map-map}
-use mathlib.Core.Path.{_≡_, refl, sym, ap, _∙_}
+use mathlib.Core.Path.{_≡_, refl, sym, ap, ap₂, _∙_}
 use Prim.Native.Nat.{ℕ, zero, suc, _+_, _*_, _<_}
 use native.Mathlib.Omega.{arith}
 use native.Mathlib.Nat.{not-suc-le-zero, le-of-suc-le-suc}
@@ -11,16 +11,16 @@ use borrow.Author.Tests.{eqb-false}
 use lib.Dec.{eqb}
 use lib.IntN.{ℤ, pos, _+ℤ_, _-ℤ_, _*ℤ_, +ℤ-idr, +ℤ-invr}
 use lib.ListN.{length, length-map}
-use lib.Signed.{leZ}
-use Rattle.integers.proofs.Solver.{ring, _⊞_, _⊟_, _⊠_, _≈_}
+use lib.Signed.{leZ, ltZ}
+use Rattle.integers.proofs.Solver.{ring, #, _⊞_, _⊟_, _⊠_, _≈_}
 use Rattle.model.specs.Candidate.{placedPart}
-use Rattle.model.specs.Content.{Vertex, vertex, Part, Board}
-use Rattle.model.specs.Geometry.{Direction, direction, rotated, moved, shifted, vertexAt, following, outwardNormal, normals, directions, along, clearance, separates, separated, piecesConflict}
+use Rattle.model.specs.Content.{Vertex, vertex, Part, Board, origin}
+use Rattle.model.specs.Geometry.{Direction, direction, rotated, moved, shifted, vertexAt, following, cross, outwardNormal, normals, directions, along, separates, disjoint, distanceSquared, alongEdge, nearEdge, cornersClear, separated, piecesConflict}
 use Rattle.model.specs.Grid.{Placement}
-use Rattle.model.specs.Lists.{any, below, largestZ, smallestZ}
-use Rattle.model.proofs.Folds.{map-below-same}
+use Rattle.model.specs.Lists.{all, any, below, largestZ, smallestZ}
+use Rattle.model.proofs.Folds.{map-below-same, all-same}
 use Rattle.model.proofs.Extremes.{leZ-same, largest-through, smallest-through}
-use Rattle.model.proofs.Tests.{any-same}
+use Rattle.model.proofs.Tests.{all-map, all-each, any-same}
 
 -- ---- what a move does along a direction
 
@@ -54,9 +54,12 @@ following-within P i h = go (eqb (suc i) (length P)) refl
     go true e = omega arith
     go false e = let k = eqb-false (suc i) (length P) e in omega arith
 
-following-map : (s : Vertex → Vertex) (P : Part) (i : ℕ) → following (map s P) i ≡ following P i
+pub following-map : (s : Vertex → Vertex) (P : Part) (i : ℕ) → following (map s P) i ≡ following P i
 unfolding following
 following-map s P i = ap (λ n. cond (eqb (suc i) n) 0 (suc i)) (length-map P s)
+
+pub next-map : (s : Vertex → Vertex) (P : Part) (i : ℕ) → i < length P → vertexAt (map s P) (following (map s P) i) ≡ s (vertexAt P (following P i))
+next-map s P i h = ap (vertexAt (map s P)) (following-map s P i) ∙ vertexAt-map s P (following P i) (following-within P i h)
 
 normal-shifted : (a b : ℤ) (p q : Vertex) → outwardNormal (shifted a b p) (shifted a b q) ≡ outwardNormal p q
 unfolding outwardNormal
@@ -74,42 +77,146 @@ normals-shifted a b P =
         → outwardNormal (vertexAt (map (shifted a b) P) i) (vertexAt (map (shifted a b) P) (following (map (shifted a b) P) i))
         ≡ outwardNormal (vertexAt P i) (vertexAt P (following P i))
     edge i h =
-        ap (λ k. outwardNormal (vertexAt (map (shifted a b) P) i) (vertexAt (map (shifted a b) P) k)) (following-map (shifted a b) P i)
-        ∙ ap (λ v. outwardNormal v (vertexAt (map (shifted a b) P) (following P i))) (vertexAt-map (shifted a b) P i h)
-        ∙ ap (λ v. outwardNormal (shifted a b (vertexAt P i)) v) (vertexAt-map (shifted a b) P (following P i) (following-within P i h))
+        ap₂ outwardNormal (vertexAt-map (shifted a b) P i h) (next-map (shifted a b) P i h)
         ∙ normal-shifted a b (vertexAt P i) (vertexAt P (following P i))
+
+-- ---- what a move does to distances
+
+-- A distance looks only at how the corner and the edge's end lie from the edge's start.
+pub near-from : (h : ℕ) (s t v : Vertex) → nearEdge h s t v ≡ nearEdge h origin (vertex (t .x -ℤ s .x) (t .y -ℤ s .y)) (vertex (v .x -ℤ s .x) (v .y -ℤ s .y))
+unfolding nearEdge alongEdge distanceSquared cross
+near-from h s t v =
+    let end : Vertex = vertex (t .x -ℤ s .x) (t .y -ℤ s .y) in
+    let corner : Vertex = vertex (v .x -ℤ s .x) (v .y -ℤ s .y) in
+    near-same h
+    (along-from (end .x) (end .y) (corner .x) (corner .y))
+    (length-from (end .x) (end .y))
+    (length-from (corner .x) (corner .y))
+    (end-from (s .x) (s .y) (t .x) (t .y) (v .x) (v .y))
+    (cross-from (end .x) (end .y) (corner .x) (corner .y))
+  where
+    -- the five numbers that the test looks at
+    near-same : (h : ℕ) {u u′ l l′ p p′ q q′ c c′ : ℤ} → u ≡ u′ → l ≡ l′ → p ≡ p′ → q ≡ q′ → c ≡ c′
+        → cond (leZ u (pos 0)) (ltZ p (pos (h * h))) (cond (leZ l u) (ltZ q (pos (h * h))) (ltZ (c *ℤ c) (pos (h * h) *ℤ l)))
+        ≡ cond (leZ u′ (pos 0)) (ltZ p′ (pos (h * h))) (cond (leZ l′ u′) (ltZ q′ (pos (h * h))) (ltZ (c′ *ℤ c′) (pos (h * h) *ℤ l′)))
+    near-same h eu el ep eq ec = rw (eu, el, ep, eq, ec)
+
+    along-from : (a b x y : ℤ) → a *ℤ x +ℤ b *ℤ y ≡ (a -ℤ pos 0) *ℤ (x -ℤ pos 0) +ℤ (b -ℤ pos 0) *ℤ (y -ℤ pos 0)
+    along-from = ring 4 (λ a b x y. a ⊠ x ⊞ b ⊠ y ≈ (a ⊟ # (pos 0)) ⊠ (x ⊟ # (pos 0)) ⊞ (b ⊟ # (pos 0)) ⊠ (y ⊟ # (pos 0))) tt
+
+    length-from : (a b : ℤ) → a *ℤ a +ℤ b *ℤ b ≡ (a -ℤ pos 0) *ℤ (a -ℤ pos 0) +ℤ (b -ℤ pos 0) *ℤ (b -ℤ pos 0)
+    length-from = ring 2 (λ a b. a ⊠ a ⊞ b ⊠ b ≈ (a ⊟ # (pos 0)) ⊠ (a ⊟ # (pos 0)) ⊞ (b ⊟ # (pos 0)) ⊠ (b ⊟ # (pos 0))) tt
+
+    end-from : (sx sy tx ty vx vy : ℤ) → (vx -ℤ tx) *ℤ (vx -ℤ tx) +ℤ (vy -ℤ ty) *ℤ (vy -ℤ ty)
+        ≡ ((vx -ℤ sx) -ℤ (tx -ℤ sx)) *ℤ ((vx -ℤ sx) -ℤ (tx -ℤ sx)) +ℤ ((vy -ℤ sy) -ℤ (ty -ℤ sy)) *ℤ ((vy -ℤ sy) -ℤ (ty -ℤ sy))
+    end-from = ring 6 (λ sx sy tx ty vx vy. (vx ⊟ tx) ⊠ (vx ⊟ tx) ⊞ (vy ⊟ ty) ⊠ (vy ⊟ ty)
+        ≈ ((vx ⊟ sx) ⊟ (tx ⊟ sx)) ⊠ ((vx ⊟ sx) ⊟ (tx ⊟ sx)) ⊞ ((vy ⊟ sy) ⊟ (ty ⊟ sy)) ⊠ ((vy ⊟ sy) ⊟ (ty ⊟ sy))) tt
+
+    cross-from : (a b x y : ℤ) → a *ℤ y -ℤ b *ℤ x ≡ (a -ℤ pos 0) *ℤ (y -ℤ pos 0) -ℤ (b -ℤ pos 0) *ℤ (x -ℤ pos 0)
+    cross-from = ring 4 (λ a b x y. a ⊠ y ⊟ b ⊠ x ≈ (a ⊟ # (pos 0)) ⊠ (y ⊟ # (pos 0)) ⊟ (b ⊟ # (pos 0)) ⊠ (x ⊟ # (pos 0))) tt
+
+-- So it is the same wherever these two lie the same way from it.
+near-alike : (h : ℕ) (s t v s′ t′ v′ : Vertex) → t .x -ℤ s .x ≡ t′ .x -ℤ s′ .x → t .y -ℤ s .y ≡ t′ .y -ℤ s′ .y → v .x -ℤ s .x ≡ v′ .x -ℤ s′ .x → v .y -ℤ s .y ≡ v′ .y -ℤ s′ .y
+    → nearEdge h s t v ≡ nearEdge h s′ t′ v′
+near-alike h s t v s′ t′ v′ a b x y = near-from h s t v ∙ (λ i. nearEdge h origin (vertex (a i) (b i)) (vertex (x i) (y i))) ∙ sym (near-from h s′ t′ v′)
+
+-- two corners moved by the same amount, and by different ones
+same-move : (u w a b : ℤ) → (u +ℤ a) -ℤ (w +ℤ a) ≡ (u +ℤ b) -ℤ (w +ℤ b)
+same-move = ring 4 (λ u w a b. (u ⊞ a) ⊟ (w ⊞ a) ≈ (u ⊞ b) ⊟ (w ⊞ b)) tt
+
+module _ (h : ℕ) (a b c e : ℤ) (s t v : Vertex) where
+  -- the move of the corner taken off that of the edge
+  near-shifted : nearEdge h (shifted c e s) (shifted c e t) (shifted a b v) ≡ nearEdge h (shifted (c -ℤ a) (e -ℤ b) s) (shifted (c -ℤ a) (e -ℤ b) t) v
+  near-shifted = near-alike h _ _ _ _ _ _ (same-move (t .x) (s .x) c (c -ℤ a)) (same-move (t .y) (s .y) e (e -ℤ b)) (other (v .x) (s .x) a c) (other (v .y) (s .y) b e)
+    where
+      other : (u w a c : ℤ) → (u +ℤ a) -ℤ (w +ℤ c) ≡ u -ℤ (w +ℤ (c -ℤ a))
+      other = ring 4 (λ u w a c. (u ⊞ a) ⊟ (w ⊞ c) ≈ u ⊟ (w ⊞ (c ⊟ a))) tt
+
+  -- the move of the edge taken off that of the corner
+  near-shifted-corner : nearEdge h (shifted a b s) (shifted a b t) (shifted c e v) ≡ nearEdge h s t (shifted (c -ℤ a) (e -ℤ b) v)
+  near-shifted-corner = near-alike h _ _ _ _ _ _ (same (t .x) (s .x) a) (same (t .y) (s .y) b) (other (v .x) (s .x) a c) (other (v .y) (s .y) b e)
+    where
+      same : (u w a : ℤ) → (u +ℤ a) -ℤ (w +ℤ a) ≡ u -ℤ w
+      same = ring 3 (λ u w a. (u ⊞ a) ⊟ (w ⊞ a) ≈ u ⊟ w) tt
+
+      other : (u w a c : ℤ) → (u +ℤ c) -ℤ (w +ℤ a) ≡ (u +ℤ (c -ℤ a)) -ℤ w
+      other = ring 4 (λ u w a c. (u ⊞ c) ⊟ (w ⊞ a) ≈ (u ⊞ (c ⊟ a)) ⊟ w) tt
 
 -- ---- parts moved
 
 -- a move (a, b) of P is the opposite move of Q, in the test of the direction (A, B)
-pub test-shifted : (l s k A B a b c e : ℤ)
-    → leZ (l +ℤ (A *ℤ a +ℤ B *ℤ b) +ℤ k) (s +ℤ (A *ℤ c +ℤ B *ℤ e)) ≡ leZ (l +ℤ k) (s +ℤ (A *ℤ (c -ℤ a) +ℤ B *ℤ (e -ℤ b)))
-test-shifted l s k A B a b c e =
-    leZ-same (l +ℤ (A *ℤ a +ℤ B *ℤ b) +ℤ k) (s +ℤ (A *ℤ c +ℤ B *ℤ e)) (l +ℤ k) (s +ℤ (A *ℤ (c -ℤ a) +ℤ B *ℤ (e -ℤ b)))
-    (ring 9 (λ l s k A B a b c e. (s ⊞ (A ⊠ c ⊞ B ⊠ e)) ⊟ (l ⊞ (A ⊠ a ⊞ B ⊠ b) ⊞ k) ≈ (s ⊞ (A ⊠ (c ⊟ a) ⊞ B ⊠ (e ⊟ b))) ⊟ (l ⊞ k)) tt l s k A B a b c e)
+test-shifted : (l s A B a b c e : ℤ)
+    → leZ (l +ℤ (A *ℤ a +ℤ B *ℤ b)) (s +ℤ (A *ℤ c +ℤ B *ℤ e)) ≡ leZ l (s +ℤ (A *ℤ (c -ℤ a) +ℤ B *ℤ (e -ℤ b)))
+test-shifted l s A B a b c e =
+    leZ-same (l +ℤ (A *ℤ a +ℤ B *ℤ b)) (s +ℤ (A *ℤ c +ℤ B *ℤ e)) l (s +ℤ (A *ℤ (c -ℤ a) +ℤ B *ℤ (e -ℤ b)))
+    (ring 8 (λ l s A B a b c e. (s ⊞ (A ⊠ c ⊞ B ⊠ e)) ⊟ (l ⊞ (A ⊠ a ⊞ B ⊠ b)) ≈ (s ⊞ (A ⊠ (c ⊟ a) ⊞ B ⊠ (e ⊟ b))) ⊟ l) tt l s A B a b c e)
+
+-- the corners of mapped parts against their edges
+clear-mapped : (h : ℕ) (s t : Vertex → Vertex) (P Q : Part)
+    → cornersClear h (map s P) (map t Q) ≡ all (λ i. all (λ v. not (nearEdge h (t (vertexAt Q i)) (t (vertexAt Q (following Q i))) (s v))) P) (below (length Q))
+unfolding cornersClear
+clear-mapped h s t P Q =
+    ap (λ n. all (λ i. all (λ v. not (nearEdge h (vertexAt (map t Q) i) (vertexAt (map t Q) (following (map t Q) i)) v)) (map s P)) (below n)) (length-map Q t)
+    ∙ all-same _ _ (length Q) (λ i l.
+    all-map (λ v. not (nearEdge h (vertexAt (map t Q) i) (vertexAt (map t Q) (following (map t Q) i)) v)) s P
+    ∙ all-each _ _ (λ v. ap (λ p. not (nearEdge h p (vertexAt (map t Q) (following (map t Q) i)) (s v))) (vertexAt-map t Q i l) ∙ ap (λ q. not (nearEdge h (t (vertexAt Q i)) q (s v))) (next-map t Q i l)) P)
+
+-- maps that give the same distances
+clear-maps : (h : ℕ) (s t s′ t′ : Vertex → Vertex) (P Q : Part) → ((p q v : Vertex) → nearEdge h (t p) (t q) (s v) ≡ nearEdge h (t′ p) (t′ q) (s′ v))
+    → cornersClear h (map s P) (map t Q) ≡ cornersClear h (map s′ P) (map t′ Q)
+clear-maps h s t s′ t′ P Q f =
+    clear-mapped h s t P Q ∙ all-same _ _ (length Q) (λ i l. all-each _ _ (λ v. ap not (f (vertexAt Q i) (vertexAt Q (following Q i)) v)) P) ∙ sym (clear-mapped h s′ t′ P Q)
+
+-- a move by nothing
+pub unmoved : (R : Part) → map (shifted (pos 0) (pos 0)) R ≡ R
+unmoved [] = refl
+unmoved (v ∷ R) =
+    ap (λ s. vertex s (v .y +ℤ pos 0) ∷ map (shifted (pos 0) (pos 0)) R) (+ℤ-idr (v .x))
+    ∙ ap (λ s. vertex (v .x) s ∷ map (shifted (pos 0) (pos 0)) R) (+ℤ-idr (v .y))
+    ∙ ap (λ (vs : Part). v ∷ vs) (unmoved R)
+
+map-same : (P : Part) → map (λ v. v) P ≡ P
+map-same [] = refl
+map-same (v ∷ P) = ap (λ (vs : Part). v ∷ vs) (map-same P)
+
+module _ (gap : ℕ) (P Q : Part) (a b c e : ℤ) where
+  -- no corner is near: the moves count by their difference
+  pub clear-shifted : cornersClear gap (map (shifted a b) P) (map (shifted c e) Q) ≡ cornersClear gap P (map (shifted (c -ℤ a) (e -ℤ b)) Q)
+  clear-shifted =
+      clear-maps gap (shifted a b) (shifted c e) (λ v. v) (shifted (c -ℤ a) (e -ℤ b)) P Q (near-shifted gap a b c e)
+      ∙ ap (λ (R : Part). cornersClear gap R (map (shifted (c -ℤ a) (e -ℤ b)) Q)) (map-same P)
+
+  pub clear-shifted-corner : cornersClear gap (map (shifted c e) Q) (map (shifted a b) P) ≡ cornersClear gap (map (shifted (c -ℤ a) (e -ℤ b)) Q) P
+  clear-shifted-corner =
+      clear-maps gap (shifted c e) (shifted a b) (shifted (c -ℤ a) (e -ℤ b)) (λ v. v) Q P (near-shifted-corner gap a b c e)
+      ∙ ap (λ (R : Part). cornersClear gap (map (shifted (c -ℤ a) (e -ℤ b)) Q) R) (map-same P)
 
 module _ (gap : ℕ) (P Q : Part) (someP : 0 < length P) (someQ : 0 < length Q) where
   -- one direction: the moves count by their difference
   pub separates-shifted : (a b c e : ℤ) (d : Direction)
-      → separates gap (map (shifted a b) P) (map (shifted c e) Q) d ≡ separates gap P (map (shifted (c -ℤ a) (e -ℤ b)) Q) d
+      → separates (map (shifted a b) P) (map (shifted c e) Q) d ≡ separates P (map (shifted (c -ℤ a) (e -ℤ b)) Q) d
   unfolding separates along
   separates-shifted a b c e d =
-      ap (λ s. leZ (s +ℤ clearance gap d) (smallestZ (map (along d) (map (shifted c e) Q)))) (largest-shifted d a b P someP)
-      ∙ ap (λ s. leZ (largestZ (map (along d) P) +ℤ along d (vertex a b) +ℤ clearance gap d) s) (smallest-shifted d c e Q someQ)
-      ∙ test-shifted (largestZ (map (along d) P)) (smallestZ (map (along d) Q)) (clearance gap d) (d .a) (d .b) a b c e
-      ∙ ap (λ s. leZ (largestZ (map (along d) P) +ℤ clearance gap d) s) (sym (smallest-shifted d (c -ℤ a) (e -ℤ b) Q someQ))
+      ap (λ s. leZ s (smallestZ (map (along d) (map (shifted c e) Q)))) (largest-shifted d a b P someP)
+      ∙ ap (λ s. leZ (largestZ (map (along d) P) +ℤ along d (vertex a b)) s) (smallest-shifted d c e Q someQ)
+      ∙ test-shifted (largestZ (map (along d) P)) (smallestZ (map (along d) Q)) (d .a) (d .b) a b c e
+      ∙ ap (leZ (largestZ (map (along d) P))) (sym (smallest-shifted d (c -ℤ a) (e -ℤ b) Q someQ))
 
   -- the directions are those of the parts where they stood
   directions-shifted : (a b c e k l : ℤ) → directions (map (shifted a b) P) (map (shifted c e) Q) ≡ directions P (map (shifted k l) Q)
   unfolding directions
   directions-shifted a b c e k l = rw (normals-shifted a b P, normals-shifted c e Q, normals-shifted k l Q)
 
+  disjoint-shifted : (a b c e : ℤ) → disjoint (map (shifted a b) P) (map (shifted c e) Q) ≡ disjoint P (map (shifted (c -ℤ a) (e -ℤ b)) Q)
+  unfolding disjoint
+  disjoint-shifted a b c e =
+      any-same _ _ (separates-shifted a b c e) (directions (map (shifted a b) P) (map (shifted c e) Q))
+      ∙ ap (any (separates P (map (shifted (c -ℤ a) (e -ℤ b)) Q))) (directions-shifted a b c e (c -ℤ a) (e -ℤ b))
+
   pub separated-shifted : (a b c e : ℤ)
       → separated gap (map (shifted a b) P) (map (shifted c e) Q) ≡ separated gap P (map (shifted (c -ℤ a) (e -ℤ b)) Q)
   unfolding separated
-  separated-shifted a b c e =
-      any-same _ _ (separates-shifted a b c e) (directions (map (shifted a b) P) (map (shifted c e) Q))
-      ∙ ap (any (separates gap P (map (shifted (c -ℤ a) (e -ℤ b)) Q))) (directions-shifted a b c e (c -ℤ a) (e -ℤ b))
+  separated-shifted a b c e = rw (disjoint-shifted a b c e, clear-shifted gap P Q a b c e, clear-shifted-corner gap P Q a b c e)
 
   -- the same of the model's move
   pub separated-moved : (a b c e : ℕ)
@@ -124,13 +231,6 @@ module _ (gap : ℕ) (P Q : Part) (someP : 0 < length P) (someQ : 0 < length Q) 
       ∙ ap (λ s. separated gap P (map (shifted s (b -ℤ b)) Q)) (+ℤ-invr a)
       ∙ ap (λ s. separated gap P (map (shifted (pos 0) s) Q)) (+ℤ-invr b)
       ∙ ap (separated gap P) (unmoved Q)
-    where
-      unmoved : (R : Part) → map (shifted (pos 0) (pos 0)) R ≡ R
-      unmoved [] = refl
-      unmoved (v ∷ R) =
-          ap (λ s. vertex s (v .y +ℤ pos 0) ∷ map (shifted (pos 0) (pos 0)) R) (+ℤ-idr (v .x))
-          ∙ ap (λ s. vertex (v .x) s ∷ map (shifted (pos 0) (pos 0)) R) (+ℤ-idr (v .y))
-          ∙ ap (λ (vs : Part). v ∷ vs) (unmoved R)
 
 -- ---- pieces moved
 

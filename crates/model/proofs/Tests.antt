@@ -1,9 +1,9 @@
--- Laws of a test that some element of a list passes: over an appended list, a mapped list, lists put together, a list in another order, two lists.
--- Assumes nothing.
-use mathlib.Core.Bool.{Bool, true, false, _||_, or-assoc, or-comm}
+-- Laws of a test that some element of a list passes, or that all do: over an appended list, a mapped list, lists put together, a list in another order, two
+-- lists. Assumes nothing.
+use mathlib.Core.Bool.{Bool, true, false, _&&_, _||_, or-assoc, or-comm}
 use mathlib.Core.List.{List, [], _∷_, _++_, map, List·Permᴰ, List·Permᴰ·nil, List·Permᴰ·cons, List·Permᴰ·swap, List·Permᴰ·trans}
 use mathlib.Core.Path.{_≡_, refl, sym, ap, _∙_}
-use Rattle.model.specs.Lists.{any, concat}
+use Rattle.model.specs.Lists.{all, any, concat}
 
 -- the first two of three tests change places
 pub or-swap : (a b c : Bool) → (a || (b || c)) ≡ (b || (a || c))
@@ -37,6 +37,11 @@ module _ {A : Type 0} where
   any-same p q h [] = refl
   any-same p q h (x ∷ xs) = ap (λ t. t || any p xs) (h x) ∙ ap (λ t. q x || t) (any-same p q h xs)
 
+  pub all-each : (p q : A → Bool) → ((x : A) → p x ≡ q x) → (xs : List A) → all p xs ≡ all q xs
+  unfolding all
+  all-each p q h [] = refl
+  all-each p q h (x ∷ xs) = ap (λ t. t && all p xs) (h x) ∙ ap (λ t. q x && t) (all-each p q h xs)
+
   -- a test that nothing passes
   pub any-none : (xs : List A) → any (λ x. false) xs ≡ false
   unfolding any
@@ -55,6 +60,11 @@ module _ {A : Type 0} where
 
 module _ {A B : Type 0} where
   -- of the images of the elements
+  pub all-map : (p : B → Bool) (f : A → B) (xs : List A) → all p (map f xs) ≡ all (λ x. p (f x)) xs
+  unfolding all
+  all-map p f [] = refl
+  all-map p f (x ∷ xs) = ap (λ t. p (f x) && t) (all-map p f xs)
+
   pub any-map : (p : B → Bool) (f : A → B) (xs : List A) → any p (map f xs) ≡ any (λ x. p (f x)) xs
   unfolding any
   any-map p f [] = refl

@@ -26,8 +26,8 @@ use Rattle.model.specs.declared.Written.the-variants as W
 -- ---- Questions and answers
 
 -- A run of a job at a budget; a check of a job and a layout's numbers; a row of a job, of the candidate of a number of its first type, against that type; each of
--- the three under a margin instead of 0; the numbers that read gives of a job, where room for so many is lent; a job saved into so many bytes; whether squares at (0,0)
--- and (x,y) are in conflict at a gap; by which number a job's sender is refused; what the program prints of a job.
+-- the three under a margin instead of 0; the numbers that read gives of a job, where room for so many is lent; a job saved into so many bytes; whether two
+-- parts, where they stand, are in conflict at a gap; by which number a job's sender is refused; what the program prints of a job.
 pub data Question : Type 0 where
   prints : List ℕ → Question
   runs : List ℕ → ℕ → Question
@@ -36,7 +36,7 @@ pub data Question : Type 0 where
   clamped : ℕ → Question → Question
   reads : List ℕ → ℕ → Question
   saves : List ℕ → ℕ → Question
-  conflicts : ℕ → ℕ → ℕ → Question
+  conflicts : ℕ → Part → Part → Question
   sends : List ℕ → Question
 
 -- What a run says, whether its work words are zero, and the answer numbers after it; what check says; what row says and its words, read and its
@@ -73,6 +73,10 @@ saidBy r = says (r .answer) (all (eqb 0) (r .work)) (numbersOf (r .out))
 unfoldable pub square : Part
 square = vertex (pos 0) (pos 0) ∷ vertex (pos 2) (pos 0) ∷ vertex (pos 2) (pos 2) ∷ vertex (pos 0) (pos 2) ∷ []
 
+-- A square at (x,y).
+unfoldable pub squareAt : ℕ → ℕ → Part
+squareAt x y = map (moved x y) square
+
 -- What row told and left, as an answer of the table.
 unfoldable pub shownBy : WriteOutcome → Answer
 shownBy r = shows (r .answer) (map (λ i. numberAt 8 (r .buffer) (i * 8)) (below (wordsIn (r .buffer))))
@@ -99,7 +103,7 @@ answerUnder m (reads s n) = toldBy (read s (bytesOf 2 (replicate n 7)))
 answerUnder m (saves s n) = savedBy (save s (replicate n 7))
 answerUnder m (prints s) = text (program s)
 answerUnder m (sends s) = isRefused (refusal s)
-answerUnder m (conflicts gap x y) = isConflict (piecesConflict gap (square ∷ []) (map (moved x y) square ∷ []))
+answerUnder m (conflicts gap P Q) = isConflict (piecesConflict gap (P ∷ []) (Q ∷ []))
 
 -- Document 01 knows no margin: "With m = 0 .., all earlier results hold".
 unfoldable pub answerTo : Question → Answer
@@ -206,15 +210,15 @@ boards =
     ∷ (runs (gapSquares 1 2 5) 1000000 ⇒ says (Shortest 5 4) true (0 ∷ 0 ∷ 0 ∷ 0 ∷ 0 ∷ 3 ∷ 0 ∷ 0 ∷ []))
     ∷ (runs (gapSquares 1 2 4) 1000000 ⇒ says (Infeasible 3) true untouched)
     -- "Squares at (0,0) and (2,0) meet without conflict; (1,0) conflicts."
-    ∷ (conflicts 0 2 0 ⇒ isConflict false)
-    ∷ (conflicts 0 1 0 ⇒ isConflict true)
+    ∷ (conflicts 0 square (squareAt 2 0) ⇒ isConflict false)
+    ∷ (conflicts 0 square (squareAt 1 0) ⇒ isConflict true)
     ∷ (checks printedJob (0 ∷ 0 ∷ 0 ∷ 0 ∷ 0 ∷ 2 ∷ 0 ∷ 0 ∷ []) ⇒ finds (C.Passes 4))
     ∷ (checks printedJob (0 ∷ 0 ∷ 0 ∷ 0 ∷ 0 ∷ 1 ∷ 0 ∷ 0 ∷ []) ⇒ finds (C.Refused 11))
-    -- "Squares at (0,0) and (5,6): no conflict at gap 4, conflict at 5."
-    ∷ (conflicts 4 5 6 ⇒ isConflict false)
-    ∷ (conflicts 5 5 6 ⇒ isConflict true)
-    ∷ (checks (gapSquares 4 8 7) (0 ∷ 0 ∷ 0 ∷ 0 ∷ 0 ∷ 5 ∷ 6 ∷ 0 ∷ []) ⇒ finds (C.Passes 7))
-    ∷ (checks (gapSquares 5 8 7) (0 ∷ 0 ∷ 0 ∷ 0 ∷ 0 ∷ 5 ∷ 6 ∷ 0 ∷ []) ⇒ finds (C.Refused 11))
+    -- "Squares at (0,0) and (5,6)": document 02, 5/13: they "now pass at gap 5 and conflict at 6."
+    ∷ (conflicts 5 square (squareAt 5 6) ⇒ isConflict false)
+    ∷ (conflicts 6 square (squareAt 5 6) ⇒ isConflict true)
+    ∷ (checks (gapSquares 5 8 7) (0 ∷ 0 ∷ 0 ∷ 0 ∷ 0 ∷ 5 ∷ 6 ∷ 0 ∷ []) ⇒ finds (C.Passes 7))
+    ∷ (checks (gapSquares 6 8 7) (0 ∷ 0 ∷ 0 ∷ 0 ∷ 0 ∷ 5 ∷ 6 ∷ 0 ∷ []) ⇒ finds (C.Refused 11))
     -- "Two triangles ..: shortest 2, both on dot (0,0)."
     ∷ (runs triangles 1000000 ⇒ says (Shortest 2 2) true (0 ∷ 0 ∷ 0 ∷ 0 ∷ 1 ∷ 0 ∷ 0 ∷ 0 ∷ []))
     -- "Strip ..: shortest 10, rows 0 and 1."
@@ -391,4 +395,60 @@ savedJobs =
     ∷ (saves star 64 ⇒ shows (W.Refused 7) (replicate 64 7))
     ∷ (saves star 0 ⇒ shows (W.Refused 7) [])
     ∷ (saves (gapSquares 64 2 4) 64 ⇒ shows (W.Refused 5) (replicate 64 7))
+    ∷ []
+
+-- A triangle whose slanting edge goes from (8,0) to (0,6), 10 long, through (4,3). Its outward normal is (6,8): from (4,3) it leads to (7,7), 5 away.
+unfoldable pub slanting : Part
+slanting = vertex (pos 0) (pos 0) ∷ vertex (pos 8) (pos 0) ∷ vertex (pos 0) (pos 6) ∷ []
+
+-- A triangle with its tip up at (2,3), and one with its tip down at (5,7).
+unfoldable pub tipUp : Part
+tipUp = vertex (pos 0) (pos 0) ∷ vertex (pos 4) (pos 0) ∷ vertex (pos 2) (pos 3) ∷ []
+
+unfoldable pub tipDown : Part
+tipDown = vertex (pos 5) (pos 7) ∷ vertex (pos 9) (pos 13) ∷ vertex (pos 1) (pos 13) ∷ []
+
+-- A square of 20 by 20.
+unfoldable pub largeSquare : Part
+largeSquare = vertex (pos 0) (pos 0) ∷ vertex (pos 20) (pos 0) ∷ vertex (pos 20) (pos 20) ∷ vertex (pos 0) (pos 20) ∷ []
+
+-- Boards of document 02's fifth request.
+unfoldable pub roundConflicts : List Marked
+roundConflicts =
+    -- A corner against the middle of a slanting edge. (7,7) is 5 away from it: 50 × 50 is 5 × 5 × 100. (6,7) is 4.4 away: 44 × 44 lies between 4 × 4 × 100 and 5 × 5 × 100.
+    (conflicts 5 slanting (squareAt 7 7) ⇒ isConflict false)
+    ∷ (conflicts 6 slanting (squareAt 7 7) ⇒ isConflict true)
+    ∷ (conflicts 4 slanting (squareAt 6 7) ⇒ isConflict false)
+    ∷ (conflicts 5 slanting (squareAt 6 7) ⇒ isConflict true)
+    -- The same with the edge's part second: both parts' corners are asked for.
+    ∷ (conflicts 5 (squareAt 7 7) slanting ⇒ isConflict false)
+    ∷ (conflicts 5 (squareAt 6 7) slanting ⇒ isConflict true)
+    -- "An edge is a segment: beyond its ends the end corner counts." The line through the first square's upper edge, which ends at (2,2), goes through (5,2), 3 away.
+    ∷ (conflicts 3 square (squareAt 5 2) ⇒ isConflict false)
+    ∷ (conflicts 4 square (squareAt 5 2) ⇒ isConflict true)
+    -- Tip to tip, 3 across and 4 up: 5 away.
+    ∷ (conflicts 5 tipUp tipDown ⇒ isConflict false)
+    ∷ (conflicts 6 tipUp tipDown ⇒ isConflict true)
+    -- "Parts in conflict at gap 0 remain in conflict at every gap": a square within another, 9 away from every edge of it.
+    ∷ (conflicts 0 largeSquare (squareAt 9 9) ⇒ isConflict true)
+    ∷ (conflicts 5 largeSquare (squareAt 9 9) ⇒ isConflict true)
+    -- Touching is allowed at gap 0 alone.
+    ∷ (conflicts 1 square (squareAt 2 0) ⇒ isConflict true)
+    ∷ []
+
+-- One slanting triangle and one square, in a class of this gap, W 9, L 9.
+unfoldable pub slantingJob : ℕ → List ℕ
+slantingJob gap = jobOf 9 9 (0 ∷ 0 ∷ gap ∷ []) 2 ((1 ∷ 1 ∷ 1 ∷ 1 ∷ 3 ∷ 0 ∷ 0 ∷ 8 ∷ 0 ∷ 0 ∷ 6 ∷ []) ++ squareOf 1 1)
+
+-- "All comparisons of conflict and of shortest use the round measure from here": check, and run.
+unfoldable pub roundServices : List Marked
+roundServices =
+    (checks (slantingJob 5) (0 ∷ 0 ∷ 0 ∷ 0 ∷ 1 ∷ 7 ∷ 7 ∷ 0 ∷ []) ⇒ finds (C.Passes 9))
+    ∷ (checks (slantingJob 6) (0 ∷ 0 ∷ 0 ∷ 0 ∷ 1 ∷ 7 ∷ 7 ∷ 0 ∷ []) ⇒ finds (C.Refused 11))
+    ∷ (checks (slantingJob 5) (0 ∷ 0 ∷ 0 ∷ 0 ∷ 1 ∷ 6 ∷ 7 ∷ 0 ∷ []) ⇒ finds (C.Refused 11))
+    -- Two squares at gap 5, W 8: columns from 0, rows 0 to 6. At L 7 the columns 0 to 5: only (0,0) and (5,6) are far enough apart, which takes two steps. After that each
+    -- other candidate for the first square that would be shorter, columns 0 to 4, is a step that look-ahead gives back: 34 more. (By the square measure: none.)
+    ∷ (runs (gapSquares 5 8 7) 1000000 ⇒ says (Shortest 7 36) true (0 ∷ 0 ∷ 0 ∷ 0 ∷ 0 ∷ 5 ∷ 6 ∷ 0 ∷ []))
+    -- At L 6 the columns 0 to 4: no two are far enough apart. Each candidate is a step.
+    ∷ (runs (gapSquares 5 8 6) 1000000 ⇒ says (Infeasible 35) true untouched)
     ∷ []

@@ -1,9 +1,10 @@
--- Document 01, "The job's bytes" (sound parts), "Dots and candidates" (turns) and "Gap and conflict" (separation).
-use mathlib.Core.Bool.{Bool, not, cond, _||_}
-use mathlib.Core.List.{List, [], _∷_, _++_, map}
-use Prim.Native.Nat.{ℕ, zero, suc, _+_, _*_}
+-- Document 01, "The job's bytes" (sound parts), "Dots and candidates" (turns) and "Gap and conflict" (separation), and document 02, "5/13 Gap for a round
+-- cutter" (distances).
+use mathlib.Core.Bool.{Bool, not, cond, _&&_, _||_}
+use mathlib.Core.List.{List, _++_, map}
+use Prim.Native.Nat.{ℕ, zero, suc, _*_}
 use lib.Dec.{eqb}
-use lib.IntN.{ℤ, pos, negsuc, negℤ, natAbs, _+ℤ_, _-ℤ_, _*ℤ_}
+use lib.IntN.{ℤ, pos, negℤ, _+ℤ_, _-ℤ_, _*ℤ_}
 use lib.ListN.{length, getD}
 use lib.Signed.{leZ, ltZ}
 use Rattle.model.specs.Content.{Vertex, vertex, Part, origin}
@@ -73,29 +74,46 @@ normals P = map (λ i. outwardNormal (vertexAt P i) (vertexAt P (following P i))
 unfoldable pub negated : Direction → Direction
 negated d = direction (negℤ (d .a)) (negℤ (d .b))
 
--- "the four axis directions"
-unfoldable pub axes : List Direction
-axes = direction (pos 1) (pos 0) ∷ direction (pos 0) (pos 1) ∷ direction (negsuc 0) (pos 0) ∷ direction (pos 0) (negsuc 0) ∷ []
-
--- "The directions are the outward normals of P's edges, the negated outward normals of Q's edges, and the four axis directions."
+-- "The directions are the outward normals of P's edges, the negated outward normals of Q's edges". Document 02, 5/13: "The four axis directions go."
 unfoldable pub directions : Part → Part → List Direction
-directions P Q = normals P ++ map negated (normals Q) ++ axes
+directions P Q = normals P ++ map negated (normals Q)
 
 -- "a × x + b × y"
 unfoldable pub along : Direction → Vertex → ℤ
 along d v = d .a *ℤ v .x +ℤ d .b *ℤ v .y
 
--- "gap × (|a| + |b|)"
-unfoldable pub clearance : ℕ → Direction → ℤ
-clearance gap d = pos (gap * (natAbs (d .a) + natAbs (d .b)))
+-- "A direction (a, b) separates them if the largest a × x + b × y over P .. is at most the smallest over Q", at gap 0: they may touch.
+unfoldable pub separates : Part → Part → Direction → Bool
+separates P Q d = leZ (largestZ (map (along d) P)) (smallestZ (map (along d) Q))
 
--- "A direction (a, b) separates them if the largest a × x + b × y over P, plus gap × (|a| + |b|), is at most the smallest over Q."
-unfoldable pub separates : ℕ → Part → Part → Direction → Bool
-separates gap P Q d = leZ (largestZ (map (along d) P) +ℤ clearance gap d) (smallestZ (map (along d) Q))
+-- A direction separates the parts: they are not "in conflict at gap 0".
+unfoldable pub disjoint : Part → Part → Bool
+disjoint P Q = any (separates P Q) (directions P Q)
 
--- The parts are separated at this gap.
+-- The squared distance of two corners.
+unfoldable pub distanceSquared : Vertex → Vertex → ℤ
+distanceSquared p q = (q .x -ℤ p .x) *ℤ (q .x -ℤ p .x) +ℤ (q .y -ℤ p .y) *ℤ (q .y -ℤ p .y)
+
+-- How far along the edge from s to t the corner v stands, times the edge's length: at most 0 before s, at least the squared length beyond t.
+unfoldable pub alongEdge : Vertex → Vertex → Vertex → ℤ
+alongEdge s t v = (t .x -ℤ s .x) *ℤ (v .x -ℤ s .x) +ℤ (t .y -ℤ s .y) *ℤ (v .y -ℤ s .y)
+
+-- The corner v is nearer than h to the edge from s to t. Document 02, 5/13: "An edge is a segment: beyond its ends the end corner counts. Distances are
+-- compared squared, in whole numbers." (Beside the edge the distance from its line is `cross` divided by the edge's length.)
+unfoldable pub nearEdge : ℕ → Vertex → Vertex → Vertex → Bool
+nearEdge h s t v =
+    cond (leZ (alongEdge s t v) (pos 0)) (ltZ (distanceSquared s v) (pos (h * h)))
+    (cond (leZ (distanceSquared s t) (alongEdge s t v)) (ltZ (distanceSquared t v) (pos (h * h)))
+    (ltZ (cross s t v *ℤ cross s t v) (pos (h * h) *ℤ distanceSquared s t)))
+
+-- "no corner of a part is nearer than h to an edge of the other part": no corner of P to an edge of Q. (At h = 0 nothing is asked: no distance is below 0.)
+unfoldable pub cornersClear : ℕ → Part → Part → Bool
+cornersClear h P Q = all (λ i. all (λ v. not (nearEdge h (vertexAt Q i) (vertexAt Q (following Q i)) v)) P) (below (length Q))
+
+-- The parts are separated at this gap. Document 02, 5/13: "Parts in conflict at gap 0 remain in conflict at every gap", and "A pair gap h above 0 now means
+-- that no corner of a part is nearer than h to an edge of the other part."
 unfoldable pub separated : ℕ → Part → Part → Bool
-separated gap P Q = any (separates gap P Q) (directions P Q)
+separated h P Q = disjoint P Q && cornersClear h P Q && cornersClear h Q P
 
 -- "Two pieces are in conflict if some part P of one and Q of the other are not separated."
 unfoldable pub piecesConflict : ℕ → List Part → List Part → Bool

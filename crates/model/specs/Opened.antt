@@ -8,7 +8,7 @@ use Rattle.words.specs.Number.{value, bytes, bytesOf, numberAt, withNumber, cou
 use Rattle.model.specs.Lists.{all, any, keep, countOf, concat, sum, largest, rising, below, between, largestFrom, smallestFrom, largestZ, smallestZ}
 use Rattle.model.specs.Content.{pieceCount, kindCount, kindAt}
 use Rattle.model.specs.Grid.{columns, rows, dots, numberOf, placementOf, numberLimit, setWords}
-use Rattle.model.specs.Geometry.{quarterTurn, rotated, moved, vertexAt, following, cross, strictlyLeft, edgeSound, sound, outwardNormal, normals, negated, axes, directions, along, clearance, separates, separated, piecesConflict}
+use Rattle.model.specs.Geometry.{quarterTurn, rotated, moved, vertexAt, following, cross, strictlyLeft, edgeSound, sound, outwardNormal, normals, negated, directions, along, separates, disjoint, distanceSquared, alongEdge, nearEdge, cornersClear, separated, piecesConflict}
 use Rattle.model.specs.Gap.{names, better, bestFrom, bestRanked, gapOr0, kindGap, shareCut, pairGap}
 use Rattle.model.specs.Problem.{cause13}
 use Rattle.model.specs.Candidate.{placedPart, placedParts, placedVertices, onBoard, admitted, isCandidate, candidates, natural, extent}
@@ -36,7 +36,7 @@ unfolding columns rows dots numberOf placementOf numberLimit setWords
 openedGrid = 0
 
 unfoldable pub openedGeometry : ℕ
-unfolding quarterTurn rotated moved vertexAt following cross strictlyLeft edgeSound sound outwardNormal normals negated axes directions along clearance separates separated piecesConflict
+unfolding quarterTurn rotated moved vertexAt following cross strictlyLeft edgeSound sound outwardNormal normals negated directions along separates disjoint distanceSquared alongEdge nearEdge cornersClear separated piecesConflict
 openedGeometry = 0
 
 unfoldable pub openedGap : ℕ

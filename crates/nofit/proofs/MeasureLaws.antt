@@ -27,12 +27,10 @@ use Rattle.model.specs.Gap.{pairGap}
 use Rattle.model.specs.Geometry.{rotated}
 use Rattle.model.specs.Grid
 use Rattle.model.specs.Grid.{setWords}
-use Rattle.model.proofs.Turning.{vertexed}
 use Rattle.model.proofs.Accepted.{accepted-dots}
 use Rattle.model.proofs.Causes.{no-cause, board-fits}
 use Rattle.model.proofs.CommonCut.{pairGap-most}
 use Rattle.model.proofs.Lists.{not-both}
-use Rattle.model.proofs.Moves.{Vertexed}
 use Rattle.polygons.specs.Boxes.{extentsOf, joined}
 use Rattle.polygons.specs.declared.extents.Extents.{Extents}
 use Rattle.geometry.specs.Apart.{boxesApart}
@@ -41,6 +39,7 @@ use Rattle.job.specs.View.{Viewed}
 use Rattle.job.specs.declared.View.{View}
 use Rattle.shapes.specs.Boxes.{noBox, turnedVertices, BoxesOf}
 use Rattle.shapes.specs.declared.boxes.Boxes.{Boxes}
+use Rattle.convexity.proofs.Soundness.{rotated-parts, accepted-parts}
 use Rattle.geometry.proofs.BoxesApart.{boxes-apart}
 use Rattle.shapes.proofs.ViewLaws.{kind-in}
 use Rattle.candidates.proofs.PlacementLaws.{end-nonneg}
@@ -162,11 +161,6 @@ columns-all span step columns h = record { some = h; most = omega arith; clear =
 
 -- ---- pieces so many columns apart
 
--- turned parts have as many vertices
-turned-vertexed : (q : ℕ) (Ps : List Part) → Vertexed Ps → Vertexed (map (map (rotated q)) Ps)
-turned-vertexed q [] h = tt
-turned-vertexed q (P ∷ Ps) h = (rw (length-map P (rotated q)) (h .0), turned-vertexed q Ps (h .1))
-
 third-held : (a b c d : Bool) → c ≡ true → (a || b || c || d) ≡ true
 third-held true b c d h = refl
 third-held false true c d h = refl
@@ -228,7 +222,7 @@ module _ (s : List ℕ) (v : View) (b : Boxes) (x : Viewed s v) (y : BoxesOf s b
       let g = content s .sheet .g in
       let there : Spaced span g (Grid.columns (content s .sheet)) r = rw (sym (x .view .step), sym (x .view .columns)) spaced in
       boxes-apart (pairGap (content s .classes) (kindAt (content s .kinds) t) (kindAt (content s .kinds) u)) (map (map (rotated q)) (kindAt (content s .kinds) t .parts)) (map (map (rotated k)) (kindAt (content s .kinds) u .parts))
-      (pos (c * g) -ℤ pos (a * g)) dy (turned-vertexed q (kindAt (content s .kinds) t .parts) (vertexed s (x .accepted) t)) (turned-vertexed k (kindAt (content s .kinds) u .parts) (vertexed s (x .accepted) u))
+      (pos (c * g) -ℤ pos (a * g)) dy (rotated-parts q (kindAt (content s .kinds) t .parts) (accepted-parts s (x .accepted) t ht)) (rotated-parts k (kindAt (content s .kinds) u .parts) (accepted-parts s (x .accepted) u (n .exists)))
       (⊎-elim (λ h. right-apart gap all _ _ _ span (pos (a * g)) (pos (c * g)) dy e f p wide (columns-apart span g (Grid.columns (content s .sheet)) r a c there h hc))
       (λ h. left-apart gap all _ _ _ span (pos (a * g)) (pos (c * g)) dy e f p wide (columns-apart span g (Grid.columns (content s .sheet)) r c a there h ha)) far)
 

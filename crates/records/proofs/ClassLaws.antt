@@ -10,10 +10,10 @@ use lib.Dec.{eqb, ltb}
 use Rattle.model.specs.Content.{SpacingClass}
 use Rattle.model.specs.Format.{classFrom, classInRange, distinct}
 use Rattle.model.specs.Lists.{all, any, keep, concat, rising, below}
-use Rattle.model.proofs.Box.{all-map}
 use Rattle.model.proofs.Folds.{map-below-more, concat-more, keep-none}
 use Rattle.model.proofs.Lists.{and-left, and-right}
 use Rattle.model.proofs.Permuted.{eqb-comm}
+use Rattle.model.proofs.Tests.{all-map}
 use Rattle.records.specs.Classes.{classesFrom, entryAt, allInRange, distinctColumn, firstFrom, hasId, indexOf, classesOfId, risenBelow}
 
 -- The record of class j is in range.

@@ -23,10 +23,10 @@ use Rattle.model.specs.Format.{byteAt, vertices, vertexInRange}
 use Rattle.model.specs.Geometry.{strictlyLeft, vertexAt, following, edgeSound}
 use Rattle.model.specs.Geometry as Geometry
 use Rattle.model.specs.Lists.{all, below}
-use Rattle.model.proofs.Box.{all-map}
 use Rattle.model.proofs.Folds.{getD-map-at, all-same}
 use Rattle.model.proofs.Lists.{length-below, getD-below}
 use Rattle.model.proofs.Records.{byte-behind, length-vertices, vertex-at}
+use Rattle.model.proofs.Tests.{all-map}
 use Rattle.records.specs.Parts.{vertexFrom, partFrom, nextOf, cornerSound, edgeSoundFrom, edgeSoundAt, soundFrom, inRangeFrom, unfitFrom}
 
 -- The corners are in range.

@@ -1,19 +1,28 @@
 -- Pieces in the table of turned parts. Assumes nothing.
 use mathlib.Core.List.{List, [], _∷_, map}
-use mathlib.Core.Path.{_≡_, refl, sym, ap, _∙_}
-use Prim.Native.Nat.{ℕ, suc, _+_, _*_, _<_}
+use mathlib.Core.Path.{_≡_, refl, sym, ap, subst, _∙_}
+use Prim.Native.Nat.{ℕ, zero, suc, _+_, _*_, _<_}
+use native.Mathlib.Nat.{le-trans}
 use native.Mathlib.Omega.{arith}
 use borrow.Author.Count.{below-more}
+use lib.Dec.{lit≤}
 use lib.IntN.{ℤ, pos}
 use lib.ListN.{length, getD, take, drop, set, length-map}
 use lib.Seq.{getD-set-same, getD-set-other}
-use Rattle.model.specs.Content.{Part, kindAt, kindCount}
+use Rattle.integers.proofs.Absolute.{natAbs-negℤ}
+use Rattle.model.specs.Content.{Vertex, Part, origin, noKind, kindAt, kindCount}
+use Rattle.model.specs.ContentFit.{VertexFit, PartFit, KindFit}
 use Rattle.model.specs.Format.{content}
-use Rattle.model.specs.Geometry.{rotated}
+use Rattle.model.specs.Geometry.{quarterTurn, rotated, vertexAt}
 use Rattle.model.specs.Lists.{rising, below}
+use Rattle.model.proofs.Moves.{vertexAt-map}
+use Rattle.model.proofs.Saving.Each.{each-at}
+use Rattle.convexity.specs.Parts.{SoundPart}
+use Rattle.convexity.proofs.Soundness.{rotated-sound}
 use Rattle.polygons.specs.Boxes.{extentsOf}
 use Rattle.polygons.specs.Flat.{partOf}
 use Rattle.polygons.proofs.BoxLaws.{same-box}
+use Rattle.geometry.specs.Compact.{Short, Compact}
 use Rattle.geometry.specs.Pieces.{Standing, partIn, partsIn, boxIn}
 use Rattle.geometry.specs.declared.pieces.Piece.{Piece}
 use Rattle.job.specs.View.{Viewed}
@@ -44,8 +53,36 @@ module _ {A B : Type 0} (g : A → B) (d : A) where
   unfolding below
   map-index f xs h = rising-index f 0 xs (λ i l. ap f (omega arith) ∙ h i l)
 
+-- ---- turned parts of a fit content
+
+-- they are sound,
+turned-sound : (k : ℕ) (P : Part) → PartFit P → SoundPart (map (rotated k) P)
+turned-sound k P f = rotated-sound k P (record { isSound = f .isSound; corners = f .cornersLeast })
+
+-- and their numbers are as small as they were
+turned-short : (n k : ℕ) (v : Vertex) → Short n (v .x) (v .y) → Short n (rotated k v .x) (rotated k v .y)
+unfolding rotated quarterTurn
+turned-short n zero v h = h
+turned-short n (suc k) v h = let r = turned-short n k v h in (rw (natAbs-negℤ (rotated k v .y)) (r .1), r .0)
+
+corner-short : (P : Part) → PartFit P → (i : ℕ) → i < length P → Short 127 (vertexAt P i .x) (vertexAt P i .y)
+unfolding vertexAt
+corner-short P f i h = let c = each-at VertexFit P origin (f .corners) i h in (c .xSmall, c .ySmall)
+
+turned-compact : (k : ℕ) (P : Part) → PartFit P → Compact (map (rotated k) P)
+turned-compact k P f i l =
+    let h : i < length P = rw (length-map P (rotated k)) at l in
+    let r = turned-short 127 k (vertexAt P i) (corner-short P f i h) in
+    rw (vertexAt-map (rotated k) P i h) (le-trans (r .0) (lit≤ tt), le-trans (r .1) (lit≤ tt))
+
+-- ---- the piece in the table
+
 -- what the table has for the piece of kind t, turned k quarter turns
 module _ (s : List ℕ) (table : List ℤ) (t : ℕ) (p : Piece) (x : TurnedOf s table) (y : PieceOf s t p) (ht : t < kindCount (content s .kinds)) where
+  part-fit : (i : ℕ) → i < length (kindAt (content s .kinds) t .parts) → PartFit (getD (kindAt (content s .kinds) t .parts) i [])
+  unfolding kindAt kindCount
+  part-fit i l = each-at PartFit (kindAt (content s .kinds) t .parts) [] (each-at (KindFit (content s .classes)) (content s .kinds) noKind (x .fit .kinds) t ht .parts) i l
+
   module _ (k : ℕ) (hk : k < 4) where
     -- part i of the kind, turned
     abbrev turnedPart : ℕ → Part
@@ -85,6 +122,8 @@ module _ (s : List ℕ) (table : List ℤ) (t : ℕ) (p : Piece) (x : TurnedOf s
             short = y .fitting .short;
           };
           boxed = λ i l. let g : i < length (kindAt (content s .kinds) t .parts) = rw (y .count) at l in box-turned i g ∙ ap extentsOf (sym (part-turned i g));
+          sound = λ i l. let g : i < length (kindAt (content s .kinds) t .parts) = rw (y .count) at l in subst SoundPart (sym (part-turned i g)) (turned-sound k _ (part-fit i g));
+          compact = λ i l. let g : i < length (kindAt (content s .kinds) t .parts) = rw (y .count) at l in subst Compact (sym (part-turned i g)) (turned-compact k _ (part-fit i g));
         }
 
   -- So it stands at every rotation.

@@ -20,6 +20,7 @@ use Rattle.integers.proofs.Absolute.{natAbs-between}
 use Rattle.integers.proofs.Order.{<ℤ-≤ℤ}
 use Rattle.integers.proofs.Sizes.{fits-lower, fits-upper}
 use Rattle.model.specs.Content.{Vertex, vertex, Part, kindAt, kindCount}
+use Rattle.model.specs.ContentFit.{ContentFit}
 use Rattle.model.specs.Format.{byteAt, vertices, content}
 use Rattle.model.specs.Geometry.{rotated}
 use Rattle.model.proofs.Records.{length-vertices, byte-behind}
@@ -334,5 +335,5 @@ module _ (s : List ℕ) where
             (p .held);
       }
 
-  pub kinds-all : (table : List ℤ) (n : ℕ) → kindCount (content s .kinds) ≤ n → length table ≡ 4096 → KindsTurned table n → TurnedOf s table
-  kinds-all table n h size b = record { size = size; held = λ t i k l g. b .held t (omega arith) i k g }
+  pub kinds-all : (table : List ℤ) (n : ℕ) → ContentFit (content s) → kindCount (content s .kinds) ≤ n → length table ≡ 4096 → KindsTurned table n → TurnedOf s table
+  kinds-all table n fit h size b = record { fit = fit; size = size; held = λ t i k l g. b .held t (omega arith) i k g }

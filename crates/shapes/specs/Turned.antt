@@ -8,6 +8,7 @@ use lib.ListN.{length, getD, take, drop, set}
 use lib.Seq.{sets}
 use Rattle.integers.specs.Byte.{signed}
 use Rattle.model.specs.Content.{Vertex, vertex, Part, kindAt, kindCount}
+use Rattle.model.specs.ContentFit.{ContentFit}
 use Rattle.model.specs.Format.{byteAt, content}
 use Rattle.model.specs.Geometry.{rotated}
 use Rattle.polygons.specs.Boxes.{extentsOf}
@@ -68,8 +69,9 @@ pub record KindTurned (s : List ℕ) (t : ℕ) (old new : List ℤ) : Type 0 whe
   pub held : (i k : ℕ) → i < length (kindAt (content s .kinds) t .parts) → k < 4 → Holds new k (t * 6 + i) (map (rotated k) (getD (kindAt (content s .kinds) t .parts) i []))
   pub kept : (r : ℕ) → r < t * 6 → Kept old new r
 
--- The table has the turned parts of all kinds.
+-- The table has the turned parts of all kinds of a job whose content is fit.
 pub record TurnedOf (s : List ℕ) (table : List ℤ) : Type 0 where
+  pub fit : ContentFit (content s)
   pub size : length table ≡ 4096
   pub held : (t i k : ℕ) → t < kindCount (content s .kinds) → i < length (kindAt (content s .kinds) t .parts) → k < 4
       → Holds table k (t * 6 + i) (map (rotated k) (getD (kindAt (content s .kinds) t .parts) i []))

@@ -2,11 +2,12 @@
 use mathlib.Core.Bool.{Bool, true, false, not, _||_}
 use mathlib.Core.List.{List, [], _∷_, map}
 use mathlib.Core.Path.{_≡_, refl, ap}
-use Prim.Native.Nat.{ℕ, suc, _+_, _≤_, _<_}
+use Prim.Native.Nat.{ℕ, zero, suc, _+_, _≤_, _<_}
+use native.Mathlib.Nat.{not-suc-le-zero, le-of-suc-le-suc}
 use native.Mathlib.Omega.{arith}
 use borrow.Author.Tests.{ne-eqb}
 use lib.Dec.{eqb}
-use lib.ListN.{length}
+use lib.ListN.{length, getD}
 use Rattle.model.proofs.Lists.{and-left, and-right, and-both, or-left, or-right}
 use Rattle.model.specs.Format.{distinct}
 use Rattle.model.specs.Lists.{all, any}
@@ -23,6 +24,12 @@ module _ {A : Type 0} where
   pub each-map : {P Q : A → Type 0} → ((a : A) → P a → Q a) → (xs : List A) → Each P xs → Each Q xs
   each-map f [] h = tt
   each-map f (x ∷ xs) h = (f x (h .0), each-map f xs (h .1))
+
+  -- of the element at a place
+  pub each-at : (P : A → Type 0) (xs : List A) (d : A) → Each P xs → (i : ℕ) → i < length xs → P (getD xs i d)
+  each-at P [] d h i l = absurd (not-suc-le-zero l)
+  each-at P (x ∷ xs) d h zero l = h .0
+  each-at P (x ∷ xs) d h (suc i) l = each-at P xs d (h .1) i (le-of-suc-le-suc l)
 
   pub each-both : (P Q : A → Type 0) (xs : List A) → Each P xs → Each Q xs → Each (λ a. P a × Q a) xs
   each-both P Q [] h k = tt

@@ -30,19 +30,19 @@ use Rattle.geometry.proofs.edges.edges_separate.Statement.{statement}
 use Rattle.geometry.proofs.edges.edges_separate.Tie as tie
 
 abbrev Inv-loop : tie.InvT-loop
-Inv-loop p px py q qx qy gap n found₀ k m a b ahead limit i₀ found i =
+Inv-loop p px py q qx qy n found₀ k m a b ahead limit i₀ found i =
     (i < n) × (found ≡ false) × ((j : ℕ) → j < i → along (direction (toZ w32 a) (toZ w32 b)) (vertexAt (partOf p) j) ≤ℤ toZ w64 limit)
 
 abbrev μ-loop : tie.MeasureT-loop
-μ-loop p px py q qx qy gap n found₀ k m a b ahead limit i₀ found i = n - i
+μ-loop p px py q qx qy n found₀ k m a b ahead limit i₀ found i = n - i
 
 abbrev Inv-directions : tie.InvT-directions
-Inv-directions p px py q qx qy gap n found₀ k₀ found k =
+Inv-directions p px py q qx qy n found₀ k₀ found k =
     (n ≡ length p / 2) × (k ≤ n) × (found ≡ false)
-    × Remaining (clears gap (partOf p) (partOf q) (vertex (toZ w16 qx -ℤ toZ w16 px) (toZ w16 qy -ℤ toZ w16 py))) (partOf p) k
+    × Remaining (clears (partOf p) (partOf q) (vertex (toZ w16 qx -ℤ toZ w16 px) (toZ w16 qy -ℤ toZ w16 py))) (partOf p) k
 
 abbrev μ-directions : tie.MeasureT-directions
-μ-directions p px py q qx qy gap n found₀ k₀ found k = n - k
+μ-directions p px py q qx qy n found₀ k₀ found k = n - k
 
 -- ---- what is known of one direction
 
@@ -66,7 +66,7 @@ abbrev offset : tie.Start Inv-loop μ-loop Inv-directions μ-directions → Vert
 offset e = vertex (toZ w16 (ofZ w16 (e .args .qx)) -ℤ toZ w16 (ofZ w16 (e .args .px))) (toZ w16 (ofZ w16 (e .args .qy)) -ℤ toZ w16 (ofZ w16 (e .args .py)))
 
 abbrev test : tie.Start Inv-loop μ-loop Inv-directions μ-directions → Direction → Bool
-test e = clears (e .args .gap) (partOf (now (e .args .p))) (partOf (now (e .args .q))) (offset e)
+test e = clears (partOf (now (e .args .p))) (partOf (now (e .args .q))) (offset e)
 
 -- the numbers that are compared: vertex k, the furthest, the lead, and the least of q
 abbrev near : tie.After-vertex-along Inv-loop μ-loop Inv-directions μ-directions → ℤ
@@ -76,7 +76,7 @@ abbrev far : tie.After-vertex-along Inv-loop μ-loop Inv-directions μ-direction
 far v = largestZ (map (along (bearing v)) (first v))
 
 abbrev ahead : tie.After-vertex-along Inv-loop μ-loop Inv-directions μ-directions → ℤ
-ahead v = leadOf (entry v .args .gap) (offset (entry v)) (bearing v)
+ahead v = leadOf (offset (entry v)) (bearing v)
 
 abbrev low : tie.After-vertex-along Inv-loop μ-loop Inv-directions μ-directions → ℤ
 low v = smallestZ (map (along (bearing v)) (second v))
@@ -103,8 +103,8 @@ is-offset e =
     ∙ ap (λ s. vertex (e .args .qx -ℤ e .args .px) s) (read₂ w16 (e .args .qy) (e .args .py) (e .fits .qy) (e .fits .py) _-ℤ_)
 
 answer : (e : tie.Start Inv-loop μ-loop Inv-directions μ-directions) (b : Bool) → any (test e) (normals (partOf (now (e .args .p)))) ≡ b
-    → b ≡ any (clears (e .args .gap) (partOf (now (e .args .p))) (partOf (now (e .args .q))) (vertex (e .args .qx -ℤ e .args .px) (e .args .qy -ℤ e .args .py))) (normals (partOf (now (e .args .p))))
-answer e b h = sym h ∙ ap (λ v. any (clears (e .args .gap) (partOf (now (e .args .p))) (partOf (now (e .args .q))) v) (normals (partOf (now (e .args .p))))) (is-offset e)
+    → b ≡ any (clears (partOf (now (e .args .p))) (partOf (now (e .args .q))) (vertex (e .args .qx -ℤ e .args .px) (e .args .qy -ℤ e .args .py))) (normals (partOf (now (e .args .p))))
+answer e b h = sym h ∙ ap (λ v. any (clears (partOf (now (e .args .p))) (partOf (now (e .args .q))) v) (normals (partOf (now (e .args .p))))) (is-offset e)
 
 -- q against vertex k, which lies no further than the furthest
 nearby : (c : tie.After-lies-beyond Inv-loop μ-loop Inv-directions μ-directions) → c .lies-beyond .result ≡ leZ (near (c .before) +ℤ ahead (c .before)) (low (c .before))

@@ -1,15 +1,19 @@
 -- `geometry::pieces::not_separated` meets its contract. Assumes nothing.
 use mathlib.Core.Bool.{not}
 use mathlib.Core.List.{map}
-use mathlib.Core.Path.{ap, ap₂, _∙_}
+use mathlib.Core.Path.{_≡_, sym, ap, ap₂, subst, _∙_}
+use Prim.Native.Nat.{_+_, _-_}
 use borrow.Author.Needs.{needs}
 use denote.Ref.{now}
 use mir.Syntax.{w16}
+use lib.ListN.{take, drop}
 use mir.Val.{toZ, ofZ}
+use mir.ValLaws.{toZ-ofZ}
 use Rattle.integers.proofs.Machine.{read₂}
 use Rattle.model.specs.Content.{Part}
 use Rattle.model.specs.Geometry.{separated}
-use Rattle.polygons.specs.Flat.{shifted}
+use Rattle.polygons.specs.Flat.{partOf, shifted}
+use Rattle.geometry.specs.Compact.{Compact}
 use Rattle.geometry.specs.Pieces.{partIn}
 use Rattle.geometry.proofs.PieceLaws.{part-window}
 use Rattle.geometry.proofs.pieces.not_separated.Statement.{statement}
@@ -63,20 +67,26 @@ part-separated-start-2 c = search needs
 part-separated-end-2 : tie.Need-part-separated-end-2
 part-separated-end-2 c = search needs
 
+-- the numbers of the two slices are those of the two parts
+first-part : (c : tie.After-part-length2) → partOf (take (c .before .before .before .part-start .result + 4 + c .before .before .part-length .result - (c .before .before .before .part-start .result + 4)) (drop (c .before .before .before .part-start .result + 4) (now (c .before .before .before .before .args .table)))) ≡ partIn (now (c .before .before .before .before .args .table)) (c .before .before .before .before .args .p) (c .before .before .before .before .args .i)
+first-part c = part-window (now (c .before .before .before .before .args .table)) (c .before .before .before .before .args .p) (c .before .before .before .before .args .i) _ _ (c .before .before .before .part-start .ensures .0) (c .before .before .part-length .ensures .0)
+
+second-part : (c : tie.After-part-length2) → partOf (take (c .before .part-start2 .result + 4 + c .part-length2 .result - (c .before .part-start2 .result + 4)) (drop (c .before .part-start2 .result + 4) (now (c .before .before .before .before .args .table)))) ≡ partIn (now (c .before .before .before .before .args .table)) (c .before .before .before .before .args .q) (c .before .before .before .before .args .m)
+second-part c = part-window (now (c .before .before .before .before .args .table)) (c .before .before .before .before .args .q) (c .before .before .before .before .args .m) _ _ (c .before .part-start2 .ensures .0) (c .part-length2 .ensures .0)
+
 separated-requires : tie.Need-separated-requires
-separated-requires c κs = search needs
+separated-requires c κs = (
+  (rw (toZ-ofZ w16 (c .before .before .before .before .before .before .args .dx) (c .before .before .before .before .before .before .fits .dx)) (c .before .before .before .before .before .before .pre .1 .0 .0), rw (toZ-ofZ w16 (c .before .before .before .before .before .before .args .dy) (c .before .before .before .before .before .before .fits .dy)) (c .before .before .before .before .before .before .pre .1 .0 .1)),
+  (subst Compact (sym (first-part (c .before .before))) (c .before .before .before .before .before .before .pre .1 .1 .0), subst Compact (sym (second-part (c .before .before))) (c .before .before .before .before .before .before .pre .1 .1 .1)),
+)
 
 returns : tie.Need-returns
 returns c =
-    let e = c .before .before .before .before .before .before .before .args in
-    let first = partIn (now (e .table)) (e .p) (e .i) in
-    let second = partIn (now (e .table)) (e .q) (e .m) in
     ap not
     (c .separated .ensures
-    ∙ ap₂ (λ (P Q : Part). separated (e .gap) P (map (shifted (toZ w16 (ofZ w16 (e .dx))) (toZ w16 (ofZ w16 (e .dy)))) Q))
-    (part-window (now (e .table)) (e .p) (e .i) _ _ (c .before .before .before .before .before .before .part-start .ensures .0) (c .before .before .before .before .before .part-length .ensures .0))
-    (part-window (now (e .table)) (e .q) (e .m) _ _ (c .before .before .before .before .part-start2 .ensures .0) (c .before .before .before .part-length2 .ensures .0))
-    ∙ read₂ w16 (e .dx) (e .dy) (c .before .before .before .before .before .before .before .fits .dx) (c .before .before .before .before .before .before .before .fits .dy) (λ x y. separated (e .gap) first (map (shifted x y) second)))
+    ∙ ap₂ (λ (P Q : Part). separated (c .before .before .before .before .before .before .before .args .gap) P (map (shifted (toZ w16 (ofZ w16 (c .before .before .before .before .before .before .before .args .dx))) (toZ w16 (ofZ w16 (c .before .before .before .before .before .before .before .args .dy)))) Q)) (first-part (c .before .before .before)) (second-part (c .before .before .before))
+    ∙ read₂ w16 (c .before .before .before .before .before .before .before .args .dx) (c .before .before .before .before .before .before .before .args .dy) (c .before .before .before .before .before .before .before .fits .dx) (c .before .before .before .before .before .before .before .fits .dy)
+    (λ x y. separated (c .before .before .before .before .before .before .before .args .gap) (partIn (now (c .before .before .before .before .before .before .before .args .table)) (c .before .before .before .before .before .before .before .args .p) (c .before .before .before .before .before .before .before .args .i)) (map (shifted x y) (partIn (now (c .before .before .before .before .before .before .before .args .table)) (c .before .before .before .before .before .before .before .args .q) (c .before .before .before .before .before .before .before .args .m)))))
 
 pub not-separated-spec : {M : Type 1} → statement M
 not-separated-spec =

@@ -9,6 +9,7 @@ use denote.Ref.{now}
 use lib.IntN.{ℤ}
 use mir.Syntax.{w16}
 use mir.Val.{toZ, ofZ}
+use mir.ValLaws.{toZ-ofZ}
 use Rattle.integers.proofs.Machine.{read₂}
 use Rattle.geometry.proofs.PieceLaws.{conflictAt, none-yet, none-more, some-below, part-conflicts-below}
 use Rattle.model.specs.Lists.{any, below}
@@ -38,7 +39,7 @@ loop-holds : tie.Need-loop-holds Inv-loop μ-loop
 loop-holds c = (omega arith, none-yet _)
 
 parts-conflict-requires : tie.Need-parts-conflict-requires Inv-loop μ-loop
-parts-conflict-requires c κs = search needs
+parts-conflict-requires c κs = (((c .before .before .pre .0 .0 .0, c .before .before .pre .0 .0 .1), (c .before .before .pre .0 .1, c .loop-test .taken)), (rw (toZ-ofZ w16 (c .before .before .args .dx) (c .before .before .fits .dx)) (c .before .before .pre .1 .0), rw (toZ-ofZ w16 (c .before .before .args .dy) (c .before .before .fits .dy)) (c .before .before .pre .1 .1)))
 
 returns : tie.Need-returns Inv-loop μ-loop
 returns c = answer (c .before .before .before .before) true (some-below _ (c .before .before .before .loop .m) _ (c .before .before .loop-test .taken) (sym (c .before .parts-conflict .ensures) ∙ c .if1 .taken))

@@ -5,6 +5,7 @@ use mathlib.Core.Path.{sym, _∙_}
 use borrow.Author.Needs.{needs}
 use denote.Ref.{now}
 use mir.Syntax.{w16}
+use mir.ValLaws.{toZ-ofZ}
 use Rattle.integers.proofs.Machine.{read₂}
 use Rattle.model.specs.Geometry.{separated}
 use Rattle.polygons.specs.Flat.{shifted}
@@ -15,10 +16,10 @@ use Rattle.geometry.proofs.pieces.parts_conflict.Statement.{statement}
 use Rattle.geometry.proofs.pieces.parts_conflict.Tie as tie
 
 part-box-requires : tie.Need-part-box-requires
-part-box-requires c κs = ((c .pre .0 .0 .fitting, c .pre .0 .1), c .pre .0 .0 .size)
+part-box-requires c κs = ((c .pre .0 .0 .0 .fitting, c .pre .0 .0 .1), c .pre .0 .0 .0 .size)
 
 part-box-requires-2 : tie.Need-part-box-requires-2
-part-box-requires-2 c κs = ((c .before .pre .1 .0 .fitting, c .before .pre .1 .1), c .before .pre .1 .0 .size)
+part-box-requires-2 c κs = ((c .before .pre .0 .1 .0 .fitting, c .before .pre .0 .1 .1), c .before .pre .0 .1 .0 .size)
 
 axes-separate-requires : tie.Need-axes-separate-requires
 axes-separate-requires c κs = search needs
@@ -28,13 +29,17 @@ returns c =
     let second = c .before .before in
     let s = second .before .before in
     let e = s .args in
-    boxed-apart (e .gap) (now (e .table)) (e .p) (e .q) (e .i) (e .m) (e .dx) (e .dy) (s .pre .0 .0) (s .pre .1 .0) (s .pre .0 .1) (s .pre .1 .1)
+    boxed-apart (e .gap) (now (e .table)) (e .p) (e .q) (e .i) (e .m) (e .dx) (e .dy) (s .pre .0 .0 .0) (s .pre .0 .1 .0) (s .pre .0 .0 .1) (s .pre .0 .1 .1)
     ((λ j. boxesApart (e .gap) (sym (second .before .part-box .ensures) j) (sym (second .part-box2 .ensures) j) (e .dx) (e .dy))
     ∙ sym (read₂ w16 (e .dx) (e .dy) (s .fits .dx) (s .fits .dy) (λ x y. boxesApart (e .gap) (second .before .part-box .result) (second .part-box2 .result) x y))
     ∙ sym (c .before .axes-separate .ensures) ∙ c .if1 .taken)
 
 not-separated-requires : tie.Need-not-separated-requires
-not-separated-requires c κs = let s = c .before .before .before .before in (((s .pre .0 .0 .fitting, s .pre .0 .1), (s .pre .1 .0 .fitting, s .pre .1 .1)), s .pre .0 .0 .size)
+not-separated-requires c κs = (
+  (((c .before .before .before .before .pre .0 .0 .0 .fitting, c .before .before .before .before .pre .0 .0 .1), (c .before .before .before .before .pre .0 .1 .0 .fitting, c .before .before .before .before .pre .0 .1 .1)), c .before .before .before .before .pre .0 .0 .0 .size),
+  ((rw (toZ-ofZ w16 (c .before .before .before .before .args .dx) (c .before .before .before .before .fits .dx)) (c .before .before .before .before .pre .1 .0), rw (toZ-ofZ w16 (c .before .before .before .before .args .dy) (c .before .before .before .before .fits .dy)) (c .before .before .before .before .pre .1 .1)),
+  (c .before .before .before .before .pre .0 .0 .0 .compact (c .before .before .before .before .args .i) (c .before .before .before .before .pre .0 .0 .1), c .before .before .before .before .pre .0 .1 .0 .compact (c .before .before .before .before .args .m) (c .before .before .before .before .pre .0 .1 .1))),
+)
 
 returns-2 : tie.Need-returns-2
 returns-2 c =

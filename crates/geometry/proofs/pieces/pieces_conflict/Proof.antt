@@ -9,6 +9,7 @@ use denote.Ref.{now}
 use lib.IntN.{ℤ}
 use mir.Syntax.{w16}
 use mir.Val.{toZ, ofZ}
+use mir.ValLaws.{toZ-ofZ}
 use Rattle.integers.proofs.Machine.{read₂}
 use Rattle.model.specs.Geometry.{piecesConflict}
 use Rattle.geometry.proofs.PieceLaws.{none-yet, none-more, some-below, pieces-conflict-below}
@@ -39,7 +40,7 @@ loop-holds : tie.Need-loop-holds Inv-loop μ-loop
 loop-holds c = (omega arith, none-yet _)
 
 part-conflicts-requires : tie.Need-part-conflicts-requires Inv-loop μ-loop
-part-conflicts-requires c κs = search needs
+part-conflicts-requires c κs = (((c .before .before .pre .0 .0, c .loop-test .taken), c .before .before .pre .0 .1), (rw (toZ-ofZ w16 (c .before .before .args .dx) (c .before .before .fits .dx)) (c .before .before .pre .1 .0), rw (toZ-ofZ w16 (c .before .before .args .dy) (c .before .before .fits .dy)) (c .before .before .pre .1 .1)))
 
 returns : tie.Need-returns Inv-loop μ-loop
 returns c = answer (c .before .before .before .before) true (some-below _ (c .before .before .before .loop .i) _ (c .before .before .loop-test .taken) (sym (c .before .part-conflicts .ensures) ∙ c .if1 .taken))

@@ -6,6 +6,7 @@ use borrow.Author.Needs.{needs}
 use lib.ListN.{length}
 use Rattle.model.specs.Content.{kindCount}
 use Rattle.model.specs.Format.{content}
+use Rattle.model.proofs.Saving.Kept.{content-fit}
 use Rattle.shapes.proofs.TurnLaws.{KindsTurned, kinds-none, kinds-more, kinds-all}
 use Rattle.shapes.proofs.ViewLaws.{kind-in, part-short}
 use Rattle.shapes.proofs.turned.turn_all.Statement.{statement}
@@ -51,7 +52,7 @@ same-length c = search needs
 
 returns : tie.Need-returns Inv-loop μ-loop
 returns c =
-    kinds-all _ _ (c .before .before .loop .kind) (omega (arith, c .before .before .before .before .pre .0 .view .kinds, c .if1 .left)) (c .before .before .loop .inv .1)
+    kinds-all _ _ (c .before .before .loop .kind) (content-fit (c .before .before .before .before .args .job .now) (c .before .before .before .before .pre .0 .accepted) (λ i. c .before .before .before .shared-slice-known .given i .fits)) (omega (arith, c .before .before .before .before .pre .0 .view .kinds, c .if1 .left)) (c .before .before .loop .inv .1)
     (c .before .before .loop .inv .2)
 
 pub turn-all-spec : {M : Type 1} → statement M

@@ -1,0 +1,4 @@
+-- The definitions that the theorems of proofs/Theorems.antt speak of, beside the model's.
+pub mod Parts
+pub mod Points
+pub mod Square

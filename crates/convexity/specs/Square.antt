@@ -1,0 +1,30 @@
+-- Document 01's measure of a gap: "The gap is thus measured as a square." Since document 02's "5/13 Gap for a round cutter" no service uses it. It stays for the law
+-- that boxes which are a gap apart are separated, and for layouts that were made under it.
+use mathlib.Core.Bool.{Bool}
+use mathlib.Core.List.{List, [], _∷_, _++_, map}
+use Prim.Native.Nat.{ℕ, _+_, _*_}
+use lib.IntN.{ℤ, pos, negsuc, natAbs, _+ℤ_}
+use lib.Signed.{leZ}
+use Rattle.model.specs.Content.{Part}
+use Rattle.model.specs.Geometry.{Direction, direction, directions, along}
+use Rattle.model.specs.Lists.{any, largestZ, smallestZ}
+
+-- "the four axis directions"
+unfoldable pub axes : List Direction
+axes = direction (pos 1) (pos 0) ∷ direction (pos 0) (pos 1) ∷ direction (negsuc 0) (pos 0) ∷ direction (pos 0) (negsuc 0) ∷ []
+
+-- "gap × (|a| + |b|)"
+unfoldable pub clearance : ℕ → Direction → ℤ
+clearance gap d = pos (gap * (natAbs (d .a) + natAbs (d .b)))
+
+-- "A direction (a, b) separates them if the largest a × x + b × y over P, plus gap × (|a| + |b|), is at most the smallest over Q."
+unfoldable pub separatesBy : ℕ → Part → Part → Direction → Bool
+separatesBy gap P Q d = leZ (largestZ (map (along d) P) +ℤ clearance gap d) (smallestZ (map (along d) Q))
+
+-- "The directions are the outward normals of P's edges, the negated outward normals of Q's edges, and the four axis directions."
+unfoldable pub squareDirections : Part → Part → List Direction
+squareDirections P Q = directions P Q ++ axes
+
+-- The parts are separated at this gap, measured as a square.
+unfoldable pub squareSeparated : ℕ → Part → Part → Bool
+squareSeparated gap P Q = any (separatesBy gap P Q) (squareDirections P Q)

@@ -1,0 +1,24 @@
+-- `geometry::distances::squared` meets its contract. Assumes nothing.
+use mathlib.Core.Path.{_∙_}
+use lib.IntN.{_*ℤ_}
+use borrow.Author.Needs.{needs}
+use Rattle.integers.proofs.Machine.{op-fits, op-gives}
+use Rattle.geometry.proofs.DistanceLaws.{square-fits}
+use Rattle.geometry.proofs.Sizes.{gap-read}
+use Rattle.geometry.proofs.distances.squared.Statement.{statement}
+use Rattle.geometry.proofs.distances.squared.Tie as tie
+
+cast-result : tie.Need-cast-result
+cast-result c = search needs
+
+cast-result-2 : tie.Need-cast-result-2
+cast-result-2 c = search needs
+
+mul-result : tie.Need-mul-result
+mul-result c = op-fits (gap-read (c .fits .gap)) (gap-read (c .fits .gap)) _*ℤ_ (square-fits (c .fits .gap))
+
+returns : tie.Need-returns
+returns c = op-gives (gap-read (c .fits .gap)) (gap-read (c .fits .gap)) _*ℤ_ (square-fits (c .fits .gap))
+
+pub squared-spec : {M : Type 1} → statement M
+squared-spec = tie.close (tie.spec cast-result cast-result-2 mul-result returns)
