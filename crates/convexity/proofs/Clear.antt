@@ -23,7 +23,7 @@ use Rattle.convexity.proofs.Members.{In, not-in, cons, in-either, all-i
 use Rattle.convexity.proofs.HalfPlanes.{suc-pos, zero-or}
 use Rattle.convexity.proofs.Edges.{Edge, edges, area, Good}
 use Rattle.convexity.proofs.Separation.{out-nz, into-nz}
-use Rattle.convexity.proofs.Distances.{d2, Far, square-round}
+use Rattle.convexity.proofs.Distances.{d2, Far, sep-apart, sep-edge}
 use Rattle.convexity.proofs.Places.{edgeAt, in-edges, edges-in, normals-in, separates-corners, edge-separated, sound-good}
 use Rattle.convexity.proofs.Near.{far-not-near, not-near-far}
 
@@ -109,6 +109,13 @@ pub axis-some : (d : Direction) → In d axes → Some d
 unfolding axes
 axis-some = cons Some (suc-pos 0) (cons Some (suc-pos 0) (cons Some (suc-pos 0) (cons Some (suc-pos 0) (λ d i. absurd (not-in i)))))
 
+-- What one direction separates at gap h keeps every corner so far from every edge of the other part.
+pub direction-clear : (P Q : Part) → 0 < length P → 0 < length Q → (h : ℕ) (d : Direction) → Some d → separatesBy h P Q d ≡ true
+    → (cornersClear h P Q ≡ true) × (cornersClear h Q P ≡ true)
+direction-clear P Q p q h d n s =
+    let r = sep-apart (pos h) (d .a) (d .b) P Q (nonneg-pos h) n (separates-corners h P Q p q d s) in
+    (far-clear h P Q (r .first), far-clear h Q P (r .second))
+
 module _ (P Q : Part) (soundP : SoundPart P) (soundQ : SoundPart Q) where
   pub edge-some : (d : Direction) → In d (directions P Q) → Some d
   unfolding directions negated
@@ -126,5 +133,5 @@ module _ (P Q : Part) (soundP : SoundPart P) (soundQ : SoundPart Q) where
   -- What one direction separates at gap h is separated by the round measure.
   pub direction-round : (h : ℕ) (d : Direction) → Some d → separatesBy h P Q d ≡ true → separated h P Q ≡ true
   direction-round h d n s =
-      let r = square-round P Q (pos h) (d .a) (d .b) (good soundP) (good soundQ) (nonneg-pos h) n (separates-corners h P Q (some soundP) (some soundQ) d s) in
-      round-of h P Q (edge-separated P Q (some soundP) (some soundQ) (r .0)) (far-clear h P Q (r .1 .first)) (far-clear h Q P (r .1 .second))
+      let r = direction-clear P Q (some soundP) (some soundQ) h d n s in
+      round-of h P Q (edge-separated P Q (some soundP) (some soundQ) (sep-edge P Q (pos h) (d .a) (d .b) (good soundP) (good soundQ) (nonneg-pos h) n (separates-corners h P Q (some soundP) (some soundQ) d s))) (r .0) (r .1)

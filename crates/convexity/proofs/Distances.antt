@@ -153,6 +153,6 @@ sep-apart g a b ps qs hg nz s = record {
 sep-zero : (g a b : ℤ) (ps qs : Part) → pos 0 ≤ℤ g → Sep g a b ps qs → Sep (pos 0) a b ps qs
 sep-zero g a b ps qs hg s p q i j = order 4 (λ u v g m. (O ≲ g) ∷ (O ≲ m) ∷ (u ⊞ g ⊠ m ≲ v) ∷ [] ⊢ u ⊞ O ⊠ m ≲ v by hyp 2 ⊕ hyp 0 ⊗ hyp 1) tt (dot a b p) (dot a b q) g (absZ a +ℤ absZ b) hg (nonneg-pos _) (s p q i j)
 
--- So what it separates at gap g an edge separates at gap 0, and the parts are g apart.
-pub square-round : (ps qs : Part) (g a b : ℤ) → Good ps → Good qs → pos 0 ≤ℤ g → pos 0 <ℤ (a *ℤ a +ℤ b *ℤ b) → Sep g a b ps qs → ByEdge ps qs × Apart g ps qs
-square-round ps qs g a b k h hg nz s = (some-edge ps qs k h a b nz (sep-zero g a b ps qs hg s), sep-apart g a b ps qs hg nz s)
+-- by an edge
+pub sep-edge : (ps qs : Part) (g a b : ℤ) → Good ps → Good qs → pos 0 ≤ℤ g → pos 0 <ℤ (a *ℤ a +ℤ b *ℤ b) → Sep g a b ps qs → ByEdge ps qs
+sep-edge ps qs g a b k h hg nz s = some-edge ps qs k h a b nz (sep-zero g a b ps qs hg s)

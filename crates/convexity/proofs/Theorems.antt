@@ -5,11 +5,12 @@
 use mathlib.Core.Path.{_≡_, refl, _∙_}
 use mathlib.Core.Bool.{Bool, true, false, _&&_}
 use mathlib.Core.Logic.{_↔_}
-use Prim.Native.Nat.{ℕ, _≤_, zero-le}
+use Prim.Native.Nat.{ℕ, _≤_, _<_, zero-le}
 use lib.IntN.{ℤ, pos, _+ℤ_, _*ℤ_}
+use lib.ListN.{length}
 use lib.Signed.{_≤ℤ_, _<ℤ_}
 use Rattle.model.specs.Content.{Vertex, Part}
-use Rattle.model.specs.Geometry.{Direction, direction, directions, separates, disjoint, nearEdge, separated}
+use Rattle.model.specs.Geometry.{Direction, direction, directions, separates, disjoint, nearEdge, cornersClear, separated}
 use Rattle.model.specs.Lists.{any}
 use Rattle.model.proofs.Lists.{not-both}
 use Rattle.convexity.specs.Parts.{SoundPart}
@@ -18,7 +19,7 @@ use Rattle.convexity.specs.Square.{axes, separatesBy, squareDirections, 
 use Rattle.convexity.proofs.Members.{any-in, is-false}
 use Rattle.convexity.proofs.Near.{far-points, points-far, far-not-near, not-near-far}
 use Rattle.convexity.proofs.Places.{zero-gap}
-use Rattle.convexity.proofs.Clear.{nonzero, axis-some, direction-some, direction-round, clear-zero, clear-less, round-says, round-of}
+use Rattle.convexity.proofs.Clear.{nonzero, axis-some, direction-some, direction-clear, direction-round, clear-zero, clear-less, round-says, round-of}
 
 -- ---- Sound parts
 
@@ -43,6 +44,11 @@ module _ (P Q : Part) (soundP : SoundPart P) (soundQ : SoundPart Q) where
       direction-round P Q soundP soundQ h (r .0) (direction-some P Q soundP soundQ (r .0) (r .1)) (r .2)
 
 -- ---- All parts
+
+-- Parts that a direction keeps a gap apart, measured as a square, have no corner nearer than that to an edge of the other: code may look at one direction first.
+pub kept-apart : (P Q : Part) → 0 < length P → 0 < length Q → (h : ℕ) (d : Direction) → (d ≡ direction (pos 0) (pos 0) → ⊥) → separatesBy h P Q d ≡ true
+    → (cornersClear h P Q ≡ true) × (cornersClear h Q P ≡ true)
+kept-apart P Q p q h d n s = direction-clear P Q p q h d (nonzero d n) s
 
 -- At gap 0 a direction that separates is all that is asked.
 pub separated-zero : (P Q : Part) → separated 0 P Q ≡ disjoint P Q

@@ -1,5 +1,5 @@
 -- Distances of corners from edges as they are computed, one after the other; no operation wraps. Assumes nothing.
-use mathlib.Core.Bool.{Bool, true, false, not, cond, _&&_, and-true, and-false}
+use mathlib.Core.Bool.{Bool, true, false, not, cond}
 use mathlib.Core.List.{[], _∷_, map}
 use mathlib.Core.Path.{_≡_, refl, sym, ap, ap₂, _∙_}
 use Prim.Native.Nat.{ℕ, _*_, _≤_, _<_, _^_}
@@ -16,13 +16,12 @@ use Rattle.integers.proofs.Machine.{op-fits, op-gives}
 use Rattle.integers.proofs.Sizes.{bounded, fits-natAbs}
 use Rattle.integers.proofs.Solver.{ring, #, _⊞_, _⊟_, _⊠_, _≈_}
 use Rattle.model.specs.Content.{Vertex, vertex, Part, origin}
-use Rattle.model.specs.Geometry.{vertexAt, following, cross, shifted, distanceSquared, alongEdge, nearEdge, cornersClear, disjoint, separated}
+use Rattle.model.specs.Geometry.{vertexAt, following, cross, shifted, distanceSquared, alongEdge, nearEdge, cornersClear}
 use Rattle.model.specs.Lists.{all, below}
 use Rattle.model.proofs.Lists.{all-at, all-of, all-below, below-all, not-both}
-use Rattle.model.proofs.Moves.{near-from, clear-shifted-corner, unmoved}
+use Rattle.model.proofs.Moves.{near-from}
 use Rattle.model.proofs.Tests.{all-map, all-each}
 use Rattle.convexity.proofs.Members.{is-false}
-use Rattle.convexity.proofs.Theorems.{separated-zero}
 use Rattle.geometry.specs.Clears.{Small}
 use Rattle.geometry.specs.Compact.{Short, Compact, edgeClear}
 use Rattle.geometry.proofs.Sizes.{size-of, fits-64, gap-read, small-read, small-fits, small-sum, small-difference, small-more}
@@ -140,7 +139,7 @@ module _ (gap : ℕ) (P Q : Part) where
   unfolding cornersClear
   one-near k h e = is-false _ (λ a. not-both (all-below (edgeClear gap P Q) (length Q) a k h) e)
 
--- ---- the pair
+-- ---- moves
 
 -- the opposite of a move
 pub opposite-size : (z : ℤ) → natAbs z ≤ 4096 → natAbs (pos 0 -ℤ z) ≤ 4096
@@ -148,29 +147,3 @@ opposite-size z h = bounded (4096 ∷ []) 1 (λ z. # (pos 0) ⊟ z) z h
 
 pub opposite-fits : (z : ℤ) → natAbs z ≤ 4096 → SFits w16 (pos 0 -ℤ z)
 opposite-fits z h = fits-natAbs w16 _ (lt-of-le-of-lt (opposite-size z h) (lit< tt))
-
-module _ (gap : ℕ) (P Q : Part) where
-  -- Q where it stands and P moved back, for P where it stands and Q moved.
-  pub clear-back : (dx dy : ℤ) → cornersClear gap (map (shifted (pos 0 -ℤ dx) (pos 0 -ℤ dy)) P) Q ≡ cornersClear gap P (map (shifted dx dy) Q)
-  clear-back dx dy =
-      sym (clear-shifted-corner gap Q P dx dy (pos 0) (pos 0))
-      ∙ ap (λ (R : Part). cornersClear gap R (map (shifted dx dy) Q)) (unmoved P)
-
-  -- the first of the three tests fails
-  pub disjoint-first : disjoint P Q ≡ false → false ≡ separated gap P Q
-  unfolding separated
-  disjoint-first e = rw e
-
-  -- at gap 0 it decides
-  pub gap-none : gap ≡ 0 → disjoint P Q ≡ true → true ≡ separated gap P Q
-  gap-none g e = rw g (sym (separated-zero P Q ∙ e))
-
-  -- the third fails
-  pub near-first : cornersClear gap Q P ≡ false → false ≡ separated gap P Q
-  unfolding separated
-  near-first e = sym (ap (λ t. disjoint P Q && cornersClear gap P Q && t) e ∙ and-false (disjoint P Q && cornersClear gap P Q))
-
-  -- the second decides
-  pub near-second : disjoint P Q ≡ true → cornersClear gap Q P ≡ true → cornersClear gap P Q ≡ separated gap P Q
-  unfolding separated
-  near-second e f = sym (ap₂ (λ s t. s && cornersClear gap P Q && t) e f ∙ and-true (cornersClear gap P Q))

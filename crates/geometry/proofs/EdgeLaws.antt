@@ -1,63 +1,37 @@
 -- The edges of a part one after the other, and the vertices of a part against a limit along a direction. Assumes nothing.
-use mathlib.Core.Bool.{Bool, true, false, _||_}
+use mathlib.Core.Bool.{Bool, true, false}
 use mathlib.Core.List.{[], _∷_, map}
 use mathlib.Core.Path.{_≡_, refl, sym, ap, _∙_}
-use Prim.Native.Nat.{ℕ, suc, _+_, _-_, _≤_, _<_}
-use native.Mathlib.Nat.{sub-zero}
+use Prim.Native.Nat.{ℕ, suc, _+_, _<_}
 use native.Mathlib.Numerals.{add-one}
 use native.Mathlib.Omega.{arith}
 use borrow.Author.Tests.{eq-eqb, ne-eqb}
 use lib.IntN.{ℤ, pos, _+ℤ_, _-ℤ_}
 use lib.ListN.{length, getD}
-use lib.Signed.{leZ, _≤ℤ_, _<ℤ_, ≤ℤ-refl, <ℤ-≤ℤ-trans}
-use Rattle.integers.proofs.Order.{leZ-true, leZ-false, le-leZ, lt-leZ, clash, +ℤ-mono}
-use Rattle.integers.proofs.Solver.{ring, _⊞_, _⊟_, _≈_}
+use lib.Signed.{leZ, _≤ℤ_, _<ℤ_, ≤ℤ-refl}
+use Rattle.integers.proofs.Certificates.{order, _⊢_by_, hyp, _⊕_}
+use Rattle.integers.proofs.Order.{leZ-true, leZ-false, le-leZ, lt-leZ, clash}
+use Rattle.integers.proofs.Solver.{_⊞_, _⊟_, _≲_, _≺_}
 use Rattle.model.specs.Content.{Vertex, Part, origin}
 use Rattle.model.specs.Geometry.{Direction, vertexAt, following, outwardNormal, normals}
-use Rattle.model.specs.Lists.{any, rising, below, largestZ, smallestZ}
-use Rattle.model.proofs.Extremes.{leZ-same}
+use Rattle.model.specs.Lists.{any, below, largestZ, smallestZ}
 use Rattle.model.proofs.Box.{all-above, all-below-bound}
 use Rattle.model.proofs.Lists.{all-at, all-of}
 use Rattle.model.proofs.Tests.{any-map}
+use Rattle.convexity.proofs.Members.{in-any, in-none, in-below, below-in}
 use Rattle.polygons.specs.Flat.{normalOf}
 
 -- ---- the edges
 
--- no edge before k passes the test: the others decide
-pub record Remaining (t : Direction → Bool) (P : Part) (k : ℕ) : Type 0 where
-  pub rest : any t (normals P) ≡ any (λ i. t (normalOf P i)) (rising k (length P - k))
-
-rising-first : (k n : ℕ) → k < n → rising k (n - k) ≡ k ∷ rising (k + 1) (n - (k + 1))
-unfolding rising
-rising-first k n h = rw (left, add-one) refl
-  where
-    left : n - k ≡ suc (n - (k + 1))
-    left = omega arith
-
-rising-none : (k n : ℕ) → n ≤ k → rising k (n - k) ≡ []
-unfolding rising
-rising-none k n h = let e : n - k ≡ 0 = omega arith in rw e
-
+-- The test of the normals, edge by edge: none passes, and one does.
 module _ (t : Direction → Bool) (P : Part) where
-  pub remaining-all : Remaining t P 0
-  unfolding normals below normalOf
-  remaining-all = record { rest = any-map t (normalOf P) (rising 0 (length P)) ∙ ap (λ n. any (λ i. t (normalOf P i)) (rising 0 n)) (sym (sub-zero (length P))) }
+  pub no-normal : ((j : ℕ) → j < length P → t (normalOf P j) ≡ false) → any t (normals P) ≡ false
+  unfolding normals normalOf
+  no-normal f = any-map t (normalOf P) (below (length P)) ∙ in-none (λ i. t (normalOf P i)) (below (length P)) (λ j i. f j (below-in (length P) j i))
 
-  -- one edge more
-  step : (k : ℕ) → k < length P → any (λ i. t (normalOf P i)) (rising k (length P - k)) ≡ (t (normalOf P k) || any (λ i. t (normalOf P i)) (rising (k + 1) (length P - (k + 1))))
-  unfolding any
-  step k h = ap (any (λ i. t (normalOf P i))) (rising-first k (length P) h)
-
-  pub remaining-next : (k : ℕ) → k < length P → t (normalOf P k) ≡ false → Remaining t P k → Remaining t P (k + 1)
-  remaining-next k h e r =
-      record { rest = r .rest ∙ step k h ∙ ap (λ s. s || any (λ i. t (normalOf P i)) (rising (k + 1) (length P - (k + 1)))) e }
-
-  pub remaining-found : (k : ℕ) → k < length P → t (normalOf P k) ≡ true → Remaining t P k → any t (normals P) ≡ true
-  remaining-found k h e r = r .rest ∙ step k h ∙ ap (λ s. s || any (λ i. t (normalOf P i)) (rising (k + 1) (length P - (k + 1)))) e
-
-  pub remaining-none : (k : ℕ) → length P ≤ k → Remaining t P k → any t (normals P) ≡ false
-  unfolding any
-  remaining-none k h r = r .rest ∙ ap (any (λ i. t (normalOf P i))) (rising-none k (length P) h)
+  pub some-normal : (k : ℕ) → k < length P → t (normalOf P k) ≡ true → any t (normals P) ≡ true
+  unfolding normals normalOf
+  some-normal k h e = any-map t (normalOf P) (below (length P)) ∙ in-any (λ i. t (normalOf P i)) (below (length P)) k (in-below (length P) k h) e
 
 -- the next vertex, by the place of its y
 pub next-inside : (P : Part) (k : ℕ) → suc k < length P → k + 1 ≡ following P k
@@ -119,10 +93,14 @@ unfolding smallestZ
 least-of-none f [] z h = refl
 least-of-none f (v ∷ P) z h = let never : ⊥ = omega arith in absurd never
 
--- a vertex that is too near already refutes the direction, since the furthest is no nearer
-pub refuted : (near far ahead low : ℤ) → near ≤ℤ far → leZ (near +ℤ ahead) low ≡ false → leZ (far +ℤ ahead) low ≡ false
-refuted near far ahead low h e = lt-leZ (far +ℤ ahead) low (<ℤ-≤ℤ-trans (leZ-false (near +ℤ ahead) low e) (+ℤ-mono h (≤ℤ-refl ahead)))
+-- of no vertex the largest is 0
+pub largest-of-none : (f : Vertex → ℤ) (P : Part) (z : ℤ) → length P ≡ 0 → leZ (pos 0) z ≡ leZ (largestZ (map f P)) z
+unfolding largestZ
+largest-of-none f [] z h = refl
+largest-of-none f (v ∷ P) z h = let never : ⊥ = omega arith in absurd never
 
--- the lead on either side of the comparison
-pub lead-across : (z ahead low : ℤ) → leZ z (low -ℤ ahead) ≡ leZ (z +ℤ ahead) low
-lead-across z ahead low = leZ-same z (low -ℤ ahead) (z +ℤ ahead) low (ring 3 (λ z a l. (l ⊟ a) ⊟ z ≈ l ⊟ (z ⊞ a)) tt z ahead low)
+-- a vertex that is too near already refutes the direction, since the furthest is no nearer
+pub refuted : (near far way low : ℤ) → near ≤ℤ far → leZ (near -ℤ way) low ≡ false → leZ far (low +ℤ way) ≡ false
+refuted near far way low h e =
+    lt-leZ far (low +ℤ way)
+    (order 4 (λ n f w l. (n ≲ f) ∷ (l ≺ n ⊟ w) ∷ [] ⊢ l ⊞ w ≺ f by hyp 0 ⊕ hyp 1) tt near far way low h (leZ-false (near -ℤ way) low e))

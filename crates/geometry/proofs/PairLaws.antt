@@ -1,79 +1,160 @@
--- The test of a pair at gap 0 as it is computed is the model's. Assumes nothing.
-use mathlib.Core.Bool.{_||_}
-use mathlib.Core.List.{[], _∷_, map}
-use mathlib.Core.Path.{_≡_, refl, sym, ap, _∙_}
-use Prim.Native.Nat.{_<_}
+-- The test of a pair by the normals of its parts is the model's, and what a normal keeps apart is clear. Assumes nothing.
+use mathlib.Core.Bool.{Bool, true, false, not, cond, _&&_, _||_, and-true, and-false, and-comm, and-assoc}
+use mathlib.Core.List.{map}
+use mathlib.Core.Path.{_≡_, refl, sym, ap, ap₂, _∙_}
+use Prim.Native.Nat.{ℕ, _<_}
+use native.Mathlib.Nat.{mul-zero}
 use native.Mathlib.Omega.{arith}
-use lib.IntN.{ℤ, pos, negℤ, _+ℤ_, _-ℤ_, _*ℤ_}
-use lib.ListN.{length}
-use lib.Signed.{leZ}
-use Rattle.integers.proofs.Solver.{ring, #, _⊞_, _⊟_, _⊠_, ⊖_, _≈_}
+use borrow.Author.Tests.{not-true}
+use lib.Dec.{eqb}
+use lib.IntN.{ℤ, pos, _+ℤ_, _-ℤ_, _*ℤ_}
+use lib.ListN.{length, length-map}
+use lib.Signed.{leZ, ≤ℤ-refl}
+use Rattle.integers.proofs.Order.{le-leZ}
+use Rattle.integers.proofs.Solver.{ring, #, _⊞_, _⊟_, _⊠_, _≈_}
 use Rattle.model.specs.Content.{vertex, Part}
-use Rattle.model.specs.Geometry.{Direction, normals, along, separates, disjoint}
+use Rattle.model.specs.Geometry.{Direction, direction, normals, along, separates, disjoint, cornersClear, separated}
 use Rattle.model.specs.Lists.{any, largestZ, smallestZ}
 use Rattle.model.proofs.Conflict.{disjoint-groups}
 use Rattle.model.proofs.Extremes.{leZ-same}
-use Rattle.model.proofs.Moves.{largest-shifted, smallest-shifted, normals-shifted}
+use Rattle.model.proofs.Lists.{and-left, and-right, and-both, not-both}
+use Rattle.model.proofs.Moves.{largest-shifted, smallest-shifted, normals-shifted, clear-shifted, clear-shifted-corner, unmoved}
 use Rattle.model.proofs.Tests.{any-same}
+use Rattle.convexity.specs.Square.{clearance, separatesBy}
+use Rattle.convexity.proofs.Clear.{clear-zero}
+use Rattle.convexity.proofs.Theorems.{kept-apart}
 use Rattle.polygons.specs.Flat.{shifted}
-use Rattle.geometry.specs.Apart.{disjointAt}
-use Rattle.geometry.specs.Clears.{leadOf, clears}
-
--- ---- tests of order
-
--- the move of the second part on the other side
-first-test : (l s A B x y : ℤ) → leZ (l +ℤ negℤ (A *ℤ (x -ℤ pos 0) +ℤ B *ℤ (y -ℤ pos 0))) s ≡ leZ l (s +ℤ (A *ℤ x +ℤ B *ℤ y))
-first-test l s A B x y =
-    leZ-same (l +ℤ negℤ (A *ℤ (x -ℤ pos 0) +ℤ B *ℤ (y -ℤ pos 0))) s l (s +ℤ (A *ℤ x +ℤ B *ℤ y))
-    (ring 6 (λ l s A B x y. s ⊟ (l ⊞ ⊖ (A ⊠ (x ⊟ # (pos 0)) ⊞ B ⊠ (y ⊟ # (pos 0)))) ≈ (s ⊞ (A ⊠ x ⊞ B ⊠ y)) ⊟ l) tt l s A B x y)
-
--- the same with the parts changed over
-second-test : (l s A B x y : ℤ) → leZ (l +ℤ negℤ (A *ℤ (pos 0 -ℤ x) +ℤ B *ℤ (pos 0 -ℤ y))) s ≡ leZ (l +ℤ (A *ℤ x +ℤ B *ℤ y)) s
-second-test l s A B x y =
-    leZ-same (l +ℤ negℤ (A *ℤ (pos 0 -ℤ x) +ℤ B *ℤ (pos 0 -ℤ y))) s (l +ℤ (A *ℤ x +ℤ B *ℤ y)) s
-    (ring 6 (λ l s A B x y. s ⊟ (l ⊞ ⊖ (A ⊠ (# (pos 0) ⊟ x) ⊞ B ⊠ (# (pos 0) ⊟ y))) ≈ s ⊟ (l ⊞ (A ⊠ x ⊞ B ⊠ y))) tt l s A B x y)
+use Rattle.geometry.specs.Apart.{bothClear, besideOf}
+use Rattle.geometry.specs.Clears.{clears, keeps, Separating}
+use Rattle.geometry.proofs.EdgeLaws.{some-normal}
 
 -- ---- the normals
 
--- R is Q moved by (dx, dy): so say its least and its largest along every direction, and its normals.
-module _ (P Q R : Part) (dx dy : ℤ)
-    (low : (d : Direction) → smallestZ (map (along d) R) ≡ smallestZ (map (along d) Q) +ℤ along d (vertex dx dy))
-    (high : (d : Direction) → largestZ (map (along d) R) ≡ largestZ (map (along d) Q) +ℤ along d (vertex dx dy)) (same : normals R ≡ normals Q) where
-  -- a normal of P
-  clears-first : (d : Direction) → clears P Q (vertex (dx -ℤ pos 0) (dy -ℤ pos 0)) d ≡ separates P R d
-  unfolding clears leadOf separates along
-  clears-first d =
-      first-test (largestZ (map (along d) P)) (smallestZ (map (along d) Q)) (d .a) (d .b) dx dy
-      ∙ ap (leZ (largestZ (map (along d) P))) (sym (low d))
+-- (0, 0) has no clearance
+no-clearance : (gap : ℕ) → leZ (clearance gap (direction (pos 0) (pos 0))) (pos 0) ≡ true
+unfolding clearance
+no-clearance gap = ap (λ n. leZ (pos n) (pos 0)) (mul-zero gap) ∙ le-leZ (pos 0) (pos 0) (≤ℤ-refl (pos 0))
 
-  -- a normal of Q
-  clears-second : (d : Direction) → clears Q P (vertex (pos 0 -ℤ dx) (pos 0 -ℤ dy)) d ≡ separates R P d
-  unfolding clears leadOf separates along
+-- Q, which has a vertex, is moved by (dx, dy)
+module _ (P Q : Part) (dx dy : ℤ) (someQ : 0 < length Q) where
+  -- a normal of P
+  clears-first : (d : Direction) → clears P Q (vertex dx dy) d ≡ separates P (map (shifted dx dy) Q) d
+  unfolding clears separates
+  clears-first d = ap (leZ (largestZ (map (along d) P))) (sym (smallest-shifted d dx dy Q someQ))
+
+  -- a normal of Q, with the parts changed over
+  clears-second : (d : Direction) → clears Q P (vertex (pos 0 -ℤ dx) (pos 0 -ℤ dy)) d ≡ separates (map (shifted dx dy) Q) P d
+  unfolding clears separates along
   clears-second d =
-      second-test (largestZ (map (along d) Q)) (smallestZ (map (along d) P)) (d .a) (d .b) dx dy
-      ∙ ap (λ s. leZ s (smallestZ (map (along d) P))) (sym (high d))
+      across (largestZ (map (along d) Q)) (smallestZ (map (along d) P)) (d .a) (d .b) dx dy
+      ∙ ap (λ s. leZ s (smallestZ (map (along d) P))) (sym (largest-shifted d dx dy Q someQ))
+    where
+      across : (l s A B x y : ℤ) → leZ l (s +ℤ (A *ℤ (pos 0 -ℤ x) +ℤ B *ℤ (pos 0 -ℤ y))) ≡ leZ (l +ℤ (A *ℤ x +ℤ B *ℤ y)) s
+      across l s A B x y =
+          leZ-same l (s +ℤ (A *ℤ (pos 0 -ℤ x) +ℤ B *ℤ (pos 0 -ℤ y))) (l +ℤ (A *ℤ x +ℤ B *ℤ y)) s
+          (ring 6 (λ l s A B x y. (s ⊞ (A ⊠ (# (pos 0) ⊟ x) ⊞ B ⊠ (# (pos 0) ⊟ y))) ⊟ l ≈ s ⊟ (l ⊞ (A ⊠ x ⊞ B ⊠ y))) tt l s A B x y)
 
   -- all of them
-  disjoint-is : disjointAt P Q dx dy ≡ disjoint P R
-  unfolding disjointAt
+  disjoint-is : disjoint P (map (shifted dx dy) Q)
+      ≡ (any (clears P Q (vertex dx dy)) (normals P) || any (clears Q P (vertex (pos 0 -ℤ dx) (pos 0 -ℤ dy))) (normals Q))
   disjoint-is =
-      sym
-      (disjoint-groups P R
-      ∙ ap (λ t. t || any (separates R P) (normals R)) (sym (any-same _ (separates P R) clears-first (normals P)))
-      ∙ ap (λ t. any (clears P Q (vertex (dx -ℤ pos 0) (dy -ℤ pos 0))) (normals P) || t)
-      (ap (any (separates R P)) same ∙ sym (any-same _ (separates R P) clears-second (normals Q))))
+      disjoint-groups P (map (shifted dx dy) Q)
+      ∙ ap₂ _||_ (sym (any-same _ _ clears-first (normals P)))
+      (ap (any (separates (map (shifted dx dy) Q) P)) (normals-shifted dx dy Q) ∙ sym (any-same _ _ clears-second (normals Q)))
 
--- Q has a vertex: it moves.
-pub disjoint-moved : (P Q : Part) (dx dy : ℤ) → 0 < length Q → disjointAt P Q dx dy ≡ disjoint P (map (shifted dx dy) Q)
-disjoint-moved P Q dx dy h =
-    disjoint-is P Q (map (shifted dx dy) Q) dx dy (λ d. smallest-shifted d dx dy Q h) (λ d. largest-shifted d dx dy Q h) (normals-shifted dx dy Q)
+  -- What a direction keeps apart is clear.
+  pub kept-clear : 0 < length P → (gap : ℕ) (d : Direction) → keeps gap P Q (vertex dx dy) d ≡ true → bothClear gap P (map (shifted dx dy) Q) ≡ true
+  unfolding keeps separatesBy
+  kept-clear someP gap d e =
+      let r = kept-apart P (map (shifted dx dy) Q) someP (rw (length-map Q (shifted dx dy)) someQ) gap d some
+      (ap (leZ (largestZ (map (along d) P) +ℤ clearance gap d)) (smallest-shifted d dx dy Q someQ)
+      ∙ across (largestZ (map (along d) P)) (clearance gap d) (smallestZ (map (along d) Q) +ℤ along d (vertex dx dy)) ∙ and-right (not (leZ (clearance gap d) (pos 0))) _ e) in
+      and-both _ _ (r .0) (r .1)
+    where
+      across : (l c s : ℤ) → leZ (l +ℤ c) s ≡ leZ l (s -ℤ c)
+      across l c s = leZ-same (l +ℤ c) s l (s -ℤ c) (ring 3 (λ l c s. s ⊟ (l ⊞ c) ≈ (s ⊟ c) ⊟ l) tt l c s)
 
--- a move by nothing
-unmoved : (z : ℤ) (d : Direction) → z ≡ z +ℤ along d (vertex (pos 0) (pos 0))
-unfolding along
-unmoved z d = ring 3 (λ z a b. z ≈ z ⊞ (a ⊠ # (pos 0) ⊞ b ⊠ # (pos 0))) tt z (d .a) (d .b)
+      wide : leZ (clearance gap d) (pos 0) ≡ false
+      wide = not-true _ (and-left (not (leZ (clearance gap d) (pos 0))) _ e)
 
--- Q has none: there is nothing to move.
-pub disjoint-empty : (P Q : Part) (dx dy : ℤ) → length Q ≡ 0 → disjointAt P Q (pos 0) (pos 0) ≡ disjoint P (map (shifted dx dy) Q)
-disjoint-empty P [] dx dy h = disjoint-is P [] [] (pos 0) (pos 0) (λ d. unmoved (smallestZ []) d) (λ d. unmoved (largestZ []) d) refl
-disjoint-empty P (v ∷ Q) dx dy h = let never : ⊥ = omega arith in absurd never
+      some : d ≡ direction (pos 0) (pos 0) → ⊥
+      some z = not-both (ap (λ (d : Direction). leZ (clearance gap d) (pos 0)) z ∙ no-clearance gap) wide
+
+-- ---- the three tests of the model
+
+module _ (gap : ℕ) (P Q : Part) where
+  pub both-none : gap ≡ 0 → true ≡ bothClear gap P Q
+  both-none g = rw g (sym (and-both _ _ (clear-zero P Q) (clear-zero Q P)))
+
+  pub both-second : cornersClear gap Q P ≡ false → false ≡ bothClear gap P Q
+  both-second e = sym (ap (λ t. cornersClear gap P Q && t) e ∙ and-false (cornersClear gap P Q))
+
+  pub both-first : cornersClear gap Q P ≡ true → cornersClear gap P Q ≡ bothClear gap P Q
+  both-first e = sym (ap (λ t. cornersClear gap P Q && t) e ∙ and-true (cornersClear gap P Q))
+
+-- P moved back, for Q moved
+module _ (gap : ℕ) (P Q : Part) (dx dy : ℤ) where
+  pub clear-back : cornersClear gap (map (shifted (pos 0 -ℤ dx) (pos 0 -ℤ dy)) P) Q ≡ cornersClear gap P (map (shifted dx dy) Q)
+  clear-back = sym (clear-shifted-corner gap Q P dx dy (pos 0) (pos 0)) ∙ ap (λ (R : Part). cornersClear gap R (map (shifted dx dy) Q)) (unmoved P)
+
+  clear-forth : cornersClear gap Q (map (shifted (pos 0 -ℤ dx) (pos 0 -ℤ dy)) P) ≡ cornersClear gap (map (shifted dx dy) Q) P
+  clear-forth = sym (clear-shifted gap Q P dx dy (pos 0) (pos 0)) ∙ ap (cornersClear gap (map (shifted dx dy) Q)) (unmoved P)
+
+  pub both-back : bothClear gap Q (map (shifted (pos 0 -ℤ dx) (pos 0 -ℤ dy)) P) ≡ bothClear gap P (map (shifted dx dy) Q)
+  both-back = ap₂ _&&_ clear-forth clear-back ∙ and-comm (cornersClear gap (map (shifted dx dy) Q) P) (cornersClear gap P (map (shifted dx dy) Q))
+
+-- ---- what the edges of one part say
+
+module _ (gap : ℕ) (P Q : Part) (dx dy : ℤ) where
+  -- none of them separates
+  pub beside-none : any (clears P Q (vertex dx dy)) (normals P) ≡ false → 0 ≡ besideOf gap P Q dx dy
+  unfolding besideOf
+  beside-none e = rw e
+
+  -- edge k does, and the distances decide
+  pub beside-some : (k : ℕ) → Separating P Q (vertex dx dy) k → k < length P → (b : Bool) → b ≡ bothClear gap P (map (shifted dx dy) Q) → cond b 1 2 ≡ besideOf gap P Q dx dy
+  unfolding besideOf
+  beside-some k s h b e = rw (some-normal (clears P Q (vertex dx dy)) P k h (s .found h), e)
+
+-- Two parts are separated if the edges of the first say so, or say nothing and those of the second do.
+abbrev code : Bool → Bool → ℕ
+code a c = cond a (cond c 1 2) 0
+
+module _ (gap : ℕ) (P Q : Part) (dx dy : ℤ) (someQ : 0 < length Q) where
+  by-first : (a b c : Bool) → (code a c ≡ 0 → ⊥) → eqb (code a c) 1 ≡ ((a || b) && c)
+  by-first true b true h = refl
+  by-first true b false h = refl
+  by-first false b c h = absurd (h refl)
+
+  by-second : (a b c : Bool) → code a c ≡ 0 → eqb (code b c) 1 ≡ ((a || b) && c)
+  by-second true b true h = let never : ⊥ = omega arith in absurd never
+  by-second true b false h = let never : ⊥ = omega arith in absurd never
+  by-second false true true h = refl
+  by-second false true false h = refl
+  by-second false false c h = refl
+
+  abbrev firstEdges : Bool
+  firstEdges = any (clears P Q (vertex dx dy)) (normals P)
+
+  abbrev secondEdges : Bool
+  secondEdges = any (clears Q P (vertex (pos 0 -ℤ dx) (pos 0 -ℤ dy))) (normals Q)
+
+  abbrev clear : Bool
+  clear = bothClear gap P (map (shifted dx dy) Q)
+
+  -- the three tests in two groups
+  separated-is : separated gap P (map (shifted dx dy) Q) ≡ ((firstEdges || secondEdges) && clear)
+  unfolding separated
+  separated-is =
+      and-assoc (disjoint P (map (shifted dx dy) Q)) (cornersClear gap P (map (shifted dx dy) Q)) (cornersClear gap (map (shifted dx dy) Q) P)
+      ∙ ap (λ t. t && clear) (disjoint-is P Q dx dy someQ)
+
+  pub first-says : (besideOf gap P Q dx dy ≡ 0 → ⊥) → eqb (besideOf gap P Q dx dy) 1 ≡ separated gap P (map (shifted dx dy) Q)
+  unfolding besideOf
+  first-says h = by-first firstEdges secondEdges clear h ∙ sym separated-is
+
+  pub second-says : besideOf gap P Q dx dy ≡ 0 → eqb (besideOf gap Q P (pos 0 -ℤ dx) (pos 0 -ℤ dy)) 1 ≡ separated gap P (map (shifted dx dy) Q)
+  unfolding besideOf
+  second-says h =
+      ap (λ c. eqb (code secondEdges c) 1) (both-back gap P Q dx dy)
+      ∙ by-second firstEdges secondEdges clear h ∙ sym separated-is

@@ -13,8 +13,11 @@ use mir.Val.{Fits, SFits, hbits, toZ, ofZ}
 use mir.ValLaws.{toZ-ofZ, toZ-pos}
 use Rattle.integers.proofs.Absolute.{natAbs-+ℤ, natAbs-negℤ}
 use Rattle.integers.proofs.Machine.{cast-gives, op-fits, op-gives}
+use Rattle.integers.proofs.Order.{<ℤ-pos}
 use Rattle.integers.proofs.Sizes.{sized, bounded, fits-natAbs}
-use Rattle.integers.proofs.Solver.{ring, _⊞_, _⊟_, _⊠_, ⊖_, _≈_}
+use Rattle.integers.proofs.Solver.{#, _⊞_, _⊟_, _⊠_}
+use Rattle.model.specs.Geometry.{direction}
+use Rattle.convexity.specs.Square.{clearance}
 use Rattle.geometry.specs.Clears.{Small}
 
 -- a number of w bits is at most half the width's range
@@ -71,49 +74,70 @@ dot-small {a} {b} {x} {y} {r} ha hb hx hy e = small-at is (record { value = refl
     size : natAbs (a *ℤ x +ℤ b *ℤ y) ≤ 2 ^ 47
     size = bounded (2 ^ 31 ∷ 2 ^ 31 ∷ 2 ^ 15 ∷ 2 ^ 15 ∷ []) 4 (λ a b x y. a ⊠ x ⊞ b ⊠ y) a b x y (size-of w32 a ha) (size-of w32 b hb) (size-of w16 x hx) (size-of w16 y hy)
 
+-- ---- the size of a number
+
+pub below-zero : (a : ℤ) → SFits w32 a → a <ℤ pos 0 → Small (pos (natAbs a)) 31 (pos 0 -ℤ a)
+below-zero (pos n) f h = let z : n < 0 = <ℤ-pos h in let never : ⊥ = omega arith in absurd never
+below-zero (negsuc n) f h = record { value = ap pos (zero-add (suc n)); size = rw (zero-add (suc n)) (size-of w32 (negsuc n) f) }
+
+pub from-zero : (a : ℤ) → SFits w32 a → pos 0 ≤ℤ a → Small (pos (natAbs a)) 31 a
+from-zero (pos n) f h = record { value = refl; size = size-of w32 (pos n) f }
+from-zero (negsuc n) f h = absurd (h .le)
+
+-- ---- the gap along a direction
+
 -- the gap as a number of 64 bits
 pub gap-read : {gap : ℕ} → Fits w16 gap → toZ w64 gap ≡ pos gap
 gap-read {gap} h = toZ-pos w64 gap (lt-of-lt-of-le (h .fits) (lit≤ tt))
 
--- ---- the lead of one part over another
+-- the gap times the two magnitudes
+pub gap-small : {gap : ℕ} (a b : ℤ) {s : ℤ} → Fits w16 gap → Small (pos (natAbs a) +ℤ pos (natAbs b)) 32 s → Small (clearance gap (direction a b)) 48 (pos gap *ℤ s)
+unfolding clearance
+gap-small {gap} a b {s} hg h =
+    record {
+      value = ap (λ z. pos gap *ℤ z) (h .value);
+      size = bounded (2 ^ 16 ∷ 2 ^ 32 ∷ []) 2 (λ g s. g ⊠ s) (pos gap) s (le-of-lt (hg .fits)) (h .size);
+    }
+
+-- ---- places along a direction
 
 -- a number as it is read from the bits of a local
 abbrev read : ℤ → ℤ
 read z = toZ w64 (ofZ w64 z)
 
--- the way of one move less that of another
-module _ {P Q p q : ℤ} (hp : Small P 47 p) (hq : Small Q 47 q) where
-  pub lead-small : Small (P -ℤ Q) 48 (p -ℤ q)
-  lead-small = small-difference hp hq
+-- a place less a move
+module _ {N M n m : ℤ} (hn : Small N 47 n) (hm : Small M 47 m) where
+  pub less-fits : SFits w64 (read n -ℤ read m)
+  less-fits = op-fits (small-read hn tt) (small-read hm tt) _-ℤ_ (small-fits (small-difference hn hm) tt)
 
-  pub lead-fits : SFits w64 (read p -ℤ read q)
-  lead-fits = op-fits (small-read hp tt) (small-read hq tt) _-ℤ_ (small-fits lead-small tt)
+  pub less-gives : read (read n -ℤ read m) ≡ N -ℤ M
+  less-gives = op-gives (small-read hn tt) (small-read hm tt) _-ℤ_ (small-fits (small-difference hn hm) tt) ∙ small-difference hn hm .value
 
-  pub lead-gives : read (read p -ℤ read q) ≡ p -ℤ q
-  lead-gives = op-gives (small-read hp tt) (small-read hq tt) _-ℤ_ (small-fits lead-small tt)
+  -- and a place with a move
+  pub more-fits : SFits w64 (read n +ℤ read m)
+  more-fits = op-fits (small-read hn tt) (small-read hm tt) _+ℤ_ (small-fits (small-sum hn hm) tt)
 
--- is that of their difference, negated
-pub one-move : (a b px py qx qy : ℤ) → a *ℤ px +ℤ b *ℤ py -ℤ (a *ℤ qx +ℤ b *ℤ qy) ≡ negℤ (a *ℤ (qx -ℤ px) +ℤ b *ℤ (qy -ℤ py))
-one-move = ring 6 (λ a b px py qx qy. a ⊠ px ⊞ b ⊠ py ⊟ (a ⊠ qx ⊞ b ⊠ qy) ≈ ⊖ (a ⊠ (qx ⊟ px) ⊞ b ⊠ (qy ⊟ py))) tt
+  pub more-gives : read (read n +ℤ read m) ≡ N +ℤ M
+  more-gives = op-gives (small-read hn tt) (small-read hm tt) _+ℤ_ (small-fits (small-sum hn hm) tt) ∙ small-sum hn hm .value
 
--- a place along a direction, and the lead over it or under it
-module _ {N L n l : ℤ} (hn : Small N 47 n) (hl : Small L 48 l) where
-  wide : Small N 48 n
-  wide = small-more hn
+  -- less what a gap reaches
+  module _ {R r : ℤ} (hr : Small R 48 r) where
+    kept : Small (N +ℤ M -ℤ R) 49 (n +ℤ m -ℤ r)
+    kept = small-difference (small-sum hn hm) hr
 
-  pub ahead-fits : SFits w64 (read n +ℤ read l)
-  ahead-fits = op-fits (small-read hn tt) (small-read hl tt) _+ℤ_ (small-fits (small-sum wide hl) tt)
+    place : read (read n +ℤ read m) ≡ n +ℤ m
+    place = op-gives (small-read hn tt) (small-read hm tt) _+ℤ_ (small-fits (small-sum hn hm) tt)
 
-  pub ahead-gives : read (read n +ℤ read l) ≡ N +ℤ L
-  ahead-gives = op-gives (small-read hn tt) (small-read hl tt) _+ℤ_ (small-fits (small-sum wide hl) tt) ∙ small-sum wide hl .value
+    pub kept-fits : SFits w64 (read (read n +ℤ read m) -ℤ read r)
+    kept-fits = op-fits place (small-read hr tt) _-ℤ_ (small-fits kept tt)
 
-  pub behind-fits : SFits w64 (read n -ℤ read l)
-  behind-fits = op-fits (small-read hn tt) (small-read hl tt) _-ℤ_ (small-fits (small-difference wide hl) tt)
-
-  pub behind-gives : read (read n -ℤ read l) ≡ N -ℤ L
-  behind-gives = op-gives (small-read hn tt) (small-read hl tt) _-ℤ_ (small-fits (small-difference wide hl) tt) ∙ small-difference wide hl .value
+    pub kept-gives : read (read (read n +ℤ read m) -ℤ read r) ≡ N +ℤ M -ℤ R
+    kept-gives = op-gives place (small-read hr tt) _-ℤ_ (small-fits kept tt) ∙ kept .value
 
 -- ---- differences and sums of coordinates
+
+pub opposite-fits : (a : ℤ) → SFits w32 a → SFits w64 (pos 0 -ℤ a)
+opposite-fits = sized w32 w64 1 (λ a. # (pos 0) ⊟ a) tt
 
 pub difference-fits : (u w : ℤ) → SFits w16 u → SFits w16 w → SFits w32 (u -ℤ w)
 difference-fits = sized w16 w32 2 (λ u w. u ⊟ w) tt

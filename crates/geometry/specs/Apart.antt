@@ -1,11 +1,13 @@
--- The tests of a pair of parts as they are computed: of their boxes, and of the normals of their edges.
-use mathlib.Core.Bool.{Bool, _||_}
+-- The tests of a pair of parts: of their boxes, of the distances of their corners, and of the edges of one of them.
+use mathlib.Core.Bool.{Bool, cond, _&&_, _||_}
+use mathlib.Core.List.{map}
 use Prim.Native.Nat.{ℕ}
-use lib.IntN.{ℤ, pos, _+ℤ_, _-ℤ_}
+use lib.IntN.{ℤ, pos, _+ℤ_}
 use lib.Signed.{leZ}
 use Rattle.model.specs.Content.{vertex, Part}
-use Rattle.model.specs.Geometry.{normals}
+use Rattle.model.specs.Geometry.{normals, cornersClear}
 use Rattle.model.specs.Lists.{any}
+use Rattle.polygons.specs.Flat.{shifted}
 use Rattle.geometry.specs.Clears.{clears}
 use Rattle.polygons.specs.declared.extents.Extents.{Extents}
 
@@ -21,8 +23,10 @@ boxesApart gap e f dx dy =
     || clearOf gap (f .«max_x») dx (e .«min_x») (pos 0)
     || clearOf gap (f .«max_y») dy (e .«min_y») (pos 0)
 
--- The test of a pair at gap 0 as it is computed: the normals of P, then those of Q with the parts changed over.
-unfoldable pub disjointAt : Part → Part → ℤ → ℤ → Bool
-disjointAt P Q dx dy =
-    any (clears P Q (vertex (dx -ℤ pos 0) (dy -ℤ pos 0))) (normals P)
-    || any (clears Q P (vertex (pos 0 -ℤ dx) (pos 0 -ℤ dy))) (normals Q)
+-- No corner of either part is nearer than the gap to an edge of the other.
+abbrev pub bothClear : ℕ → Part → Part → Bool
+bothClear gap P Q = cornersClear gap P Q && cornersClear gap Q P
+
+-- What the edges of P say of it and Q moved by (dx, dy): 0 if no normal of them separates the two, 1 if one does and no corner is too near an edge, 2 if one does and a corner is.
+unfoldable pub besideOf : ℕ → Part → Part → ℤ → ℤ → ℕ
+besideOf gap P Q dx dy = cond (any (clears P Q (vertex dx dy)) (normals P)) (cond (bothClear gap P (map (shifted dx dy) Q)) 1 2) 0

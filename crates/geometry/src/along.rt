@@ -1,19 +1,41 @@
-// How far the vertices of a part lie along a direction (a, b).
+// How far the vertices of a part, a move and a gap reach along a direction (a, b).
 ghost use mathlib.Core.List.{map};
 ghost use mathlib.Core.Path.{_≡_};
 ghost use Prim.Native.Nat.{_+_, _*_, _<_};
-ghost use lib.IntN.{_-ℤ_};
+ghost use lib.IntN.{natAbs, pos};
 ghost use lib.ListN.{length};
 ghost use lib.Signed.{leZ};
 ghost use Rattle.integers.specs.Extrema.{minZ};
 ghost use Rattle.model.specs.Content.{vertex};
 ghost use Rattle.model.specs.Geometry;
 ghost use Rattle.model.specs.Geometry.{direction, vertexAt};
-ghost use Rattle.model.specs.Lists.{smallestZ};
+ghost use Rattle.model.specs.Lists.{largestZ, smallestZ};
+ghost use Rattle.convexity.specs.Square.{clearance};
 ghost use Rattle.polygons.specs.Flat.{partOf};
-ghost use Rattle.geometry.specs.Clears.{Small, leadOf};
+ghost use Rattle.geometry.specs.Clears.{Small};
 use integers::dot;
 use polygons::vertices::coordinate;
+
+// The size of a number, whatever its sign.
+fn magnitude(a: i32) -> i64
+    ensures { λ r. ⌜ Small (pos (natAbs a)) 31 r ⌝ }
+{
+    if a < 0 { 0 - (a as i64) } else { a as i64 }
+}
+
+// How far a gap reaches along (a, b) at most: gap × (|a| + |b|).
+pub fn gap_along(gap: u16, a: i32, b: i32) -> i64
+    ensures { λ r. ⌜ Small (clearance gap (direction a b)) 48 r ⌝ }
+{
+    (gap as i64) * (magnitude(a) + magnitude(b))
+}
+
+// How far the move (dx, dy) goes along (a, b).
+pub fn move_along(a: i32, b: i32, dx: i16, dy: i16) -> i64
+    ensures { λ r. ⌜ Small (Geometry.along (direction a b) (vertex dx dy)) 47 r ⌝ }
+{
+    dot(a, b, dx, dy)
+}
 
 // How far vertex k lies along (a, b).
 pub fn vertex_along(p: &[i16], k: usize, a: i32, b: i32) -> i64
@@ -65,9 +87,20 @@ pub fn lies_beyond(p: &[i16], a: i32, b: i32, limit: i64) -> bool
     true
 }
 
-// How much further along (a, b) than p the part q must lie before they are moved, p by (px, py) and q by (qx, qy), to lie no nearer than it afterwards.
-pub fn lead(px: i16, py: i16, qx: i16, qy: i16, a: i32, b: i32) -> i64
-    ensures { λ r. ⌜ Small (leadOf (vertex (qx -ℤ px) (qy -ℤ py)) (direction a b)) 48 r ⌝ }
+// Whether no vertex of the part lies further along (a, b) than `limit`. The first that does ends the test. (Of no vertex the largest is 0.)
+pub fn lies_within(p: &[i16], a: i32, b: i32, limit: i64) -> bool
+    ensures { λ r. ⌜ r ≡ leZ (largestZ (map (Geometry.along (direction a b)) (partOf (now (p .entry))))) limit ⌝ }
 {
-    dot(a, b, px, py) - dot(a, b, qx, qy)
+    let n = p.len() / 2;
+    if n == 0 {
+        return 0 <= limit;
+    }
+    let mut k: usize = 0;
+    while k < n {
+        if limit < vertex_along(p, k, a, b) {
+            return false;
+        }
+        k += 1;
+    }
+    true
 }

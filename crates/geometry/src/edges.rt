@@ -1,16 +1,17 @@
-// The edges of a part, and the test whether the normal of one of them separates it from another part.
+// The edges of a part, and the tests whether the normal of one of them separates it from another part.
 ghost use mathlib.Core.Path.{_≡_};
-ghost use Prim.Native.Nat.{_+_, _*_, _<_};
+ghost use Prim.Native.Nat.{_+_, _*_, _/_, _≤_, _<_};
 ghost use lib.IntN.{_-ℤ_};
 ghost use lib.ListN.{length};
 ghost use Rattle.model.specs.Content.{vertex};
-ghost use Rattle.model.specs.Geometry.{vertexAt, following, normals};
-ghost use Rattle.model.specs.Lists.{any};
-ghost use Rattle.polygons.specs.Flat.{partOf, coordinateOf};
-ghost use Rattle.geometry.specs.Clears.{clears};
-use crate::along::lead;
+ghost use Rattle.model.specs.Geometry.{vertexAt, following};
+ghost use Rattle.polygons.specs.Flat.{partOf, coordinateOf, normalOf};
+ghost use Rattle.geometry.specs.Clears.{keeps, Separating};
+use crate::along::gap_along;
 use crate::along::lies_beyond;
+use crate::along::lies_within;
 use crate::along::lowest;
+use crate::along::move_along;
 use crate::along::vertex_along;
 use polygons::vertices::coordinate;
 
@@ -30,33 +31,46 @@ pub fn next_vertex(p: &[i16], k: usize) -> usize
     if 2 * k + 3 < p.len() { k + 1 } else { 0 }
 }
 
-// Whether the outward normal of an edge of p separates p, moved by (px, py), from q, moved by (qx, qy). The first one that does ends the test. In a sound part no
-// vertex lies further along the normal than the edge's own, so that one is asked first: a normal that does not separate is given up at the first vertex of q that
-// lies too near it. p need not be sound, so a normal that passes is tried against every vertex of p.
-pub fn edges_separate(p: &[i16], px: i16, py: i16, q: &[i16], qx: i16, qy: i16) -> bool
-    ensures { λ r. ⌜ r ≡ any (clears (partOf (now (p .entry))) (partOf (now (q .entry))) (vertex (qx -ℤ px) (qy -ℤ py))) (normals (partOf (now (p .entry)))) ⌝ }
+// The first edge of p whose outward normal separates p from q moved by (dx, dy); as many as p has edges where there is none. In a sound part no vertex lies further along
+// the normal than the edge's own, so that one is asked first: a normal that does not separate is given up at the first vertex of q that lies too near it. p need not be
+// sound, so a normal that passes is tried against every vertex of p.
+pub fn separating_edge(p: &[i16], q: &[i16], dx: i16, dy: i16) -> usize
+    ensures { λ r. ⌜ (r ≤ length (now (p .entry)) / 2) × Separating (partOf (now (p .entry))) (partOf (now (q .entry))) (vertex dx dy) r ⌝ }
 {
     let n = p.len() / 2;
-    let mut found = false;
     let mut k: usize = 0;
     'directions: while k < n {
         // (a, b) is the outward normal of the edge from vertex k to vertex m.
         let m = next_vertex(p, k);
         let a = difference(p, m, k, 1);
         let b = difference(p, k, m, 0);
-        let ahead = lead(px, py, qx, qy, a, b);
-        if lies_beyond(q, a, b, vertex_along(p, k, a, b) + ahead) {
-            let limit = lowest(q, a, b) - ahead;
+        let way = move_along(a, b, dx, dy);
+        if lies_beyond(q, a, b, vertex_along(p, k, a, b) - way) {
+            let limit = lowest(q, a, b) + way;
             let mut i: usize = 0;
             while vertex_along(p, i, a, b) <= limit {
                 i += 1;
                 if i == n {
-                    found = true;
                     break 'directions;
                 }
             }
         }
         k += 1;
     }
-    found
+    k
+}
+
+// Whether the outward normal of edge k of p keeps p the gap apart from q moved by (dx, dy).
+pub fn normal_keeps(p: &[i16], q: &[i16], dx: i16, dy: i16, k: usize, gap: u16) -> bool
+    requires { ⌜ 2 * k + 1 < length (now p) ⌝ }
+    ensures { λ r. ⌜ r ≡ keeps gap (partOf (now (p .entry))) (partOf (now (q .entry))) (vertex dx dy) (normalOf (partOf (now (p .entry))) k) ⌝ }
+{
+    let m = next_vertex(p, k);
+    let a = difference(p, m, k, 1);
+    let b = difference(p, k, m, 0);
+    let reach = gap_along(gap, a, b);
+    if reach <= 0 {
+        return false;
+    }
+    lies_within(p, a, b, lowest(q, a, b) + move_along(a, b, dx, dy) - reach)
 }

@@ -1,12 +1,15 @@
 // The test of a pair of parts: whether they are separated at a gap.
 ghost use mathlib.Core.List.{map};
 ghost use mathlib.Core.Path.{_≡_};
+ghost use Prim.Native.Nat.{_+_, _*_, _≤_, _<_};
+ghost use lib.ListN.{length};
 ghost use Rattle.model.specs.Geometry;
-ghost use Rattle.geometry.specs.Apart.{clearOf, boxesApart, disjointAt};
+ghost use Rattle.geometry.specs.Apart.{clearOf, boxesApart, bothClear, besideOf};
 ghost use Rattle.geometry.specs.Compact.{Compact, Short};
 ghost use Rattle.polygons.specs.Flat.{partOf, shifted};
 use crate::distances::corners_clear;
-use crate::edges::edges_separate;
+use crate::edges::normal_keeps;
+use crate::edges::separating_edge;
 use polygons::extents::Extents;
 
 // Whether what ends at `high` and is moved by `from` clears, by the gap, what begins at `low` and is moved by `to`.
@@ -26,40 +29,48 @@ pub fn axes_separate(e: Extents, f: Extents, dx: i16, dy: i16, gap: u16) -> bool
         | clear_of(f.max_y, dy, e.min_y, 0, gap)
 }
 
-// Whether a normal of p or one of q separates p from q moved by (dx, dy): in document 01's order.
-fn disjoint_at(p: &[i16], q: &[i16], dx: i16, dy: i16) -> bool
-    ensures { λ r. ⌜ r ≡ disjointAt (partOf (now (p .entry))) (partOf (now (q .entry))) dx dy ⌝ }
+// Whether no corner of p or of q, moved by (dx, dy), is nearer than the gap to an edge of the other one. The normal of edge k of p may keep them so far apart, which spares
+// all distances.
+fn clear_beside(p: &[i16], q: &[i16], dx: i16, dy: i16, k: usize, gap: u16) -> bool
+    requires { ⌜ (2 * k + 1 < length (now p)) × (2 ≤ length (now q)) ⌝ }
+    requires { ⌜ Short 4096 dx dy × (Compact (partOf (now p)) × Compact (partOf (now q))) ⌝ }
+    ensures { λ r. ⌜ r ≡ bothClear gap (partOf (now (p .entry))) (map (shifted dx dy) (partOf (now (q .entry)))) ⌝ }
 {
-    if edges_separate(p, 0, 0, q, dx, dy) {
+    if gap == 0 {
         return true;
     }
-    edges_separate(q, dx, dy, p, 0, 0)
-}
-
-// Whether p and q, moved by (dx, dy), are not in conflict at gap 0. A part of no vertex stays where it is.
-fn disjoint(p: &[i16], q: &[i16], dx: i16, dy: i16) -> bool
-    ensures { λ r. ⌜ r ≡ Geometry.disjoint (partOf (now (p .entry))) (map (shifted dx dy) (partOf (now (q .entry)))) ⌝ }
-{
-    if q.len() < 2 {
-        return disjoint_at(p, q, 0, 0);
-    }
-    disjoint_at(p, q, dx, dy)
-}
-
-// Whether p and q, moved by (dx, dy), are separated at this gap: they are not in conflict at gap 0, and no corner of the one is too near an edge of the other.
-// (What is squared fits 64 bits where the numbers are small, as those of a job's parts and of the ways on its board are.)
-pub fn separated(p: &[i16], q: &[i16], dx: i16, dy: i16, gap: u16) -> bool
-    requires { ⌜ Short 4096 dx dy × (Compact (partOf (now p)) × Compact (partOf (now q))) ⌝ }
-    ensures { λ r. ⌜ r ≡ Geometry.separated gap (partOf (now (p .entry))) (map (shifted dx dy) (partOf (now (q .entry)))) ⌝ }
-{
-    if !disjoint(p, q, dx, dy) {
-        return false;
-    }
-    if gap == 0 {
+    if normal_keeps(p, q, dx, dy, k, gap) {
         return true;
     }
     if !corners_clear(q, dx, dy, p, gap) {
         return false;
     }
     corners_clear(p, 0 - dx, 0 - dy, q, gap)
+}
+
+// What the edges of p say of it and q moved by (dx, dy): 0 if no normal of them separates the two, 1 if one does and no corner is too near an edge, 2 if one does and a corner is.
+fn beside(p: &[i16], q: &[i16], dx: i16, dy: i16, gap: u16) -> u8
+    requires { ⌜ (2 ≤ length (now p)) × (2 ≤ length (now q)) ⌝ }
+    requires { ⌜ Short 4096 dx dy × (Compact (partOf (now p)) × Compact (partOf (now q))) ⌝ }
+    ensures { λ r. ⌜ r ≡ besideOf gap (partOf (now (p .entry))) (partOf (now (q .entry))) dx dy ⌝ }
+{
+    let k = separating_edge(p, q, dx, dy);
+    if k == p.len() / 2 {
+        return 0;
+    }
+    if clear_beside(p, q, dx, dy, k, gap) { 1 } else { 2 }
+}
+
+// Whether p and q, moved by (dx, dy), are separated at this gap: a normal of p or one of q separates them, tried in document 01's order, and no corner of the one is too near
+// an edge of the other. (What is squared fits 64 bits where the numbers are small, as those of a job's parts and of the ways on its board are.)
+pub fn separated(p: &[i16], q: &[i16], dx: i16, dy: i16, gap: u16) -> bool
+    requires { ⌜ (2 ≤ length (now p)) × (2 ≤ length (now q)) ⌝ }
+    requires { ⌜ Short 4096 dx dy × (Compact (partOf (now p)) × Compact (partOf (now q))) ⌝ }
+    ensures { λ r. ⌜ r ≡ Geometry.separated gap (partOf (now (p .entry))) (map (shifted dx dy) (partOf (now (q .entry)))) ⌝ }
+{
+    let first = beside(p, q, dx, dy, gap);
+    if first != 0 {
+        return first == 1;
+    }
+    beside(q, p, 0 - dx, 0 - dy, gap) == 1
 }
