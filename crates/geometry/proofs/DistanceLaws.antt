@@ -1,7 +1,7 @@
 -- Distances of corners from edges as they are computed, one after the other; no operation wraps. Assumes nothing.
-use mathlib.Core.Bool.{Bool, true, false, not, cond}
-use mathlib.Core.List.{[], _∷_, map}
-use mathlib.Core.Path.{_≡_, refl, sym, ap, ap₂, _∙_}
+use mathlib.Core.Bool.{Bool, true, false, not, cond, _&&_, and-true}
+use mathlib.Core.List.{List, [], _∷_, map}
+use mathlib.Core.Path.{_≡_, refl, ap, _∙_}
 use Prim.Native.Nat.{ℕ, _*_, _≤_, _<_, _^_}
 use native.Mathlib.Nat.{le-trans, lt-of-le-of-lt}
 use native.Mathlib.Omega.{arith}
@@ -9,22 +9,20 @@ use lib.Dec.{lit<, lit≤}
 use lib.IntN.{ℤ, pos, natAbs, _+ℤ_, _-ℤ_, _*ℤ_}
 use lib.ListN.{length}
 use lib.Signed.{leZ, ltZ}
-use mir.Syntax.{w16, w64}
-use mir.Val.{Fits, SFits, toZ, ofZ}
-use mir.ValLaws.{toZ-ofZ}
-use Rattle.integers.proofs.Machine.{op-fits, op-gives}
+use mir.Syntax.{w16, w32, w64}
+use mir.Val.{Fits, SFits}
 use Rattle.integers.proofs.Sizes.{bounded, fits-natAbs}
 use Rattle.integers.proofs.Solver.{ring, #, _⊞_, _⊟_, _⊠_, _≈_}
 use Rattle.model.specs.Content.{Vertex, vertex, Part, origin}
 use Rattle.model.specs.Geometry.{vertexAt, following, cross, shifted, distanceSquared, alongEdge, nearEdge, cornersClear}
 use Rattle.model.specs.Lists.{all, below}
 use Rattle.model.proofs.Lists.{all-at, all-of, all-below, below-all, not-both}
-use Rattle.model.proofs.Moves.{near-from}
-use Rattle.model.proofs.Tests.{all-map, all-each}
+use Rattle.model.proofs.Box.{all-and}
+use Rattle.model.proofs.Tests.{all-map}
 use Rattle.convexity.proofs.Members.{is-false}
 use Rattle.geometry.specs.Clears.{Small}
-use Rattle.geometry.specs.Compact.{Short, Compact, edgeClear}
-use Rattle.geometry.proofs.Sizes.{size-of, fits-64, gap-read, small-read, small-fits, small-sum, small-difference, small-more}
+use Rattle.geometry.specs.Compact.{cornerClear}
+use Rattle.geometry.proofs.Sizes.{size-of, fits-64}
 
 -- ---- sizes
 
@@ -54,15 +52,15 @@ pub aside-fits : {C c : ℤ} → Small C 31 c → SFits w64 (c *ℤ c)
 aside-fits {C} {c} h = fits-64 _ (bounded (2 ^ 31 ∷ []) 1 (λ c. c ⊠ c) c (h .size))
 
 -- a coordinate, moved
-pub moved-fits : (u w : ℤ) → natAbs u ≤ 4096 → natAbs w ≤ 8192 → SFits w16 (u +ℤ w)
-moved-fits u w h k = fits-natAbs w16 _ (lt-of-le-of-lt (bounded (4096 ∷ 8192 ∷ []) 2 (λ u w. u ⊞ w) u w h k) (lit< tt))
+pub moved-size : (u w : ℤ) → natAbs u ≤ 4096 → natAbs w ≤ 4096 → natAbs (u +ℤ w) ≤ 8192
+moved-size u w h k = bounded (4096 ∷ 4096 ∷ []) 2 (λ u w. u ⊞ w) u w h k
 
--- a difference of two coordinates
-pub less-size : (u w : ℤ) → natAbs u ≤ 4096 → natAbs w ≤ 4096 → natAbs (u -ℤ w) ≤ 8192
-less-size u w h k = bounded (4096 ∷ 4096 ∷ []) 2 (λ u w. u ⊟ w) u w h k
+pub moved-fits : (u w : ℤ) → natAbs u ≤ 4096 → natAbs w ≤ 4096 → SFits w16 (u +ℤ w)
+moved-fits u w h k = fits-natAbs w16 _ (lt-of-le-of-lt (moved-size u w h k) (lit< tt))
 
-pub less-fits : (u w : ℤ) → natAbs u ≤ 4096 → natAbs w ≤ 4096 → SFits w16 (u -ℤ w)
-less-fits u w h k = fits-natAbs w16 _ (lt-of-le-of-lt (less-size u w h k) (lit< tt))
+-- how far it lies from another
+pub less-fits : (u w : ℤ) → natAbs u ≤ 8192 → natAbs w ≤ 4096 → SFits w16 (u -ℤ w)
+less-fits u w h k = fits-natAbs w16 _ (lt-of-le-of-lt (bounded (8192 ∷ 4096 ∷ []) 2 (λ u w. u ⊟ w) u w h k) (lit< tt))
 
 -- ---- one corner and one edge
 
@@ -104,40 +102,49 @@ near-is gap a b x y = rw (end a b x y, along a b x y, length a b, length x y, as
     aside : (a b x y : ℤ) → a *ℤ y -ℤ b *ℤ x ≡ (a -ℤ pos 0) *ℤ (y -ℤ pos 0) -ℤ (b -ℤ pos 0) *ℤ (x -ℤ pos 0)
     aside = ring 4 (λ a b x y. a ⊠ y ⊟ b ⊠ x ≈ (a ⊟ # (pos 0)) ⊠ (y ⊟ # (pos 0)) ⊟ (b ⊟ # (pos 0)) ⊠ (x ⊟ # (pos 0))) tt
 
--- ---- corners, one after the other
-
-module _ (t : Vertex → Bool) (P : Part) where
-  pub all-pass : ((j : ℕ) → j < length P → t (vertexAt P j) ≡ true) → all t P ≡ true
-  unfolding vertexAt
-  all-pass f = all-of t P origin f
-
-  pub one-fails : (j : ℕ) → j < length P → t (vertexAt P j) ≡ false → all t P ≡ false
-  unfolding vertexAt
-  one-fails j h e = is-false (all t P) (λ a. not-both (all-at t P origin a j h) e)
-
--- The corners of P, moved by (dx, dy), against edge k of Q: from the edge's start they lie moved by so much less.
-pub edge-from : (gap : ℕ) (P Q : Part) (dx dy : ℤ) (k : ℕ) (a b x y : ℤ)
-    → a ≡ vertexAt Q (following Q k) .x -ℤ vertexAt Q k .x → b ≡ vertexAt Q (following Q k) .y -ℤ vertexAt Q k .y → x ≡ dx -ℤ vertexAt Q k .x → y ≡ dy -ℤ vertexAt Q k .y
-    → all (λ v. not (nearEdge gap origin (vertex a b) (shifted x y v))) P ≡ edgeClear gap (map (shifted dx dy) P) Q k
-edge-from gap P Q dx dy k a b x y ea eb ex ey =
-    all-each _ _ (λ v. ap not
-    ((λ i. nearEdge gap origin (vertex (ea i) (eb i)) (vertex ((ap (λ z. v .x +ℤ z) ex ∙ late (v .x) dx (vertexAt Q k .x)) i) ((ap (λ z. v .y +ℤ z) ey ∙ late (v .y) dy (vertexAt Q k .y)) i)))
-    ∙ sym (near-from gap (vertexAt Q k) (vertexAt Q (following Q k)) (shifted dx dy v)))) P
-    ∙ sym (all-map (λ v. not (nearEdge gap (vertexAt Q k) (vertexAt Q (following Q k)) v)) (shifted dx dy) P)
-  where
-    late : (v d s : ℤ) → v +ℤ (d -ℤ s) ≡ (v +ℤ d) -ℤ s
-    late = ring 3 (λ v d s. v ⊞ (d ⊟ s) ≈ (v ⊞ d) ⊟ s) tt
-
 -- ---- edges, one after the other
 
-module _ (gap : ℕ) (P Q : Part) where
-  pub all-clear : ((k : ℕ) → k < length Q → edgeClear gap P Q k ≡ true) → cornersClear gap P Q ≡ true
-  unfolding cornersClear
-  all-clear f = below-all (edgeClear gap P Q) (length Q) f
+module _ (gap : ℕ) (Q : Part) (v : Vertex) where
+  pub edges-clear : ((k : ℕ) → k < length Q → nearEdge gap (vertexAt Q k) (vertexAt Q (following Q k)) v ≡ false) → cornerClear gap Q v ≡ true
+  unfolding cornerClear
+  edges-clear f = below-all (λ k. not (nearEdge gap (vertexAt Q k) (vertexAt Q (following Q k)) v)) (length Q) (λ k h. ap not (f k h))
 
-  pub one-near : (k : ℕ) → k < length Q → edgeClear gap P Q k ≡ false → cornersClear gap P Q ≡ false
-  unfolding cornersClear
-  one-near k h e = is-false _ (λ a. not-both (all-below (edgeClear gap P Q) (length Q) a k h) e)
+  pub edge-too-near : (k : ℕ) → k < length Q → nearEdge gap (vertexAt Q k) (vertexAt Q (following Q k)) v ≡ true → cornerClear gap Q v ≡ false
+  unfolding cornerClear
+  edge-too-near k h e =
+      is-false _ (λ a. not-both (all-below (λ k. not (nearEdge gap (vertexAt Q k) (vertexAt Q (following Q k)) v)) (length Q) a k h) (ap not e))
+
+-- ---- corners, one after the other
+
+all-true : (xs : List ℕ) → all (λ i. true) xs ≡ true
+unfolding all
+all-true [] = refl
+all-true (x ∷ xs) = all-true xs
+
+-- The corners of P one after the other, instead of the edges of Q.
+pub by-corners : (gap : ℕ) (P Q : Part) → cornersClear gap P Q ≡ all (cornerClear gap Q) P
+unfolding cornersClear cornerClear all
+by-corners gap [] Q = all-true (below (length Q))
+by-corners gap (v ∷ P) Q =
+    all-and (λ k. not (nearEdge gap (vertexAt Q k) (vertexAt Q (following Q k)) v)) (λ k. all (λ v. not (nearEdge gap (vertexAt Q k) (vertexAt Q (following Q k)) v)) P) (below (length Q))
+    ∙ ap (λ t. cornerClear gap Q v && t) (by-corners gap P Q)
+
+module _ (gap : ℕ) (P Q : Part) (dx dy : ℤ) where
+  moved-corners : cornersClear gap (map (shifted dx dy) P) Q ≡ all (λ v. cornerClear gap Q (shifted dx dy v)) P
+  moved-corners = by-corners gap (map (shifted dx dy) P) Q ∙ all-map (cornerClear gap Q) (shifted dx dy) P
+
+  pub corners-all : ((j : ℕ) → j < length P → cornerClear gap Q (shifted dx dy (vertexAt P j)) ≡ true) → cornersClear gap (map (shifted dx dy) P) Q ≡ true
+  unfolding vertexAt
+  corners-all f = moved-corners ∙ all-of (λ v. cornerClear gap Q (shifted dx dy v)) P origin f
+
+  pub corner-fails : (j : ℕ) → j < length P → cornerClear gap Q (shifted dx dy (vertexAt P j)) ≡ false → cornersClear gap (map (shifted dx dy) P) Q ≡ false
+  unfolding vertexAt
+  corner-fails j h e = moved-corners ∙ is-false _ (λ a. not-both (all-at (λ v. cornerClear gap Q (shifted dx dy v)) P origin a j h) e)
+
+-- One corner alone.
+pub one-corner : (gap : ℕ) (Q : Part) (v : Vertex) → cornersClear gap (v ∷ []) Q ≡ cornerClear gap Q v
+unfolding all
+one-corner gap Q v = by-corners gap (v ∷ []) Q ∙ and-true (cornerClear gap Q v)
 
 -- ---- moves
 
@@ -147,3 +154,7 @@ opposite-size z h = bounded (4096 ∷ []) 1 (λ z. # (pos 0) ⊟ z) z h
 
 pub opposite-fits : (z : ℤ) → natAbs z ≤ 4096 → SFits w16 (pos 0 -ℤ z)
 opposite-fits z h = fits-natAbs w16 _ (lt-of-le-of-lt (opposite-size z h) (lit< tt))
+
+-- and of a direction
+pub opposite-32 : (z : ℤ) → natAbs z ≤ 65536 → SFits w32 (pos 0 -ℤ z)
+opposite-32 z h = fits-natAbs w32 _ (lt-of-le-of-lt (bounded (65536 ∷ []) 1 (λ z. # (pos 0) ⊟ z) z h) (lit< tt))

@@ -6,16 +6,17 @@ use Prim.Native.Nat.{ℕ, suc, _+_, _<_}
 use native.Mathlib.Numerals.{add-one}
 use native.Mathlib.Omega.{arith}
 use borrow.Author.Tests.{eq-eqb, ne-eqb}
-use lib.IntN.{ℤ, pos, _+ℤ_, _-ℤ_}
+use lib.IntN.{ℤ, pos, negℤ, _+ℤ_, _-ℤ_, +ℤ-idl, negℤ-negℤ}
 use lib.ListN.{length, getD}
 use lib.Signed.{leZ, _≤ℤ_, _<ℤ_, ≤ℤ-refl}
 use Rattle.integers.proofs.Certificates.{order, _⊢_by_, hyp, _⊕_}
 use Rattle.integers.proofs.Order.{leZ-true, leZ-false, le-leZ, lt-leZ, clash}
 use Rattle.integers.proofs.Solver.{_⊞_, _⊟_, _≲_, _≺_}
 use Rattle.model.specs.Content.{Vertex, Part, origin}
-use Rattle.model.specs.Geometry.{Direction, vertexAt, following, outwardNormal, normals}
+use Rattle.model.specs.Geometry.{Direction, direction, vertexAt, following, outwardNormal, normals, negated, along}
 use Rattle.model.specs.Lists.{any, below, largestZ, smallestZ}
 use Rattle.model.proofs.Box.{all-above, all-below-bound}
+use Rattle.model.proofs.Conflict.{smallest-opposite}
 use Rattle.model.proofs.Lists.{all-at, all-of}
 use Rattle.model.proofs.Tests.{any-map}
 use Rattle.convexity.proofs.Members.{in-any, in-none, in-below, below-in}
@@ -93,11 +94,14 @@ unfolding smallestZ
 least-of-none f [] z h = refl
 least-of-none f (v ∷ P) z h = let never : ⊥ = omega arith in absurd never
 
--- of no vertex the largest is 0
-pub largest-of-none : (f : Vertex → ℤ) (P : Part) (z : ℤ) → length P ≡ 0 → leZ (pos 0) z ≡ leZ (largestZ (map f P)) z
-unfolding largestZ
-largest-of-none f [] z h = refl
-largest-of-none f (v ∷ P) z h = let never : ⊥ = omega arith in absurd never
+-- the most along a direction is the opposite of the least along the opposite one
+pub opposite-least : (a b : ℤ) (P : Part) → pos 0 -ℤ smallestZ (map (along (direction (pos 0 -ℤ a) (pos 0 -ℤ b))) P) ≡ largestZ (map (along (direction a b)) P)
+unfolding negated
+opposite-least a b P =
+    ap (λ (d : Direction). pos 0 -ℤ smallestZ (map (along d) P)) (λ i. direction (+ℤ-idl (negℤ a) i) (+ℤ-idl (negℤ b) i))
+    ∙ ap (λ z. pos 0 -ℤ z) (smallest-opposite (direction a b) P)
+    ∙ +ℤ-idl (negℤ (negℤ (largestZ (map (along (direction a b)) P))))
+    ∙ negℤ-negℤ (largestZ (map (along (direction a b)) P))
 
 -- a vertex that is too near already refutes the direction, since the furthest is no nearer
 pub refuted : (near far way low : ℤ) → near ≤ℤ far → leZ (near -ℤ way) low ≡ false → leZ far (low +ℤ way) ≡ false

@@ -1,39 +1,35 @@
--- The test of a pair by the normals of its parts is the model's, and what a normal keeps apart is clear. Assumes nothing.
-use mathlib.Core.Bool.{Bool, true, false, not, cond, _&&_, _||_, and-true, and-false, and-comm, and-assoc}
-use mathlib.Core.List.{map}
-use mathlib.Core.Path.{_≡_, refl, sym, ap, ap₂, _∙_}
+-- The test of a pair by the normals of its parts is the model's, and what a direction keeps apart is clear. Assumes nothing.
+use mathlib.Core.Bool.{Bool, true, false, cond, _&&_, _||_, and-true, and-false, and-comm, and-assoc}
+use mathlib.Core.List.{[], _∷_, map}
+use mathlib.Core.Path.{_≡_, refl, sym, ap, ap₂, subst, _∙_}
 use Prim.Native.Nat.{ℕ, _<_}
-use native.Mathlib.Nat.{mul-zero}
 use native.Mathlib.Omega.{arith}
-use borrow.Author.Tests.{not-true}
 use lib.Dec.{eqb}
 use lib.IntN.{ℤ, pos, _+ℤ_, _-ℤ_, _*ℤ_}
 use lib.ListN.{length, length-map}
-use lib.Signed.{leZ, ≤ℤ-refl}
+use lib.Signed.{leZ, _≤ℤ_}
+use Rattle.integers.proofs.Certificates.{order, _⊢_by_, hyp}
 use Rattle.integers.proofs.Order.{le-leZ}
-use Rattle.integers.proofs.Solver.{ring, #, _⊞_, _⊟_, _⊠_, _≈_}
-use Rattle.model.specs.Content.{vertex, Part}
-use Rattle.model.specs.Geometry.{Direction, direction, normals, along, separates, disjoint, cornersClear, separated}
-use Rattle.model.specs.Lists.{any, largestZ, smallestZ}
+use Rattle.integers.proofs.Solver.{ring, #, _⊞_, _⊟_, _⊠_, _≈_, _≲_}
+use Rattle.model.specs.Content.{Vertex, vertex, Part}
+use Rattle.model.specs.Geometry.{Direction, direction, vertexAt, normals, along, separates, disjoint, cornersClear, separated}
+use Rattle.model.specs.Lists.{any, largestFrom, smallestFrom, largestZ, smallestZ}
 use Rattle.model.proofs.Conflict.{disjoint-groups}
 use Rattle.model.proofs.Extremes.{leZ-same}
-use Rattle.model.proofs.Lists.{and-left, and-right, and-both, not-both}
-use Rattle.model.proofs.Moves.{largest-shifted, smallest-shifted, normals-shifted, clear-shifted, clear-shifted-corner, unmoved}
+use Rattle.model.proofs.Lists.{and-both}
+use Rattle.model.proofs.Moves.{along-shifted, largest-shifted, smallest-shifted, normals-shifted, clear-shifted, clear-shifted-corner, unmoved}
 use Rattle.model.proofs.Tests.{any-same}
 use Rattle.convexity.specs.Square.{clearance, separatesBy}
 use Rattle.convexity.proofs.Clear.{clear-zero}
 use Rattle.convexity.proofs.Theorems.{kept-apart}
 use Rattle.polygons.specs.Flat.{shifted}
 use Rattle.geometry.specs.Apart.{bothClear, besideOf}
-use Rattle.geometry.specs.Clears.{clears, keeps, Separating}
+use Rattle.geometry.specs.Clears.{clears, Separating}
+use Rattle.geometry.specs.Compact.{Spared}
+use Rattle.geometry.proofs.DistanceLaws.{one-corner}
 use Rattle.geometry.proofs.EdgeLaws.{some-normal}
 
 -- ---- the normals
-
--- (0, 0) has no clearance
-no-clearance : (gap : ℕ) → leZ (clearance gap (direction (pos 0) (pos 0))) (pos 0) ≡ true
-unfolding clearance
-no-clearance gap = ap (λ n. leZ (pos n) (pos 0)) (mul-zero gap) ∙ le-leZ (pos 0) (pos 0) (≤ℤ-refl (pos 0))
 
 -- Q, which has a vertex, is moved by (dx, dy)
 module _ (P Q : Part) (dx dy : ℤ) (someQ : 0 < length Q) where
@@ -62,24 +58,6 @@ module _ (P Q : Part) (dx dy : ℤ) (someQ : 0 < length Q) where
       ∙ ap₂ _||_ (sym (any-same _ _ clears-first (normals P)))
       (ap (any (separates (map (shifted dx dy) Q) P)) (normals-shifted dx dy Q) ∙ sym (any-same _ _ clears-second (normals Q)))
 
-  -- What a direction keeps apart is clear.
-  pub kept-clear : 0 < length P → (gap : ℕ) (d : Direction) → keeps gap P Q (vertex dx dy) d ≡ true → bothClear gap P (map (shifted dx dy) Q) ≡ true
-  unfolding keeps separatesBy
-  kept-clear someP gap d e =
-      let r = kept-apart P (map (shifted dx dy) Q) someP (rw (length-map Q (shifted dx dy)) someQ) gap d some
-      (ap (leZ (largestZ (map (along d) P) +ℤ clearance gap d)) (smallest-shifted d dx dy Q someQ)
-      ∙ across (largestZ (map (along d) P)) (clearance gap d) (smallestZ (map (along d) Q) +ℤ along d (vertex dx dy)) ∙ and-right (not (leZ (clearance gap d) (pos 0))) _ e) in
-      and-both _ _ (r .0) (r .1)
-    where
-      across : (l c s : ℤ) → leZ (l +ℤ c) s ≡ leZ l (s -ℤ c)
-      across l c s = leZ-same (l +ℤ c) s l (s -ℤ c) (ring 3 (λ l c s. s ⊟ (l ⊞ c) ≈ (s ⊟ c) ⊟ l) tt l c s)
-
-      wide : leZ (clearance gap d) (pos 0) ≡ false
-      wide = not-true _ (and-left (not (leZ (clearance gap d) (pos 0))) _ e)
-
-      some : d ≡ direction (pos 0) (pos 0) → ⊥
-      some z = not-both (ap (λ (d : Direction). leZ (clearance gap d) (pos 0)) z ∙ no-clearance gap) wide
-
 -- ---- the three tests of the model
 
 module _ (gap : ℕ) (P Q : Part) where
@@ -102,6 +80,52 @@ module _ (gap : ℕ) (P Q : Part) (dx dy : ℤ) where
 
   pub both-back : bothClear gap Q (map (shifted (pos 0 -ℤ dx) (pos 0 -ℤ dy)) P) ≡ bothClear gap P (map (shifted dx dy) Q)
   both-back = ap₂ _&&_ clear-forth clear-back ∙ and-comm (cornersClear gap (map (shifted dx dy) Q) P) (cornersClear gap P (map (shifted dx dy) Q))
+
+-- ---- what one direction says
+
+-- a direction, not (0, 0), and the parts with a vertex each
+module _ (gap : ℕ) (P Q : Part) (dx dy : ℤ) (someP : 0 < length P) (someQ : 0 < length Q) (a b : ℤ) (nonzero : direction a b ≡ direction (pos 0) (pos 0) → ⊥) where
+  abbrev d : Direction
+  d = direction a b
+
+  -- how far P reaches with the gap, and where Q begins
+  abbrev top : ℤ
+  top = largestZ (map (along d) P) +ℤ clearance gap d
+
+  abbrev low : ℤ
+  low = smallestZ (map (along d) Q) +ℤ along d (vertex dx dy)
+
+  -- it keeps the parts the gap apart
+  pub kept-clear : leZ top low ≡ true → true ≡ bothClear gap P (map (shifted dx dy) Q)
+  unfolding separatesBy
+  kept-clear e =
+      let r = kept-apart P (map (shifted dx dy) Q) someP (rw (length-map Q (shifted dx dy)) someQ) gap d nonzero (ap (leZ top) (smallest-shifted d dx dy Q someQ) ∙ e) in
+      sym (and-both _ _ (r .0) (r .1))
+
+  -- or a corner of Q from P,
+  pub spared-first : Spared gap Q dx dy P d (top -ℤ along d (vertex dx dy))
+  unfolding separatesBy smallestZ smallestFrom
+  spared-first i h l =
+      let v : Vertex = shifted dx dy (vertexAt Q i) in
+      sym (one-corner gap P v)
+      ∙ kept-apart P (v ∷ []) someP (omega arith) gap d nonzero
+      (le-leZ top (along d v) (subst (λ z. top ≤ℤ z) (sym (along-shifted d dx dy (vertexAt Q i))) (across top (along d (vertex dx dy)) (along d (vertexAt Q i)) l))) .1
+    where
+      across : (t w z : ℤ) → (t -ℤ w) ≤ℤ z → t ≤ℤ (z +ℤ w)
+      across = order 3 (λ t w z. (t ⊟ w ≲ z) ∷ [] ⊢ t ≲ z ⊞ w by hyp 0) tt
+
+  -- or a corner of P from Q
+  pub spared-second : Spared gap P (pos 0 -ℤ dx) (pos 0 -ℤ dy) Q (direction (pos 0 -ℤ a) (pos 0 -ℤ b)) (clearance gap d -ℤ low)
+  unfolding separatesBy largestZ largestFrom along
+  spared-second i h l =
+      let v : Vertex = vertexAt P i in
+      sym (one-corner gap Q (shifted (pos 0 -ℤ dx) (pos 0 -ℤ dy) v))
+      ∙ clear-back gap (v ∷ []) Q dx dy
+      ∙ kept-apart (v ∷ []) (map (shifted dx dy) Q) (omega arith) (rw (length-map Q (shifted dx dy)) someQ) gap d nonzero
+      (ap (leZ (along d v +ℤ clearance gap d)) (smallest-shifted d dx dy Q someQ) ∙ le-leZ (along d v +ℤ clearance gap d) low (across (clearance gap d) low a b (v .x) (v .y) l)) .0
+    where
+      across : (c l a b x y : ℤ) → (c -ℤ l) ≤ℤ ((pos 0 -ℤ a) *ℤ x +ℤ (pos 0 -ℤ b) *ℤ y) → (a *ℤ x +ℤ b *ℤ y +ℤ c) ≤ℤ l
+      across = order 6 (λ c l a b x y. (c ⊟ l ≲ (# (pos 0) ⊟ a) ⊠ x ⊞ (# (pos 0) ⊟ b) ⊠ y) ∷ [] ⊢ a ⊠ x ⊞ b ⊠ y ⊞ c ≲ l by hyp 0) tt
 
 -- ---- what the edges of one part say
 

@@ -5,7 +5,7 @@ use Prim.Native.Nat.{ℕ, suc, _+_, _≤_, _<_, _^_}
 use native.Mathlib.Nat.{le-trans, le-suc, le-of-eq, le-of-lt, lt-of-le-of-lt, lt-of-lt-of-le, zero-add, pow-succ'}
 use native.Mathlib.Omega.{arith}
 use lib.Dec.{T, leb, leb→le, lit<, lit≤}
-use lib.IntN.{ℤ, pos, negsuc, negℤ, natAbs, _+ℤ_, _-ℤ_, _*ℤ_}
+use lib.IntN.{ℤ, pos, negsuc, negℤ, natAbs, _+ℤ_, _-ℤ_, _*ℤ_, +ℤ-idl}
 use lib.Pow.{pow-mono}
 use lib.Signed.{natAbs-le, _≤ℤ_, _<ℤ_}
 use mir.Syntax.{Width, w16, w32, w64}
@@ -61,6 +61,11 @@ module _ {u v : ℤ} {k : ℕ} {x y : ℤ} (h : Small u k x) (g : Small v k y) w
   pub small-difference : Small (u -ℤ v) (suc k) (x -ℤ y)
   small-difference =
       record { value = λ i. h .value i -ℤ g .value i; size = both (natAbs (x -ℤ y)) (le-trans (natAbs-+ℤ x (negℤ y)) (le-of-eq (ap (λ n. natAbs x + n) (natAbs-negℤ y)))) }
+
+-- the opposite of one
+pub small-opposite : {v : ℤ} {k : ℕ} {r : ℤ} → Small v k r → Small (pos 0 -ℤ v) k (pos 0 -ℤ r)
+small-opposite {v} {k} {r} h =
+    record { value = ap (λ z. pos 0 -ℤ z) (h .value); size = subst (λ n. n ≤ 2 ^ k) (sym (ap natAbs (+ℤ-idl (negℤ r)) ∙ natAbs-negℤ r)) (h .size) }
 
 -- ---- a × x + b × y
 
@@ -120,19 +125,10 @@ module _ {N M n m : ℤ} (hn : Small N 47 n) (hm : Small M 47 m) where
   pub more-gives : read (read n +ℤ read m) ≡ N +ℤ M
   more-gives = op-gives (small-read hn tt) (small-read hm tt) _+ℤ_ (small-fits (small-sum hn hm) tt) ∙ small-sum hn hm .value
 
-  -- less what a gap reaches
-  module _ {R r : ℤ} (hr : Small R 48 r) where
-    kept : Small (N +ℤ M -ℤ R) 49 (n +ℤ m -ℤ r)
-    kept = small-difference (small-sum hn hm) hr
-
-    place : read (read n +ℤ read m) ≡ n +ℤ m
-    place = op-gives (small-read hn tt) (small-read hm tt) _+ℤ_ (small-fits (small-sum hn hm) tt)
-
-    pub kept-fits : SFits w64 (read (read n +ℤ read m) -ℤ read r)
-    kept-fits = op-fits place (small-read hr tt) _-ℤ_ (small-fits kept tt)
-
-    pub kept-gives : read (read (read n +ℤ read m) -ℤ read r) ≡ N +ℤ M -ℤ R
-    kept-gives = op-gives place (small-read hr tt) _-ℤ_ (small-fits kept tt) ∙ kept .value
+-- a number as it stands in a local
+module _ {k : ℕ} {N n : ℤ} (t : T (leb k 62)) (h : Small N k n) where
+  pub said : read n ≡ N
+  said = small-read h t ∙ h .value
 
 -- ---- differences and sums of coordinates
 

@@ -1,16 +1,15 @@
 -- The tests of one direction with both parts where they stand: every vertex of a part moves equally far along a direction, so that its move is reckoned once a direction and
 -- not once a vertex.
-use mathlib.Core.Bool.{Bool, true, false, not, _&&_}
+use mathlib.Core.Bool.{Bool, true, false}
 use mathlib.Core.List.{map}
 use mathlib.Core.Path.{_≡_}
 use Prim.Native.Nat.{ℕ, _≤_, _<_, _^_}
-use lib.IntN.{ℤ, pos, natAbs, _+ℤ_, _-ℤ_}
+use lib.IntN.{ℤ, natAbs, _+ℤ_}
 use lib.ListN.{length}
 use lib.Signed.{leZ}
 use Rattle.model.specs.Content.{Vertex, Part}
 use Rattle.model.specs.Geometry.{Direction, normals, along}
 use Rattle.model.specs.Lists.{any, largestZ, smallestZ}
-use Rattle.convexity.specs.Square.{clearance}
 use Rattle.polygons.specs.Flat.{normalOf}
 
 -- d separates P from Q moved by e.
@@ -21,11 +20,6 @@ clears P Q e d = leZ (largestZ (map (along d) P)) (smallestZ (map (along d) Q) +
 pub record Separating (P Q : Part) (e : Vertex) (k : ℕ) : Type 0 where
   pub found : k < length P → clears P Q e (normalOf P k) ≡ true
   pub none : length P ≤ k → any (clears P Q e) (normals P) ≡ false
-
--- d keeps P the gap apart from Q moved by e, measured as a square. (The gap is not 0, and d not (0, 0).)
-unfoldable pub keeps : ℕ → Part → Part → Vertex → Direction → Bool
-keeps gap P Q e d =
-    not (leZ (clearance gap d) (pos 0)) && leZ (largestZ (map (along d) P)) (smallestZ (map (along d) Q) +ℤ along d e -ℤ clearance gap d)
 
 -- A result and a bound of its size, so that a caller can add to it.
 pub record Small (z : ℤ) (k : ℕ) (r : ℤ) : Type 0 where

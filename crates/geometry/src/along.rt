@@ -13,6 +13,7 @@ ghost use Rattle.model.specs.Lists.{largestZ, smallestZ};
 ghost use Rattle.convexity.specs.Square.{clearance};
 ghost use Rattle.polygons.specs.Flat.{partOf};
 ghost use Rattle.geometry.specs.Clears.{Small};
+ghost use Rattle.geometry.specs.Compact.{Short};
 use integers::dot;
 use polygons::vertices::coordinate;
 
@@ -87,20 +88,10 @@ pub fn lies_beyond(p: &[i16], a: i32, b: i32, limit: i64) -> bool
     true
 }
 
-// Whether no vertex of the part lies further along (a, b) than `limit`. The first that does ends the test. (Of no vertex the largest is 0.)
-pub fn lies_within(p: &[i16], a: i32, b: i32, limit: i64) -> bool
-    ensures { λ r. ⌜ r ≡ leZ (largestZ (map (Geometry.along (direction a b)) (partOf (now (p .entry))))) limit ⌝ }
+// The most that a vertex of the part lies along (a, b); 0 if it has none.
+pub fn highest(p: &[i16], a: i32, b: i32) -> i64
+    requires { ⌜ Short 65536 a b ⌝ }
+    ensures { λ r. ⌜ Small (largestZ (map (Geometry.along (direction a b)) (partOf (now (p .entry))))) 47 r ⌝ }
 {
-    let n = p.len() / 2;
-    if n == 0 {
-        return 0 <= limit;
-    }
-    let mut k: usize = 0;
-    while k < n {
-        if limit < vertex_along(p, k, a, b) {
-            return false;
-        }
-        k += 1;
-    }
-    true
+    0 - lowest(p, 0 - a, 0 - b)
 }

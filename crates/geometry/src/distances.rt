@@ -1,16 +1,15 @@
 // Distances of corners from edges, compared squared, in whole numbers.
-ghost use mathlib.Core.Bool.{not};
 ghost use mathlib.Core.List.{map};
 ghost use mathlib.Core.Path.{_≡_};
 ghost use Prim.Native.Nat.{_+_, _*_, _<_};
 ghost use lib.IntN.{pos, _+ℤ_, _-ℤ_, _*ℤ_};
 ghost use lib.ListN.{length};
 ghost use Rattle.model.specs.Content.{vertex, origin};
-ghost use Rattle.model.specs.Geometry.{vertexAt, nearEdge, cornersClear};
-ghost use Rattle.model.specs.Lists.{all};
+ghost use Rattle.model.specs.Geometry.{direction, vertexAt, following, nearEdge, cornersClear};
 ghost use Rattle.polygons.specs.Flat.{partOf, shifted};
 ghost use Rattle.geometry.specs.Clears.{Small};
-ghost use Rattle.geometry.specs.Compact.{Compact, Short, edgeClear};
+ghost use Rattle.geometry.specs.Compact.{Compact, Short, cornerClear, Spared};
+use crate::along::vertex_along;
 use crate::edges::next_vertex;
 use integers::cross;
 use integers::dot;
@@ -55,55 +54,72 @@ fn near_edge(a: i16, b: i16, x: i16, y: i16, gap: u16) -> bool
     aside * aside < square * length
 }
 
-// The same of corner i of p, moved by (x, y).
-fn corner_near(p: &[i16], i: usize, x: i16, y: i16, a: i16, b: i16, gap: u16) -> bool
-    requires { ⌜ ((2 * i + 1 < length (now p)) × Short 8192 x y) × Compact (partOf (now p)) ⌝ }
-    ensures { λ r. ⌜ r ≡ nearEdge gap origin (vertex a b) (shifted x y (vertexAt (partOf (now (p .entry))) i)) ⌝ }
-{
-    near_edge(a, b, coordinate(p, i, 0) + x, coordinate(p, i, 1) + y, gap)
-}
-
-// Whether no corner of p, moved by (x, y), is nearer than the gap to the edge from (0, 0) to (a, b).
-fn clear_of_edge(p: &[i16], x: i16, y: i16, a: i16, b: i16, gap: u16) -> bool
-    requires { ⌜ Short 8192 x y × Compact (partOf (now p)) ⌝ }
-    ensures { λ r. ⌜ r ≡ all (λ v. not (nearEdge gap origin (vertex a b) (shifted x y v))) (partOf (now (p .entry))) ⌝ }
-{
-    let n = p.len() / 2;
-    let mut i: usize = 0;
-    while i < n {
-        if corner_near(p, i, x, y, a, b, gap) {
-            return false;
-        }
-        i += 1;
-    }
-    true
-}
-
-// Whether no corner of p, moved by (dx, dy), is nearer than the gap to the edge of q from vertex k to the next one.
-fn edge_clear(p: &[i16], dx: i16, dy: i16, q: &[i16], k: usize, gap: u16) -> bool
-    requires { ⌜ ((2 * k + 1 < length (now q)) × Short 4096 dx dy) × (Compact (partOf (now p)) × Compact (partOf (now q))) ⌝ }
-    ensures { λ r. ⌜ r ≡ edgeClear gap (map (shifted dx dy) (partOf (now (p .entry)))) (partOf (now (q .entry))) k ⌝ }
+// Whether the corner (x, y) is nearer than the gap to the edge of q from vertex k to the next one.
+fn edge_near(x: i16, y: i16, q: &[i16], k: usize, gap: u16) -> bool
+    requires { ⌜ ((2 * k + 1 < length (now q)) × Short 8192 x y) × Compact (partOf (now q)) ⌝ }
+    ensures { λ r. ⌜ r ≡ nearEdge gap (vertexAt (partOf (now (q .entry))) k) (vertexAt (partOf (now (q .entry))) (following (partOf (now (q .entry))) k)) (vertex x y) ⌝ }
 {
     let m = next_vertex(q, k);
     let sx = coordinate(q, k, 0);
     let sy = coordinate(q, k, 1);
-    let a = coordinate(q, m, 0) - sx;
-    let b = coordinate(q, m, 1) - sy;
-    clear_of_edge(p, dx - sx, dy - sy, a, b, gap)
+    near_edge(
+        coordinate(q, m, 0) - sx,
+        coordinate(q, m, 1) - sy,
+        x - sx,
+        y - sy,
+        gap,
+    )
 }
 
-// Whether no corner of p, moved by (dx, dy), is nearer than the gap to an edge of q. The first that is ends the test.
-pub fn corners_clear(p: &[i16], dx: i16, dy: i16, q: &[i16], gap: u16) -> bool
-    requires { ⌜ Short 4096 dx dy × (Compact (partOf (now p)) × Compact (partOf (now q))) ⌝ }
-    ensures { λ r. ⌜ r ≡ cornersClear gap (map (shifted dx dy) (partOf (now (p .entry)))) (partOf (now (q .entry))) ⌝ }
+// Whether the corner (x, y) is nearer than the gap to no edge of q. The first edge that it is too near ends the test.
+fn corner_clear(x: i16, y: i16, q: &[i16], gap: u16) -> bool
+    requires { ⌜ Short 8192 x y × Compact (partOf (now q)) ⌝ }
+    ensures { λ r. ⌜ r ≡ cornerClear gap (partOf (now (q .entry))) (vertex x y) ⌝ }
 {
     let n = q.len() / 2;
     let mut k: usize = 0;
     while k < n {
-        if !edge_clear(p, dx, dy, q, k, gap) {
+        if edge_near(x, y, q, k, gap) {
             return false;
         }
         k += 1;
+    }
+    true
+}
+
+// The same of corner i of p, moved by (dx, dy).
+fn moved_clear(p: &[i16], i: usize, dx: i16, dy: i16, q: &[i16], gap: u16) -> bool
+    requires { ⌜ ((2 * i + 1 < length (now p)) × Short 4096 dx dy) × (Compact (partOf (now p)) × Compact (partOf (now q))) ⌝ }
+    ensures { λ r. ⌜ r ≡ cornerClear gap (partOf (now (q .entry))) (shifted dx dy (vertexAt (partOf (now (p .entry))) i)) ⌝ }
+{
+    corner_clear(coordinate(p, i, 0) + dx, coordinate(p, i, 1) + dy, q, gap)
+}
+
+// Whether no corner of p, moved by (dx, dy), is nearer than the gap to an edge of q. Corners that lie as far along (a, b) as the limit, or further, are spared: they are known
+// to be clear.
+pub fn corners_clear(
+    p: &[i16],
+    dx: i16,
+    dy: i16,
+    q: &[i16],
+    a: i32,
+    b: i32,
+    limit: i64,
+    gap: u16,
+) -> bool
+    requires { ⌜ Short 4096 dx dy × (Compact (partOf (now p)) × Compact (partOf (now q))) ⌝ }
+    requires { ⌜ Spared gap (partOf (now p)) dx dy (partOf (now q)) (direction a b) limit ⌝ }
+    ensures { λ r. ⌜ r ≡ cornersClear gap (map (shifted dx dy) (partOf (now (p .entry)))) (partOf (now (q .entry))) ⌝ }
+{
+    let n = p.len() / 2;
+    let mut i: usize = 0;
+    while i < n {
+        if vertex_along(p, i, a, b) < limit {
+            if !moved_clear(p, i, dx, dy, q, gap) {
+                return false;
+            }
+        }
+        i += 1;
     }
     true
 }

@@ -5,18 +5,16 @@ ghost use lib.IntN.{_-ℤ_};
 ghost use lib.ListN.{length};
 ghost use Rattle.model.specs.Content.{vertex};
 ghost use Rattle.model.specs.Geometry.{vertexAt, following};
-ghost use Rattle.polygons.specs.Flat.{partOf, coordinateOf, normalOf};
-ghost use Rattle.geometry.specs.Clears.{keeps, Separating};
-use crate::along::gap_along;
+ghost use Rattle.polygons.specs.Flat.{partOf, coordinateOf};
+ghost use Rattle.geometry.specs.Clears.{Separating};
 use crate::along::lies_beyond;
-use crate::along::lies_within;
 use crate::along::lowest;
 use crate::along::move_along;
 use crate::along::vertex_along;
 use polygons::vertices::coordinate;
 
 // Coordinate c of vertex m less that of vertex k.
-fn difference(p: &[i16], m: usize, k: usize, c: usize) -> i32
+pub fn difference(p: &[i16], m: usize, k: usize, c: usize) -> i32
     requires { ⌜ (2 * m + 1 < length (now p)) × (2 * k + 1 < length (now p)) × (c < 2) ⌝ }
     ensures { λ r. ⌜ r ≡ coordinateOf c (vertexAt (partOf (now (p .entry))) m) -ℤ coordinateOf c (vertexAt (partOf (now (p .entry))) k) ⌝ }
 {
@@ -58,19 +56,4 @@ pub fn separating_edge(p: &[i16], q: &[i16], dx: i16, dy: i16) -> usize
         k += 1;
     }
     k
-}
-
-// Whether the outward normal of edge k of p keeps p the gap apart from q moved by (dx, dy).
-pub fn normal_keeps(p: &[i16], q: &[i16], dx: i16, dy: i16, k: usize, gap: u16) -> bool
-    requires { ⌜ 2 * k + 1 < length (now p) ⌝ }
-    ensures { λ r. ⌜ r ≡ keeps gap (partOf (now (p .entry))) (partOf (now (q .entry))) (vertex dx dy) (normalOf (partOf (now (p .entry))) k) ⌝ }
-{
-    let m = next_vertex(p, k);
-    let a = difference(p, m, k, 1);
-    let b = difference(p, k, m, 0);
-    let reach = gap_along(gap, a, b);
-    if reach <= 0 {
-        return false;
-    }
-    lies_within(p, a, b, lowest(q, a, b) + move_along(a, b, dx, dy) - reach)
 }

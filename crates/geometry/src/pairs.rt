@@ -2,13 +2,20 @@
 ghost use mathlib.Core.List.{map};
 ghost use mathlib.Core.Path.{_≡_};
 ghost use Prim.Native.Nat.{_+_, _*_, _≤_, _<_};
+ghost use lib.IntN.{pos};
 ghost use lib.ListN.{length};
 ghost use Rattle.model.specs.Geometry;
+ghost use Rattle.model.specs.Geometry.{direction};
 ghost use Rattle.geometry.specs.Apart.{clearOf, boxesApart, bothClear, besideOf};
 ghost use Rattle.geometry.specs.Compact.{Compact, Short};
 ghost use Rattle.polygons.specs.Flat.{partOf, shifted};
+use crate::along::gap_along;
+use crate::along::highest;
+use crate::along::lowest;
+use crate::along::move_along;
 use crate::distances::corners_clear;
-use crate::edges::normal_keeps;
+use crate::edges::difference;
+use crate::edges::next_vertex;
 use crate::edges::separating_edge;
 use polygons::extents::Extents;
 
@@ -29,8 +36,28 @@ pub fn axes_separate(e: Extents, f: Extents, dx: i16, dy: i16, gap: u16) -> bool
         | clear_of(f.max_y, dy, e.min_y, 0, gap)
 }
 
-// Whether no corner of p or of q, moved by (dx, dy), is nearer than the gap to an edge of the other one. The normal of edge k of p may keep them so far apart, which spares
-// all distances.
+// Whether no corner of p or of q, moved by (dx, dy), is nearer than the gap to an edge of the other one. Any direction (a, b) will do. Where it keeps the two the gap apart no
+// distance is measured, and otherwise those of the corners that lie so near the other part along it.
+fn clear_along(p: &[i16], q: &[i16], dx: i16, dy: i16, a: i32, b: i32, gap: u16) -> bool
+    requires { ⌜ (2 ≤ length (now p)) × (2 ≤ length (now q)) ⌝ }
+    requires { ⌜ Short 4096 dx dy × (Compact (partOf (now p)) × Compact (partOf (now q))) ⌝ }
+    requires { ⌜ Short 65536 a b × (direction a b ≡ direction (pos 0) (pos 0) → ⊥) ⌝ }
+    ensures { λ r. ⌜ r ≡ bothClear gap (partOf (now (p .entry))) (map (shifted dx dy) (partOf (now (q .entry)))) ⌝ }
+{
+    let reach = gap_along(gap, a, b);
+    let way = move_along(a, b, dx, dy);
+    let low = lowest(q, a, b) + way;
+    let top = highest(p, a, b) + reach;
+    if top <= low {
+        return true;
+    }
+    if !corners_clear(q, dx, dy, p, a, b, top - way, gap) {
+        return false;
+    }
+    corners_clear(p, 0 - dx, 0 - dy, q, 0 - a, 0 - b, reach - low, gap)
+}
+
+// The same, along the outward normal of edge k of p. (That of a sound part is not (0, 0).)
 fn clear_beside(p: &[i16], q: &[i16], dx: i16, dy: i16, k: usize, gap: u16) -> bool
     requires { ⌜ (2 * k + 1 < length (now p)) × (2 ≤ length (now q)) ⌝ }
     requires { ⌜ Short 4096 dx dy × (Compact (partOf (now p)) × Compact (partOf (now q))) ⌝ }
@@ -39,13 +66,15 @@ fn clear_beside(p: &[i16], q: &[i16], dx: i16, dy: i16, k: usize, gap: u16) -> b
     if gap == 0 {
         return true;
     }
-    if normal_keeps(p, q, dx, dy, k, gap) {
-        return true;
+    let m = next_vertex(p, k);
+    let a = difference(p, m, k, 1);
+    let b = difference(p, k, m, 0);
+    if a == 0 {
+        if b == 0 {
+            return clear_along(p, q, dx, dy, 0, 1, gap);
+        }
     }
-    if !corners_clear(q, dx, dy, p, gap) {
-        return false;
-    }
-    corners_clear(p, 0 - dx, 0 - dy, q, gap)
+    clear_along(p, q, dx, dy, a, b, gap)
 }
 
 // What the edges of p say of it and q moved by (dx, dy): 0 if no normal of them separates the two, 1 if one does and no corner is too near an edge, 2 if one does and a corner is.
@@ -58,7 +87,11 @@ fn beside(p: &[i16], q: &[i16], dx: i16, dy: i16, gap: u16) -> u8
     if k == p.len() / 2 {
         return 0;
     }
-    if clear_beside(p, q, dx, dy, k, gap) { 1 } else { 2 }
+    if clear_beside(p, q, dx, dy, k, gap) {
+        1
+    } else {
+        2
+    }
 }
 
 // Whether p and q, moved by (dx, dy), are separated at this gap: a normal of p or one of q separates them, tried in document 01's order, and no corner of the one is too near

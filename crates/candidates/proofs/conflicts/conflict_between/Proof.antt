@@ -56,10 +56,14 @@ short a b h k = natAbs-less a b 4096 (le-trans h (lit≤ tt)) (le-trans k (lit�
 
 pieces-conflict-requires : tie.Need-pieces-conflict-requires
 pieces-conflict-requires c κs = (
-  (subst (Standing (now (c .before .before .before .before .before .before .before .before .args .turned))) (sym (c .before .turned-to .ensures)) (c .before .before .before .before .before .before .before .before .pre .0 .0 .stands (c .before .before .before .before .before .before .before .before .args .a .rotation) (c .before .before .before .before .before .before .before .before .pre .0 .1 .turn)),
-  subst (Standing (now (c .before .before .before .before .before .before .before .before .args .turned))) (sym (c .turned-to2 .ensures)) (c .before .before .before .before .before .before .before .before .pre .1 .0 .stands (c .before .before .before .before .before .before .before .before .args .c .rotation) (c .before .before .before .before .before .before .before .before .pre .1 .1 .turn))),
-  (rw (across (c .before .before .before .before .before)) (short (c .before .before .before .before .before .before .before .before .args .c .column * c .before .before .before .before .before .before .before .before .args .step) (c .before .before .before .before .before .before .before .before .args .a .column * c .before .before .before .before .before .before .before .before .args .step) (c .before .before .before .before .before .before .before .before .pre .1 .1 .across) (c .before .before .before .before .before .before .before .before .pre .0 .1 .across)),
-  rw (up (c .before .before)) (short (c .before .before .before .before .before .before .before .before .args .c .row * c .before .before .before .before .before .before .before .before .args .step) (c .before .before .before .before .before .before .before .before .args .a .row * c .before .before .before .before .before .before .before .before .args .step) (c .before .before .before .before .before .before .before .before .pre .1 .1 .up) (c .before .before .before .before .before .before .before .before .pre .0 .1 .up))),
+  (
+    subst (Standing (now (c .before .before .before .before .before .before .before .before .args .turned))) (sym (c .before .turned-to .ensures)) (c .before .before .before .before .before .before .before .before .pre .0 .0 .stands (c .before .before .before .before .before .before .before .before .args .a .rotation) (c .before .before .before .before .before .before .before .before .pre .0 .1 .turn)),
+    subst (Standing (now (c .before .before .before .before .before .before .before .before .args .turned))) (sym (c .turned-to2 .ensures)) (c .before .before .before .before .before .before .before .before .pre .1 .0 .stands (c .before .before .before .before .before .before .before .before .args .c .rotation) (c .before .before .before .before .before .before .before .before .pre .1 .1 .turn)),
+  ),
+  (
+    rw (across (c .before .before .before .before .before)) (short (c .before .before .before .before .before .before .before .before .args .c .column * c .before .before .before .before .before .before .before .before .args .step) (c .before .before .before .before .before .before .before .before .args .a .column * c .before .before .before .before .before .before .before .before .args .step) (c .before .before .before .before .before .before .before .before .pre .1 .1 .across) (c .before .before .before .before .before .before .before .before .pre .0 .1 .across)),
+    rw (up (c .before .before)) (short (c .before .before .before .before .before .before .before .before .args .c .row * c .before .before .before .before .before .before .before .before .args .step) (c .before .before .before .before .before .before .before .before .args .a .row * c .before .before .before .before .before .before .before .before .args .step) (c .before .before .before .before .before .before .before .before .pre .1 .1 .up) (c .before .before .before .before .before .before .before .before .pre .0 .1 .up)),
+  ),
 )
 
 returns : tie.Need-returns

@@ -1,26 +1,29 @@
--- `geometry::pairs::clear_beside` meets its contract: at gap 0 nothing is asked, what the normal keeps apart is clear, and otherwise the distances decide. Assumes nothing.
-use mathlib.Core.List.{map}
-use mathlib.Core.Path.{_≡_, refl, sym, _∙_}
-use Prim.Native.Nat.{_≤_}
+-- `geometry::pairs::clear_beside` meets its contract: at gap 0 nothing is asked, and otherwise any direction but (0, 0) will do. Assumes nothing.
+use mathlib.Core.List.{[], _∷_, map}
+use mathlib.Core.Logic.{⊎-elim}
+use mathlib.Core.Path.{_≡_, sym, _∙_, ap}
+use Prim.Native.Nat.{ℕ, _≤_}
+use native.Mathlib.Nat.{le-trans}
 use native.Mathlib.Omega.{arith}
-use borrow.Author.Tests.{not-true, not-false}
+use borrow.Author.Needs.{sfits-of}
 use denote.Ref.{now}
-use lib.IntN.{pos, natAbs, _-ℤ_}
-use mir.Syntax.{w16}
+use lib.Dec.{lit≤}
+use lib.IntN.{ℤ, pos, natAbs, _-ℤ_}
+use mir.Syntax.{w16, w32}
 use mir.Val.{toZ, ofZ}
 use mir.ValLaws.{toZ-ofZ}
-use Rattle.integers.proofs.Machine.{read₂, op-fits, op-gives}
-use Rattle.model.specs.Content.{vertex, Part}
-use Rattle.model.specs.Geometry.{cornersClear}
-use Rattle.polygons.specs.Flat.{partOf, normalOf, shifted}
+use Rattle.integers.proofs.Machine.{read₂}
+use Rattle.integers.proofs.Sizes.{bounded}
+use Rattle.integers.proofs.Solver.{_⊟_}
+use Rattle.model.specs.Content.{Part}
+use Rattle.model.specs.Geometry.{Direction, direction, vertexAt}
+use Rattle.polygons.specs.Flat.{partOf, shifted}
 use Rattle.polygons.proofs.Flat.{part-length}
-use Rattle.geometry.specs.Clears.{keeps}
-use Rattle.geometry.proofs.DistanceLaws.{opposite-size, opposite-fits}
-use Rattle.geometry.proofs.PairLaws.{kept-clear, both-none, both-second, both-first, clear-back}
+use Rattle.geometry.specs.Apart.{bothClear}
+use Rattle.geometry.specs.Compact.{Short}
+use Rattle.geometry.proofs.PairLaws.{both-none}
 use Rattle.geometry.proofs.pairs.clear_beside.Statement.{statement}
 use Rattle.geometry.proofs.pairs.clear_beside.Tie as tie
-
--- ---- the parts, and the tests free of the bits of the locals
 
 abbrev first : (c : tie.Start) → Part
 first c = partOf (now (c .args .p))
@@ -28,78 +31,82 @@ first c = partOf (now (c .args .p))
 abbrev second : (c : tie.Start) → Part
 second c = partOf (now (c .args .q))
 
-abbrev moved : (c : tie.Start) → Part
-moved c = map (shifted (c .args .dx) (c .args .dy)) (second c)
+answer : (c : tie.Start) → bothClear (c .args .gap) (first c) (map (shifted (toZ w16 (ofZ w16 (c .args .dx))) (toZ w16 (ofZ w16 (c .args .dy)))) (second c)) ≡ bothClear (c .args .gap) (first c) (map (shifted (c .args .dx) (c .args .dy)) (second c))
+answer c = read₂ w16 (c .args .dx) (c .args .dy) (c .fits .dx) (c .fits .dy) (λ x y. bothClear (c .args .gap) (first c) (map (shifted x y) (second c)))
 
-is-dx : (c : tie.Start) → toZ w16 (ofZ w16 (c .args .dx)) ≡ c .args .dx
-is-dx c = toZ-ofZ w16 (c .args .dx) (c .fits .dx)
+short : (c : tie.Start) → Short 4096 (toZ w16 (ofZ w16 (c .args .dx))) (toZ w16 (ofZ w16 (c .args .dy)))
+short c = (rw (toZ-ofZ w16 (c .args .dx) (c .fits .dx)) (c .pre .1 .0 .0), rw (toZ-ofZ w16 (c .args .dy) (c .fits .dy)) (c .pre .1 .0 .1))
 
-is-dy : (c : tie.Start) → toZ w16 (ofZ w16 (c .args .dy)) ≡ c .args .dy
-is-dy c = toZ-ofZ w16 (c .args .dy) (c .fits .dy)
+-- ---- the normal
 
-is-back-x : (c : tie.Start) → toZ w16 (ofZ w16 (pos 0 -ℤ toZ w16 (ofZ w16 (c .args .dx)))) ≡ pos 0 -ℤ c .args .dx
-is-back-x c = op-gives {x = pos 0} refl (is-dx c) _-ℤ_ (opposite-fits (c .args .dx) (c .pre .1 .0 .0))
+-- a difference of two coordinates is small
+difference-size : (u w : ℤ) → natAbs u ≤ 4096 → natAbs w ≤ 4096 → natAbs (u -ℤ w) ≤ 65536
+difference-size u w h k = le-trans (bounded (4096 ∷ 4096 ∷ []) 2 (λ u w. u ⊟ w) u w h k) (lit≤ tt)
 
-is-back-y : (c : tie.Start) → toZ w16 (ofZ w16 (pos 0 -ℤ toZ w16 (ofZ w16 (c .args .dy)))) ≡ pos 0 -ℤ c .args .dy
-is-back-y c = op-gives {x = pos 0} refl (is-dy c) _-ℤ_ (opposite-fits (c .args .dy) (c .pre .1 .0 .1))
+from-small : (c : tie.Start) → Short 4096 (vertexAt (first c) (c .args .k) .x) (vertexAt (first c) (c .args .k) .y)
+from-small c = c .pre .1 .1 .0 (c .args .k) (omega (arith, c .pre .0 .0, part-length (now (c .args .p))))
 
-kept : (c : tie.After-normal-keeps) → c .normal-keeps .result ≡ keeps (c .before .before .args .gap) (first (c .before .before)) (second (c .before .before)) (vertex (c .before .before .args .dx) (c .before .before .args .dy)) (normalOf (first (c .before .before)) (c .before .before .args .k))
-kept c =
-    c .normal-keeps .ensures
-    ∙ read₂ w16 (c .before .before .args .dx) (c .before .before .args .dy) (c .before .before .fits .dx) (c .before .before .fits .dy) (λ x y. keeps (c .before .before .args .gap) (first (c .before .before)) (second (c .before .before)) (vertex x y) (normalOf (first (c .before .before)) (c .before .before .args .k)))
+to-small : (c : tie.After-next-vertex) → Short 4096 (vertexAt (first (c .before .before)) (c .next-vertex .result) .x) (vertexAt (first (c .before .before)) (c .next-vertex .result) .y)
+to-small c = c .before .before .pre .1 .1 .0 (c .next-vertex .result) (omega (arith, c .next-vertex .ensures .1, part-length (now (c .before .before .args .p))))
 
-there : (c : tie.After-corners-clear) → c .corners-clear .result ≡ cornersClear (c .before .before .before .before .args .gap) (moved (c .before .before .before .before)) (first (c .before .before .before .before))
-there c =
-    c .corners-clear .ensures
-    ∙ read₂ w16 (c .before .before .before .before .args .dx) (c .before .before .before .before .args .dy) (c .before .before .before .before .fits .dx) (c .before .before .before .before .fits .dy) (λ x y. cornersClear (c .before .before .before .before .args .gap) (map (shifted x y) (second (c .before .before .before .before))) (first (c .before .before .before .before)))
+is-a : (c : tie.After-difference) → toZ w32 (ofZ w32 (c .difference .result)) ≡ c .difference .result
+is-a c = toZ-ofZ w32 (c .difference .result) (sfits-of (c .difference .ok))
 
-back : (c : tie.After-corners-clear2) → c .corners-clear2 .result ≡ cornersClear (c .before .before .before .before .before .before .args .gap) (first (c .before .before .before .before .before .before)) (moved (c .before .before .before .before .before .before))
-back c =
-    c .corners-clear2 .ensures
-    ∙ (λ i. cornersClear (c .before .before .before .before .before .before .args .gap) (map (shifted (is-back-x (c .before .before .before .before .before .before) i) (is-back-y (c .before .before .before .before .before .before) i)) (first (c .before .before .before .before .before .before))) (second (c .before .before .before .before .before .before)))
-    ∙ clear-back (c .before .before .before .before .before .before .args .gap) (first (c .before .before .before .before .before .before)) (second (c .before .before .before .before .before .before)) (c .before .before .before .before .before .before .args .dx) (c .before .before .before .before .before .before .args .dy)
+is-b : (c : tie.After-difference2) → toZ w32 (ofZ w32 (c .difference2 .result)) ≡ c .difference2 .result
+is-b c = toZ-ofZ w32 (c .difference2 .result) (sfits-of (c .difference2 .ok))
+
+small : (c : tie.After-difference2) → Short 65536 (toZ w32 (ofZ w32 (c .before .difference .result))) (toZ w32 (ofZ w32 (c .difference2 .result)))
+small c = (
+  rw (is-a (c .before), c .before .difference .ensures) (difference-size (vertexAt (first (c .before .before .before .before)) (c .before .before .next-vertex .result) .y) (vertexAt (first (c .before .before .before .before)) (c .before .before .before .before .args .k) .y) (to-small (c .before .before) .1) (from-small (c .before .before .before .before) .1)),
+  rw (is-b c, c .difference2 .ensures) (difference-size (vertexAt (first (c .before .before .before .before)) (c .before .before .before .before .args .k) .x) (vertexAt (first (c .before .before .before .before)) (c .before .before .next-vertex .result) .x) (from-small (c .before .before .before .before) .0) (to-small (c .before .before) .0)),
+)
 
 -- ---- the needs
 
 returns : tie.Need-returns
-returns c = both-none (c .before .args .gap) (first (c .before)) (moved (c .before)) (c .if1 .taken)
+returns c = both-none (c .before .args .gap) (first (c .before)) (map (shifted (c .before .args .dx) (c .before .args .dy)) (second (c .before))) (c .if1 .taken)
 
-normal-keeps-requires : tie.Need-normal-keeps-requires
-normal-keeps-requires c κs = c .before .pre .0 .0
+next-vertex-requires : tie.Need-next-vertex-requires
+next-vertex-requires c κs = c .before .pre .0 .0
+
+difference-requires : tie.Need-difference-requires
+difference-requires c κs = (c .next-vertex .ensures .1, c .before .before .pre .0 .0, omega arith)
+
+difference-requires-2 : tie.Need-difference-requires-2
+difference-requires-2 c κs = (c .before .before .before .pre .0 .0, c .before .next-vertex .ensures .1, omega arith)
+
+clear-along-requires : tie.Need-clear-along-requires
+clear-along-requires c κs = (
+  (omega (arith, c .before .before .before .before .before .before .pre .0 .0), c .before .before .before .before .before .before .pre .0 .1),
+  ((short (c .before .before .before .before .before .before), c .before .before .before .before .before .before .pre .1 .1), ((lit≤ tt, lit≤ tt), λ e. let n : _≡_ {A = ℕ} 1 0 = ap (λ (d : Direction). natAbs (d .b)) e in omega arith)),
+)
 
 returns-2 : tie.Need-returns-2
-returns-2 c =
-    sym (kept-clear (first (c .before .before .before)) (second (c .before .before .before)) (c .before .before .before .args .dx) (c .before .before .before .args .dy) (omega (arith, c .before .before .before .pre .0 .1, part-length (now (c .before .before .before .args .q)))) (omega (arith, c .before .before .before .pre .0 .0, part-length (now (c .before .before .before .args .p)))) (c .before .before .before .args .gap) (normalOf (first (c .before .before .before)) (c .before .before .before .args .k))
-    (sym (kept (c .before)) ∙ c .if2 .taken))
+returns-2 c = c .clear-along .ensures ∙ answer (c .before .before .before .before .before .before .before)
 
-corners-clear-requires : tie.Need-corners-clear-requires
-corners-clear-requires c κs = ((rw (is-dx (c .before .before .before)) (c .before .before .before .pre .1 .0 .0), rw (is-dy (c .before .before .before)) (c .before .before .before .pre .1 .0 .1)), (c .before .before .before .pre .1 .1 .1, c .before .before .before .pre .1 .1 .0))
+-- the normal is not (0, 0)
+some : (c : tie.Joined2) → direction (toZ w32 (ofZ w32 (c .before .before .difference .result))) (toZ w32 (ofZ w32 (c .before .difference2 .result))) ≡ direction (pos 0) (pos 0) → ⊥
+some c e =
+    ⊎-elim (λ w. w .1 .left (ap (ofZ w32) (sym (is-b (c .before))) ∙ ap (λ (d : Direction). ofZ w32 (d .b)) e)) (λ w. w .left (ap (ofZ w32) (sym (is-a (c .before .before))) ∙ ap (λ (d : Direction). ofZ w32 (d .a)) e)) (c .if2 .came)
+
+clear-along-requires-2 : tie.Need-clear-along-requires-2
+clear-along-requires-2 c κs = (
+  (omega (arith, c .before .before .before .before .before .pre .0 .0), c .before .before .before .before .before .pre .0 .1),
+  ((short (c .before .before .before .before .before), c .before .before .before .before .before .pre .1 .1), (small (c .before), some c)),
+)
 
 returns-3 : tie.Need-returns-3
-returns-3 c = both-second (c .before .before .before .before .before .args .gap) (first (c .before .before .before .before .before)) (moved (c .before .before .before .before .before)) (sym (there (c .before)) ∙ not-true _ (c .if3 .taken))
-
-sub-corners-clear : tie.Need-sub-corners-clear
-sub-corners-clear c = op-fits {x = pos 0} refl (is-dx (c .before .before .before .before .before)) _-ℤ_ (opposite-fits (c .before .before .before .before .before .args .dx) (c .before .before .before .before .before .pre .1 .0 .0))
-
-sub-corners-clear-2 : tie.Need-sub-corners-clear-2
-sub-corners-clear-2 c = op-fits {x = pos 0} refl (is-dy (c .before .before .before .before .before)) _-ℤ_ (opposite-fits (c .before .before .before .before .before .args .dy) (c .before .before .before .before .before .pre .1 .0 .1))
-
-corners-clear-requires-2 : tie.Need-corners-clear-requires-2
-corners-clear-requires-2 c κs = ((rw (is-back-x (c .before .before .before .before .before)) (opposite-size (c .before .before .before .before .before .args .dx) (c .before .before .before .before .before .pre .1 .0 .0)), rw (is-back-y (c .before .before .before .before .before)) (opposite-size (c .before .before .before .before .before .args .dy) (c .before .before .before .before .before .pre .1 .0 .1))), c .before .before .before .before .before .pre .1 .1)
-
-returns-4 : tie.Need-returns-4
-returns-4 c = back c ∙ both-first (c .before .before .before .before .before .before .args .gap) (first (c .before .before .before .before .before .before)) (moved (c .before .before .before .before .before .before)) (sym (there (c .before .before)) ∙ not-false _ (c .before .if3 .left))
+returns-3 c = c .clear-along2 .ensures ∙ answer (c .before .before .before .before .before .before)
 
 pub clear-beside-spec : {M : Type 1} → statement M
 clear-beside-spec =
     tie.close
     (tie.spec
     returns
-    normal-keeps-requires
+    next-vertex-requires
+    difference-requires
+    difference-requires-2
+    clear-along-requires
     returns-2
-    corners-clear-requires
-    returns-3
-    sub-corners-clear
-    sub-corners-clear-2
-    corners-clear-requires-2
-    returns-4)
+    clear-along-requires-2
+    returns-3)

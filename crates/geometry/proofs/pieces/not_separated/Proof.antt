@@ -83,10 +83,14 @@ some-numbers l P e h = omega (arith, part-length l, ap length e, h)
 
 separated-requires : tie.Need-separated-requires
 separated-requires c κs = (
-  (some-numbers _ _ (first-part (c .before .before)) (part-some (now (c .before .before .before .before .before .before .args .table)) (c .before .before .before .before .before .before .args .p) (c .before .before .before .before .before .before .pre .0 .0 .0 .0) (c .before .before .before .before .before .before .pre .0 .1) (c .before .before .before .before .before .before .args .i) (c .before .before .before .before .before .before .pre .0 .0 .0 .1)),
-  some-numbers _ _ (second-part (c .before .before)) (part-some (now (c .before .before .before .before .before .before .args .table)) (c .before .before .before .before .before .before .args .q) (c .before .before .before .before .before .before .pre .0 .0 .1 .0) (c .before .before .before .before .before .before .pre .0 .1) (c .before .before .before .before .before .before .args .m) (c .before .before .before .before .before .before .pre .0 .0 .1 .1))),
-  ((rw (toZ-ofZ w16 (c .before .before .before .before .before .before .args .dx) (c .before .before .before .before .before .before .fits .dx)) (c .before .before .before .before .before .before .pre .1 .0 .0), rw (toZ-ofZ w16 (c .before .before .before .before .before .before .args .dy) (c .before .before .before .before .before .before .fits .dy)) (c .before .before .before .before .before .before .pre .1 .0 .1)),
-  (subst Compact (sym (first-part (c .before .before))) (c .before .before .before .before .before .before .pre .1 .1 .0), subst Compact (sym (second-part (c .before .before))) (c .before .before .before .before .before .before .pre .1 .1 .1))),
+  (
+    some-numbers _ _ (first-part (c .before .before)) (part-some (now (c .before .before .before .before .before .before .args .table)) (c .before .before .before .before .before .before .args .p) (c .before .before .before .before .before .before .pre .0 .0 .0 .0) (c .before .before .before .before .before .before .pre .0 .1) (c .before .before .before .before .before .before .args .i) (c .before .before .before .before .before .before .pre .0 .0 .0 .1)),
+    some-numbers _ _ (second-part (c .before .before)) (part-some (now (c .before .before .before .before .before .before .args .table)) (c .before .before .before .before .before .before .args .q) (c .before .before .before .before .before .before .pre .0 .0 .1 .0) (c .before .before .before .before .before .before .pre .0 .1) (c .before .before .before .before .before .before .args .m) (c .before .before .before .before .before .before .pre .0 .0 .1 .1)),
+  ),
+  (
+    (rw (toZ-ofZ w16 (c .before .before .before .before .before .before .args .dx) (c .before .before .before .before .before .before .fits .dx)) (c .before .before .before .before .before .before .pre .1 .0 .0), rw (toZ-ofZ w16 (c .before .before .before .before .before .before .args .dy) (c .before .before .before .before .before .before .fits .dy)) (c .before .before .before .before .before .before .pre .1 .0 .1)),
+    (subst Compact (sym (first-part (c .before .before))) (c .before .before .before .before .before .before .pre .1 .1 .0), subst Compact (sym (second-part (c .before .before))) (c .before .before .before .before .before .before .pre .1 .1 .1)),
+  ),
 )
 
 returns : tie.Need-returns

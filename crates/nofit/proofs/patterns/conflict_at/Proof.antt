@@ -82,8 +82,10 @@ returns c =
 pieces-conflict-requires : tie.Need-pieces-conflict-requires
 pieces-conflict-requires c κs = (
   (c .before .before .before .before .pre .0 .1 .0 .stands, c .before .before .before .before .pre .0 .1 .1 .stands),
-  (rw (along-is (c .before .before .before)) (short (c .before .before .before .before .args .d .column * c .before .before .before .before .args .s .step) (c .before .before .before .before .args .s .reach * c .before .before .before .before .args .s .step) (across-near (c .before .before .before .before))),
-  rw (up-is (c .before .before)) (short (c .before .before .before .before .args .d .row * c .before .before .before .before .args .s .step) (c .before .before .before .before .args .s .lift * c .before .before .before .before .args .s .step) (up-near (c .before .before .before .before)))),
+  (
+    rw (along-is (c .before .before .before)) (short (c .before .before .before .before .args .d .column * c .before .before .before .before .args .s .step) (c .before .before .before .before .args .s .reach * c .before .before .before .before .args .s .step) (across-near (c .before .before .before .before))),
+    rw (up-is (c .before .before)) (short (c .before .before .before .before .args .d .row * c .before .before .before .before .args .s .step) (c .before .before .before .before .args .s .lift * c .before .before .before .before .args .s .step) (up-near (c .before .before .before .before))),
+  ),
 )
 
 returns-2 : tie.Need-returns-2
