@@ -67,6 +67,11 @@ extern "C" {
  * none. The gap between two pieces is 0 if some common-cut class is named by the types of both, otherwise it is
  * the larger of the two types' gaps. Two copies of one type share every class that it names. The order of the
  * classes in a job changes no result.
+ *
+ * Two pieces are in conflict if a part of one and a part of the other overlap. To touch is not to overlap, so
+ * at gap 0 pieces may touch. At a gap h above 0 they are in conflict also if a corner of a part of one is nearer
+ * than h to an edge of a part of the other, as a round cutter measures it: Euclidean distance, an edge being a
+ * segment, so that beyond its ends the end corner counts. A distance of exactly h is allowed.
  * ------------------------------------------------------------------------------------------------------ */
 
 #define NEST_TRAILER_BYTES        14

@@ -20,6 +20,9 @@ LOWER = [(0, 0), (2, 0), (2, 2)]
 UPPER = [(0, 0), (2, 2), (0, 2)]
 STRIP = [(0, 0), (10, 10), (10, 11), (0, 1)]
 STAR = [(0, 10), (-6, -8), (10, 3), (-10, 3), (6, -8)]
+# A sheet of 8 by 6 cut slantwise in two. The cut is 10 long, so that distances from it are tenths.
+LOWER_HALF = [(0, 0), (8, 0), (0, 6)]
+UPPER_HALF = [(8, 0), (8, 6), (0, 6)]
 
 
 def rectangle(x, y, width, height):
@@ -110,6 +113,14 @@ JOBS = {
         "Two squares in a common cut of gap 2 and one in no class: the two touch, the third stands 2 apart.",
         Job(2, 8, 1, [piece(2, [SQUARE], classes=1), piece(1, [SQUARE])], [(0, 5, COMMON_CUT + 2)]),
     ),
+    "round-gap": (
+        "Two squares with a gap of 5 on a board that leaves 4 between them across: 3 along it are enough, corner to corner.",
+        Job(8, 9, 1, [piece(2, [SQUARE], classes=1)], [(0, 0, 5)]),
+    ),
+    "round-gap-slanting": (
+        "Two halves of a sheet cut slantwise, with a gap of 5: moved apart by 3 along the board and 4 across, they keep it.",
+        Job(10, 16, 1, [piece(1, [LOWER_HALF], classes=1), piece(1, [UPPER_HALF], classes=1)], [(0, 0, 5)]),
+    ),
     "turned-bar": (
         "A bar of length 3 on a board of length 1: only one quarter turn is allowed, and it fits.",
         Job(3, 1, 1, [piece(1, [rectangle(0, 0, 3, 1)], turns=2)]),
@@ -192,6 +203,9 @@ Each `NAME.job` is a job as the engine reads it, `NAME.out` is what the command 
 1,000,000, margin 0). `make.py` holds a readable description of each and writes the jobs and this table; the
 expected outputs come from the reference in `tests/`, which was written from documents 01 and 02 alone. A margin
 is no part of a job: the C example takes one behind the job's name.
+
+Gaps are those of a round cutter. Measured as a square, as document 01 had it, `round-gap` would be 9 long and
+`round-gap-slanting` 15; no other job here would have another output.
 
 `NAME.saved`, for five of them, is the job as the engine saves it: board, classes by rising id, types, trailer.
 `make.py` puts it together from the job's description alone. `classes-one-order` and `classes-other-order` are saved

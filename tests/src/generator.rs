@@ -1,8 +1,12 @@
 //! Random jobs, sound ones and spoilt ones, each with a margin.
 
+mod round_gap;
+
 use crate::draft::*;
 use crate::margins;
 use crate::noise::Noise;
+use crate::shapes::random_part;
+use round_gap::round_gap_draft;
 
 /// A job to try under a margin, and what it was made for.
 pub struct Made {
@@ -15,15 +19,16 @@ pub struct Made {
 }
 
 pub fn make(noise: &mut Noise) -> Made {
-    match noise.below(22) {
+    match noise.below(28) {
         0..=5 => sound(noise, small_draft, usual_margin),
         6 => sound(noise, narrow_draft, margin_past_a_side),
         7 => sound(noise, roomy_draft, usual_margin),
         8..=9 => sound(noise, crowded_draft, usual_margin),
         10 => sound(noise, large_draft, usual_margin),
-        11..=12 => sound(noise, common_cut_draft, usual_margin),
-        13..=17 => spoilt(noise),
-        18..=20 => spoilt_twice(noise),
+        11..=13 => sound(noise, common_cut_draft, usual_margin),
+        14..=18 => sound(noise, round_gap_draft, seldom_a_margin),
+        19..=23 => spoilt(noise),
+        24..=26 => spoilt_twice(noise),
         _ => hit_at_random(noise),
     }
 }
@@ -50,6 +55,15 @@ fn usual_margin(noise: &mut Noise, draft: &mut Draft) -> u64 {
         4..=5 => margins::for_sides(noise, draft.width, draft.length),
         _ => frame(noise, draft),
     }
+}
+
+/// A margin takes from the board the places that two pieces were to stand in, and leaves others like them only if there
+/// is room.
+fn seldom_a_margin(noise: &mut Noise, draft: &mut Draft) -> u64 {
+    if noise.one_in(4) {
+        return frame(noise, draft);
+    }
+    0
 }
 
 /// A margin above the shorter side, so that the far clamp would be below 0.
@@ -280,57 +294,6 @@ fn several_parts(noise: &mut Noise, size: i64) -> Vec<DraftPart> {
     let reach = if noise.one_in(3) { size.min(4) } else { 0 };
     let (left, down) = (noise.between(-reach, reach), noise.between(-reach, reach));
     (0..count).map(|_| random_part(noise, size, left, down)).collect()
-}
-
-/// A sound part that begins at any of its corners, moved off the origin.
-fn random_part(noise: &mut Noise, size: i64, left: i64, down: i64) -> DraftPart {
-    let mut corners = match noise.below(4) {
-        0 | 1 => rectangle(noise, size),
-        2 => hull_of(noise, size, 3),
-        _ => hull_of(noise, size, 8),
-    };
-    let first = noise.below(corners.len());
-    corners.rotate_left(first);
-    corners.iter().map(|&(x, y)| ((x + left) as i8, (y + down) as i8)).collect()
-}
-
-fn rectangle(noise: &mut Noise, size: i64) -> Vec<(i64, i64)> {
-    let (x, y) = (noise.between(0, size - 1), noise.between(0, size - 1));
-    let (right, up) = (noise.between(x + 1, size), noise.between(y + 1, size));
-    vec![(x, y), (right, y), (right, up), (x, up)]
-}
-
-/// The convex hull of some points, tried again until it has an inside.
-fn hull_of(noise: &mut Noise, size: i64, points: usize) -> Vec<(i64, i64)> {
-    loop {
-        let mut at: Vec<(i64, i64)> =
-            (0..points).map(|_| (noise.between(0, size), noise.between(0, size))).collect();
-        at.sort_unstable();
-        at.dedup();
-        let mut hull = chain(at.iter());
-        let upper = chain(at.iter().rev());
-        hull.pop();
-        hull.extend(&upper[..upper.len() - 1]);
-        if hull.len() >= 3 {
-            return hull;
-        }
-    }
-}
-
-/// One side of the hull, from the first point to the last, turning left all along.
-fn chain<'a>(points: impl Iterator<Item = &'a (i64, i64)>) -> Vec<(i64, i64)> {
-    let mut side: Vec<(i64, i64)> = Vec::new();
-    for &p in points {
-        while side.len() >= 2 && !turns_left(side[side.len() - 2], side[side.len() - 1], p) {
-            side.pop();
-        }
-        side.push(p);
-    }
-    side
-}
-
-fn turns_left(a: (i64, i64), b: (i64, i64), c: (i64, i64)) -> bool {
-    (b.0 - a.0) * (c.1 - a.1) - (b.1 - a.1) * (c.0 - a.0) > 0
 }
 
 // Spoilt jobs: one cause, aimed at one refusal; or two of them, of which the earlier one counts.

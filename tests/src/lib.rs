@@ -8,4 +8,5 @@ pub mod generator;
 pub mod margins;
 pub mod noise;
 pub mod reference;
+pub mod shapes;
 pub mod small_boards;

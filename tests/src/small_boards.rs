@@ -1,6 +1,9 @@
-//! The section "Small boards" of document 01, marked and unmarked, with what it says of each; and small boards that
-//! are refused, under a margin, of common cut and saved, with what documents 01 and 02 make of them, worked out by hand
-//! (but for the bytes of the largest content, which the encoder of the drafts puts together).
+//! The section "Small boards" of document 01, marked and unmarked, with what it says of each, or document 02 after it;
+//! and small boards that are refused, under a margin, of common cut, of the round gap and saved, with what documents 01
+//! and 02 make of them, worked out by hand (but for the bytes of the largest content, which the encoder of the drafts
+//! puts together).
+
+mod round_gap;
 
 use crate::draft::{encode, Arrangement, Draft};
 
@@ -92,6 +95,7 @@ pub fn small_boards() -> Vec<SmallBoard> {
     boards.extend(boards_with_a_shared_cut());
     boards.extend(boards_without_a_shared_cut());
     boards.extend(boards_of_gap_bytes());
+    boards.extend(round_gap::boards_of_the_round_gap());
     boards.extend(boards_saved());
     boards
 }
@@ -123,8 +127,8 @@ fn boards_of_the_paper() -> Vec<SmallBoard> {
             squares(4, 6),
             vec![conflict((0, 0), (2, 0), false), conflict((0, 0), (1, 0), true)],
         ),
-        board("squares at gap 4", squares_with_gap(10, 10, 4), vec![conflict((0, 0), (5, 6), false)]),
-        board("squares at gap 5", squares_with_gap(10, 10, 5), vec![conflict((0, 0), (5, 6), true)]),
+        board("squares at gap 5", squares_with_gap(10, 10, 5), vec![conflict((0, 0), (5, 6), false)]),
+        board("squares at gap 6", squares_with_gap(10, 10, 6), vec![conflict((0, 0), (5, 6), true)]),
         board(
             "two triangles",
             Draft::new(2, 2, 1).with(1, 1, 0, &[LOWER]).with(1, 1, 0, &[UPPER]),

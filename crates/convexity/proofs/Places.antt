@@ -2,7 +2,7 @@
 -- of them. Assumes nothing.
 use mathlib.Core.Path.{_≡_, refl, sym, _∙_, ap, subst}
 use mathlib.Core.Bool.{Bool, true, false, cond, _||_}
-use mathlib.Core.List.{List, [], _∷_, _++_, map}
+use mathlib.Core.List.{List, [], _∷_, map}
 use mathlib.Core.Logic.{_⊎_, inl, inr, ⊎-elim}
 use Prim.Native.Nat.{ℕ, zero, suc, _+_, _≤_, _<_}
 use native.Mathlib.Nat.{zero-mul}
@@ -11,19 +11,19 @@ use borrow.Author.Tests.{eqb-true, eqb-false, eq-eqb, ne-eqb}
 use lib.Dec.{eqb}
 use lib.IntN.{ℤ, pos, natAbs, _+ℤ_, _-ℤ_, +ℤ-idr}
 use lib.ListN.{length, getD, length-map}
-use lib.Signed.{leZ, ltZ, _≤ℤ_, _<ℤ_, ≤ℤ-refl}
+use lib.Signed.{leZ, _≤ℤ_, _<ℤ_, ≤ℤ-refl}
 use Rattle.integers.proofs.Solver.{_⊞_, _⊟_, _≲_}
 use Rattle.integers.proofs.Certificates.{order, _⊢_by_, hyp, num, _⊕_}
-use Rattle.integers.proofs.Order.{<ℤ-≤ℤ, leZ-true, ltZ-true, le-leZ, lt-ltZ}
+use Rattle.integers.proofs.Order.{<ℤ-≤ℤ, leZ-true, ltZ-true, le-leZ}
 use Rattle.model.specs.Content.{Vertex, Part, origin}
 use Rattle.model.specs.Geometry.{vertexAt, following, cross, strictlyLeft, edgeSound, sound, Direction, direction, outwardNormal, normals, negated, directions, along, separates, disjoint}
 use Rattle.model.specs.Lists.{any, below, largestZ, smallestZ}
-use Rattle.model.proofs.Lists.{all-below, below-all}
+use Rattle.model.proofs.Lists.{all-below}
 use Rattle.model.proofs.Extremes.{largest-test, smallest-test}
 use Rattle.convexity.specs.Square.{clearance, separatesBy}
-use Rattle.convexity.proofs.Members.{In, here, there, not-in, in-left, in-right, in-either, all-in, in-all, any-in, in-any, in-map, map-in, in-at, at-in, in-below, below-in}
+use Rattle.convexity.proofs.Members.{In, here, there, not-in, in-left, in-right, all-in, in-all, in-any, in-map, map-in, in-at, at-in, in-below, below-in}
 use Rattle.convexity.proofs.HalfPlanes.{O}
-use Rattle.convexity.proofs.Edges.{Edge, chain, edges, area, areaE, Good, Inside, Common}
+use Rattle.convexity.proofs.Edges.{Edge, chain, edges, area, areaE, Good}
 use Rattle.convexity.proofs.Separation.{Sep, nx, ny, ByEdge}
 
 -- ---- the edge at a place
@@ -164,23 +164,8 @@ zero-gap P Q d =
 -- ---- separated by an edge
 
 module _ (P Q : Part) (someP : 0 < length P) (someQ : 0 < length Q) where
-  touching : (d : Direction) → separates P Q d ≡ true → Sep (pos 0) (d .a) (d .b) P Q
-  touching d s = separates-corners 0 P Q someP someQ d (zero-gap P Q d ∙ s)
-
   separating : (d : Direction) → Sep (pos 0) (d .a) (d .b) P Q → separates P Q d ≡ true
   separating d f = sym (zero-gap P Q d) ∙ corners-separate 0 P Q someP someQ d f
-
-  pub separated-edge : disjoint P Q ≡ true → ByEdge P Q
-  unfolding disjoint directions negated
-  separated-edge h = go (any-in (separates P Q) (directions P Q) h)
-    where
-      go : (d : Direction) × In d (normals P ++ map negated (normals Q)) × (separates P Q d ≡ true) → ByEdge P Q
-      go (d, i, s) =
-          ⊎-elim (λ j. let r = normals-in P d j in inl (r .0, r .1, touching (normalOf (r .0)) (subst (λ (d : Direction). separates P Q d ≡ true) (sym (r .2)) s)))
-          (λ j. let m = map-in negated (normals Q) d j in
-          let r = normals-in Q (m .0) (m .1) in
-          inr (r .0, r .1, touching (negated (normalOf (r .0))) (subst (λ (d : Direction). separates P Q d ≡ true) (sym (ap negated (r .2) ∙ m .2)) s)))
-          (in-either (normals P) (map negated (normals Q)) i)
 
   pub edge-separated : ByEdge P Q → disjoint P Q ≡ true
   unfolding disjoint directions negated

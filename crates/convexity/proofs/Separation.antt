@@ -1,7 +1,7 @@
 -- Separation by a direction, corner by corner: at gap 0 an edge's normal separates, or a point lies inside both; and such a point excludes every direction.
 -- Assumes nothing.
 use mathlib.Core.List.{List, [], _∷_}
-use mathlib.Core.Logic.{_⊎_, inl, inr, ⊎-elim, _↔_}
+use mathlib.Core.Logic.{_⊎_, inl, inr, ⊎-elim}
 use lib.IntN.{ℤ, pos, negℤ, _+ℤ_, _-ℤ_, _*ℤ_}
 use lib.Signed.{_≤ℤ_, _<ℤ_, ≤ℤ-refl}
 use Rattle.integers.specs.Absolute.{absZ}
@@ -161,15 +161,8 @@ out-nz ps g e i = normal-nz e (g .some e i .0) (g .some e i .2)
 pub into-nz : (ps : Part) → Good ps → (e : Edge) → In e (edges ps) → pos 0 <ℤ (negℤ (nx e) *ℤ negℤ (nx e) +ℤ negℤ (ny e) *ℤ negℤ (ny e))
 into-nz ps g e i = neg-nz (nx e) (ny e) (out-nz ps g e i)
 
--- ---- the two theorems at gap 0
+-- ---- the theorem at gap 0
 
 -- If some direction separates, an edge's normal does.
 pub some-edge : (ps qs : Part) → Good ps → Good qs → (a b : ℤ) → pos 0 <ℤ (a *ℤ a +ℤ b *ℤ b) → Sep (pos 0) a b ps qs → ByEdge ps qs
 some-edge ps qs g h a b n s = ⊎-elim (λ e. e) (λ c. absurd (excludes ps qs g h c a b n s)) (decide ps qs g h)
-
--- No edge's normal separates exactly if a point lies strictly inside both.
-pub conflict-inside : (ps qs : Part) → Good ps → Good qs → (ByEdge ps qs → ⊥) ↔ Common ps qs
-conflict-inside ps qs g h = (
-  (λ n. ⊎-elim (λ e. absurd (n e)) (λ c. c) (decide ps qs g h)),
-  (λ c. ⊎-elim (λ (e, i, s). excludes ps qs g h c (nx e) (ny e) (out-nz ps g e i) s) (λ (e, i, s). excludes ps qs g h c (negℤ (nx e)) (negℤ (ny e)) (into-nz qs h e i) s)),
-)

@@ -2,22 +2,20 @@
 use mathlib.Core.Path.{_≡_, refl, _∙_, ap}
 use mathlib.Core.Bool.{_||_}
 use mathlib.Core.List.{List, [], _∷_, map}
-use Prim.Native.Nat.{ℕ, zero, suc, _*_, _<_}
+use Prim.Native.Nat.{ℕ, zero, suc, _<_}
 use native.Mathlib.Omega.{arith}
 use lib.Dec.{eqb}
 use lib.IntN.{ℤ, pos}
 use lib.ListN.{length, getD, length-map}
 use lib.Signed.{ltZ}
 use Rattle.integers.proofs.Solver.{ring, _⊞_, _⊟_, _⊠_, ⊖_, _≈_}
-use Rattle.model.specs.Candidate.{placedPart}
-use Rattle.model.specs.Content.{Vertex, Part, Board, kindAt, kindCount}
+use Rattle.model.specs.Content.{Vertex, Part, kindAt, kindCount}
 use Rattle.model.specs.Format.{refusal, content}
-use Rattle.model.specs.Geometry.{quarterTurn, rotated, moved, shifted, vertexAt, following, cross, strictlyLeft, edgeSound, sound}
-use Rattle.model.specs.Grid.{Placement}
+use Rattle.model.specs.Geometry.{quarterTurn, rotated, shifted, vertexAt, following, cross, strictlyLeft, edgeSound, sound}
 use Rattle.model.specs.Lists.{all, below}
 use Rattle.model.proofs.AcceptedKinds.{kind-ranges, parts-sound}
 use Rattle.model.proofs.Folds.{all-same}
-use Rattle.model.proofs.Moves.{Vertexed, vertexAt-map, following-map, next-map, placed-moved}
+use Rattle.model.proofs.Moves.{Vertexed, vertexAt-map, following-map, next-map}
 use Rattle.convexity.specs.Parts.{SoundPart, SoundParts}
 
 -- ---- soundness: what keeps the turn of every three corners keeps it
@@ -64,11 +62,6 @@ shifted-sound a b P = mapped (shifted a b) (cross-shifted a b) P
 
 pub rotated-sound : (k : ℕ) (P : Part) → SoundPart P → SoundPart (map (rotated k) P)
 rotated-sound k P = mapped (rotated k) (cross-rotated k) P
-
--- A placed part is sound where the part is.
-pub placed-sound : (b : Board) (p : Placement) (P : Part) → SoundPart P → SoundPart (placedPart b p P)
-unfolding moved
-placed-sound b p P h = rw (placed-moved b p P) (shifted-sound (pos (p .column * b .g)) (pos (p .row * b .g)) (map (rotated (p .rotation)) P) (rotated-sound (p .rotation) P h))
 
 -- Every part of an accepted job is sound.
 pub accepted-sound : (s : List ℕ) → refusal s ≡ 0 → (t i : ℕ) → t < kindCount (content s .kinds) → i < length (kindAt (content s .kinds) t .parts)

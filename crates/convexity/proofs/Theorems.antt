@@ -10,7 +10,7 @@ use lib.IntN.{ℤ, pos, _+ℤ_, _*ℤ_}
 use lib.ListN.{length}
 use lib.Signed.{_≤ℤ_, _<ℤ_}
 use Rattle.model.specs.Content.{Vertex, Part}
-use Rattle.model.specs.Geometry.{Direction, direction, directions, separates, disjoint, nearEdge, cornersClear, separated}
+use Rattle.model.specs.Geometry.{Direction, direction, separates, disjoint, nearEdge, cornersClear, separated}
 use Rattle.model.specs.Lists.{any}
 use Rattle.model.proofs.Lists.{not-both}
 use Rattle.convexity.specs.Parts.{SoundPart}

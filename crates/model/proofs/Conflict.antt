@@ -1,6 +1,6 @@
 -- Conflict is symmetric: of parts, of pieces and of the entries of a layout. Assumes nothing.
 use mathlib.Core.Bool.{not, _&&_, _||_, or-comm, and-comm, and-assoc}
-use mathlib.Core.List.{List, [], _∷_, _++_, map, List·Permᴰ}
+use mathlib.Core.List.{List, [], _∷_, map, List·Permᴰ}
 use mathlib.Core.Path.{_≡_, refl, sym, ap, _∙_}
 use Prim.Native.Nat.{ℕ}
 use lib.IntN.{ℤ, negℤ}

@@ -1,7 +1,7 @@
 -- Moving parts: by a signed amount (`shifted`), by the model's `moved`, and as a placement moves them. Moving both parts by the same amount
 -- changes nothing; what counts is how far one is moved against the other. Each part has a vertex: of none the largest is 0 wherever it is moved.
 -- Assumes nothing.
-use mathlib.Core.Bool.{Bool, true, false, not, cond, _&&_, _||_}
+use mathlib.Core.Bool.{Bool, true, false, not, cond, _||_}
 use mathlib.Core.List.{List, [], _∷_, map, map-map}
 use mathlib.Core.Path.{_≡_, refl, sym, ap, ap₂, _∙_}
 use Prim.Native.Nat.{ℕ, zero, suc, _+_, _*_, _<_}

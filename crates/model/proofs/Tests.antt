@@ -1,6 +1,6 @@
 -- Laws of a test that some element of a list passes, or that all do: over an appended list, a mapped list, lists put together, a list in another order, two
 -- lists. Assumes nothing.
-use mathlib.Core.Bool.{Bool, true, false, _&&_, _||_, or-assoc, or-comm}
+use mathlib.Core.Bool.{Bool, true, false, _&&_, _||_, or-assoc}
 use mathlib.Core.List.{List, [], _∷_, _++_, map, List·Permᴰ, List·Permᴰ·nil, List·Permᴰ·cons, List·Permᴰ·swap, List·Permᴰ·trans}
 use mathlib.Core.Path.{_≡_, refl, sym, ap, _∙_}
 use Rattle.model.specs.Lists.{all, any, concat}
@@ -17,10 +17,6 @@ module _ {A : Type 0} where
   unfolding any
   any-append p [] ys = refl
   any-append p (x ∷ xs) ys = ap (λ t. p x || t) (any-append p xs ys) ∙ sym (or-assoc (p x) (any p xs) (any p ys))
-
-  -- which of the two comes first changes nothing
-  pub any-swap : (p : A → Bool) (xs ys : List A) → any p (xs ++ ys) ≡ any p (ys ++ xs)
-  any-swap p xs ys = any-append p xs ys ∙ or-comm (any p xs) (any p ys) ∙ sym (any-append p ys xs)
 
   -- the same elements in another order give the same answer
   pub any-reordered : (p : A → Bool) {xs ys : List A} → List·Permᴰ xs ys → any p xs ≡ any p ys

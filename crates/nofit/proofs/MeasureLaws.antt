@@ -9,7 +9,7 @@ use native.Mathlib.Omega.{arith}
 use borrow.Author.Count.{below-more}
 use lib.Dec.{T, lit≤, lit<}
 use lib.IntN.{ℤ, pos, negsuc, natAbs, _+ℤ_, _-ℤ_}
-use lib.ListN.{getD, length-map}
+use lib.ListN.{getD}
 use lib.Signed.{leZ, ltZ, nonNeg, _≤ℤ_, ≤ℤ-refl}
 use mir.Syntax.{w16, w64}
 use mir.Val.{Fits, SFits, toZ, ofZ}
@@ -21,7 +21,7 @@ use Rattle.integers.proofs.Machine.{cast-gives, op-fits, op-gives}
 use Rattle.integers.proofs.Order.{≤ℤ-trans, <ℤ-≤ℤ, ltZ-true, le-leZ, pos-≤ℤ}
 use Rattle.integers.proofs.Sizes.{bounded}
 use Rattle.words.specs.Bits.{testBit}
-use Rattle.model.specs.Content.{Part, kindAt, kindCount}
+use Rattle.model.specs.Content.{kindAt, kindCount}
 use Rattle.model.specs.Format.{content}
 use Rattle.model.specs.Gap.{pairGap}
 use Rattle.model.specs.Geometry.{rotated}

@@ -1,17 +1,18 @@
 //! Turned pieces and the pair test. Each part keeps the directions of its edges and how far it reaches
-//! along each, so that a pair test only has to look at the other part's corners.
+//! along each, so that whether two overlap is a question to the other part's corners alone.
 
+use crate::distance::too_near;
 use crate::job::{Job, Part};
 use crate::mutant;
 
 #[derive(Clone, Copy, Default)]
 pub struct Shape {
-    corners: usize,
-    x: [i32; 8],
-    y: [i32; 8],
+    pub corners: usize,
+    pub x: [i32; 8],
+    pub y: [i32; 8],
     /// Outward normals and the largest product over the part's own corners.
-    nx: [i32; 8],
-    ny: [i32; 8],
+    pub nx: [i32; 8],
+    pub ny: [i32; 8],
     far: [i32; 8],
     pub box_x: (i32, i32),
     pub box_y: (i32, i32),
@@ -28,7 +29,7 @@ impl Shape {
     }
 
     /// All that a pair test asks for, from corners that are turned already.
-    fn of_corners(n: usize, x: [i32; 8], y: [i32; 8]) -> Shape {
+    pub fn of_corners(n: usize, x: [i32; 8], y: [i32; 8]) -> Shape {
         let mut s = Shape { corners: n, x, y, ..Shape::default() };
         for i in 0..n {
             let j = (i + 1) % n;
@@ -46,14 +47,17 @@ impl Shape {
         s
     }
 
-    /// Some normal of this part, or an axis, separates it from `other` moved by (dx, dy).
-    #[inline]
-    fn apart_by_own(&self, other: &Shape, dx: i32, dy: i32, gap: i32) -> bool {
+    /// Some normal of this part separates it from `other` moved by (dx, dy), with so much to spare along it. In line it
+    /// was slower where pieces have many parts.
+    #[inline(never)]
+    fn apart_by_own(&self, other: &Shape, dx: i32, dy: i32, spare: impl Fn(i32, i32) -> i32) -> bool {
+        let corners = other.corners - usize::from(mutant::is("last_corner_not_asked"));
+        let more = more_than_touching();
         'normals: for i in 0..self.corners {
             let (a, b) = (self.nx[i], self.ny[i]);
-            let reach = self.far[i] + gap * (a.abs() + b.abs()) - a * dx - b * dy;
-            for k in 0..other.corners - usize::from(mutant::is("last_corner_not_asked")) {
-                if !at_most(reach, a * other.x[k] + b * other.y[k]) {
+            let reach = self.far[i] + spare(a, b) + more - a * dx - b * dy;
+            for k in 0..corners {
+                if reach > a * other.x[k] + b * other.y[k] {
                     continue 'normals;
                 }
             }
@@ -62,46 +66,39 @@ impl Shape {
         false
     }
 
+    /// Some normal of either part separates them. The mistakes: those of one part are not tried.
     #[inline]
-    fn boxes_apart(&self, other: &Shape, dx: i32, dy: i32, gap: i32) -> bool {
-        at_most(self.box_x.1 + gap, other.box_x.0 + dx)
-            || at_most(other.box_x.1 + dx + gap, self.box_x.0)
-            || at_most(self.box_y.1 + gap, other.box_y.0 + dy)
-            || at_most(other.box_y.1 + dy + gap, self.box_y.0)
+    pub fn apart_by_normals(&self, other: &Shape, dx: i32, dy: i32, spare: impl Fn(i32, i32) -> i32) -> bool {
+        !mutant::is("normals_of_the_second_only") && self.apart_by_own(other, dx, dy, &spare)
+            || !mutant::is("normals_of_the_first_only") && other.apart_by_own(self, -dx, -dy, &spare)
     }
 
-    /// For a mistake: the first corner is turned once more than the others are.
-    fn with_a_corner_turned_again(&self) -> Shape {
-        let (mut x, mut y) = (self.x, self.y);
-        (x[0], y[0]) = (-y[0], x[0]);
-        Shape::of_corners(self.corners, x, y)
+    #[inline]
+    pub fn boxes_apart(&self, other: &Shape, dx: i32, dy: i32, gap: i32) -> bool {
+        let gap = gap + more_than_touching();
+        self.box_x.1 + gap <= other.box_x.0 + dx
+            || other.box_x.1 + dx + gap <= self.box_x.0
+            || self.box_y.1 + gap <= other.box_y.0 + dy
+            || other.box_y.1 + dy + gap <= self.box_y.0
     }
 
-    /// For a mistake: the corners are turned, the box is the one from before the turn.
-    fn under_its_first_box(&self, turn: u8) -> Shape {
-        let mut s = *self;
-        // The quarters that are left of a whole turn bring the box back.
-        for _ in turn..4 {
-            (s.box_x, s.box_y) = ((-s.box_y.1, -s.box_y.0), s.box_x);
-        }
-        s
-    }
-
+    /// Boxes that are a gap apart along an axis spare the rest.
     #[inline]
     pub fn separated(&self, other: &Shape, dx: i32, dy: i32, gap: i32) -> bool {
-        (!mutant::is("no_axis_directions") && self.boxes_apart(other, dx, dy, gap))
-            || self.apart_by_own(other, dx, dy, gap)
-            || other.apart_by_own(self, -dx, -dy, gap)
+        self.boxes_apart(other, dx, dy, gap) || self.separated_closely(other, dx, dy, gap)
+    }
+
+    /// Out of line, so that the boxes stay quick.
+    #[inline(never)]
+    fn separated_closely(&self, other: &Shape, dx: i32, dy: i32, gap: i32) -> bool {
+        self.apart_by_normals(other, dx, dy, |_, _| 0) && (gap == 0 || !too_near(self, other, dx, dy, gap))
     }
 }
 
+/// What parts have to be apart at least. A mistake: those that touch are taken to overlap.
 #[inline]
-fn at_most(a: i32, b: i32) -> bool {
-    if mutant::is("touching_overlaps") {
-        a < b
-    } else {
-        a <= b
-    }
+fn more_than_touching() -> i32 {
+    i32::from(mutant::is("touching_overlaps"))
 }
 
 /// A type under one turn.
@@ -109,7 +106,7 @@ fn at_most(a: i32, b: i32) -> bool {
 pub struct Turned {
     pub allowed: bool,
     /// Only a mistake asks for it. A byte has room beside `allowed`, so that the table is as large as without it.
-    turn: u8,
+    pub turn: u8,
     pub shapes: Vec<Shape>,
     pub box_x: (i32, i32),
     pub box_y: (i32, i32),
@@ -127,24 +124,7 @@ pub fn turned(job: &Job, kind: usize, turn: usize) -> Turned {
     Turned { allowed: kind.turns >> turn & 1 == 1, turn: turn as u8, box_x, box_y, shapes }
 }
 
+/// Two pieces at their gap, the second moved by (dx, dy).
 pub fn in_conflict(one: &Turned, other: &Turned, dx: i32, dy: i32, gap: i32) -> bool {
-    if mutant::is("one_piece_per_dot") && dx == 0 && dy == 0 {
-        return true;
-    }
-    // The mistakes: the boxes that spare a pair test are of another turn, of other parts, or closer than the gap.
-    let spared = |p: &Shape, q: &Shape| {
-        mutant::is("box_of_another_turn") && p.boxes_apart(&q.under_its_first_box(other.turn), dx, dy, gap)
-            || mutant::is("box_of_the_first_part") && one.shapes[0].boxes_apart(&other.shapes[0], dx, dy, gap)
-            || mutant::is("boxes_without_the_gap") && p.boxes_apart(q, dx, dy, 0)
-    };
-    one.shapes.iter().any(|p| other.shapes.iter().any(|q| !spared(p, q) && !apart(p, q, dx, dy, gap)))
-}
-
-/// The pair test. A mistake: it is given a corner of the second part that was turned once more.
-#[inline]
-fn apart(p: &Shape, q: &Shape, dx: i32, dy: i32, gap: i32) -> bool {
-    if mutant::is("corner_turned_once_more") {
-        return p.separated(&q.with_a_corner_turned_again(), dx, dy, gap);
-    }
-    p.separated(q, dx, dy, gap)
+    one.shapes.iter().any(|p| other.shapes.iter().any(|q| !p.separated(q, dx, dy, gap)))
 }

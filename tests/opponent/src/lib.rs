@@ -3,8 +3,10 @@
 //! With the feature `mutants` it can be told to make one of a list of mistakes, which the comparison
 //! tests must catch.
 
+pub mod distance;
 pub mod geometry;
 pub mod job;
+mod mistaken;
 pub mod mutant;
 pub mod rows;
 pub mod save;

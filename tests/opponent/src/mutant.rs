@@ -6,7 +6,6 @@ pub const NAMES: &[&str] = &[
     "largest_gap",
     "last_gap",
     "smaller_pair_gap",
-    "no_axis_directions",
     "negated_turn",
     "edges_of_board_excluded",
     "one_piece_per_dot",
@@ -119,6 +118,46 @@ pub const NAMES: &[&str] = &[
     "read_mark_of_128",
     "read_raw_gap_byte",
     "read_room_of_three_a_class",
+    // The gap of a round cutter: what is measured, from which corners to which edges, and how it is compared.
+    "square_gap",
+    "row_with_square_gap",
+    "check_with_square_gap",
+    "run_with_square_gap",
+    "gap_along_the_normals",
+    "overlap_not_asked_at_a_gap",
+    "normals_of_the_first_only",
+    "normals_of_the_second_only",
+    "boxes_apart_in_sum",
+    "gap_of_the_first_parts",
+    "distance_of_boxes",
+    "distances_not_moved_along",
+    "distances_not_moved_across",
+    "corners_of_the_first_only",
+    "corners_of_the_second_only",
+    "corners_against_corners_only",
+    "closing_edge_forgotten",
+    "last_corner_not_measured",
+    "line_in_place_of_the_edge",
+    "edge_without_its_beginning",
+    "edge_without_its_end",
+    "ends_exchanged",
+    "ends_not_counted",
+    "near_at_the_gap_from_the_beginning",
+    "near_at_the_gap_from_the_end",
+    "near_at_the_gap_from_the_middle",
+    "gap_doubled",
+    "gap_one_less",
+    "gap_one_more",
+    "gap_not_squared",
+    "gap_not_squared_at_corners",
+    "gap_not_squared_at_edges",
+    "distance_not_squared_at_edges",
+    "edge_length_left_out",
+    "square_clearance_at_edges",
+    "sum_of_coordinates_at_corners",
+    "larger_coordinate_at_corners",
+    "squares_of_16_bits",
+    "squares_of_32_bits",
     // Saving: the order and content of what is written, the trailer, room and refusals, what is left behind.
     "save_classes_in_file_order",
     "save_classes_by_falling_id",
@@ -160,23 +199,38 @@ pub const NAMES: &[&str] = &[
     "row_untouched",
 ];
 
+/// Whether the mistake of this name is to be made.
 #[cfg(feature = "mutants")]
 pub fn is(name: &str) -> bool {
-    use std::sync::OnceLock;
-    static CHOSEN: OnceLock<String> = OnceLock::new();
-    CHOSEN.get_or_init(chosen) == name
+    chosen() == name
+}
+
+/// Whether none is to be made.
+#[cfg(feature = "mutants")]
+pub fn none() -> bool {
+    chosen().is_empty()
 }
 
 /// The name of the mistake to make, empty for none.
 #[cfg(feature = "mutants")]
-fn chosen() -> String {
-    let name = std::env::var("NEST_MUTANT").unwrap_or_default();
-    assert!(name.is_empty() || NAMES.contains(&name.as_str()), "no mutant is called {name}");
-    name
+fn chosen() -> &'static str {
+    use std::sync::OnceLock;
+    static CHOSEN: OnceLock<String> = OnceLock::new();
+    CHOSEN.get_or_init(|| {
+        let name = std::env::var("NEST_MUTANT").unwrap_or_default();
+        assert!(name.is_empty() || NAMES.contains(&name.as_str()), "no mutant is called {name}");
+        name
+    })
 }
 
 #[cfg(not(feature = "mutants"))]
 #[inline(always)]
 pub fn is(_name: &str) -> bool {
     false
+}
+
+#[cfg(not(feature = "mutants"))]
+#[inline(always)]
+pub fn none() -> bool {
+    true
 }

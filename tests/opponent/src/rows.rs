@@ -2,6 +2,7 @@
 
 use crate::geometry::{in_conflict, turned, Turned};
 use crate::job::Job;
+use crate::mistaken;
 use crate::mutant;
 
 /// A job under a margin.
@@ -12,6 +13,8 @@ pub struct Board<'a> {
     pub turned: Vec<[Turned; 4]>,
     /// By type, the set of candidates.
     pub candidates: Vec<Vec<u64>>,
+    /// The mistake by which gaps are measured as squares on this board.
+    pub square_gap: &'static str,
 }
 
 pub struct Place {
@@ -28,7 +31,8 @@ impl<'a> Board<'a> {
     pub fn new(job: &'a Job, margin: i32) -> Board<'a> {
         let turned: Vec<[Turned; 4]> =
             (0..job.kind_count).map(|k| [0, 1, 2, 3].map(|turn| turned(job, k, turn))).collect();
-        let mut board = Board { job, margin, turned, candidates: vec![vec![0; job.words()]; job.kind_count] };
+        let candidates = vec![vec![0; job.words()]; job.kind_count];
+        let mut board = Board { job, margin, turned, candidates, square_gap: "square_gap" };
         for kind in 0..job.kind_count {
             for turn in 0..4 {
                 board.fill_candidates(kind, turn);
@@ -143,7 +147,14 @@ impl<'a> Board<'a> {
         let dx = (b.column as i32 - a.column as i32) * self.job.step;
         let dy = (b.row as i32 - a.row as i32) * self.job.step;
         let (one, two) = (&self.turned[kind][a.turn], self.second(other, b.turn, a.turn));
-        in_conflict(one, two, dx, dy, gap)
+        self.in_conflict(one, two, dx, dy, gap)
+    }
+
+    fn in_conflict(&self, one: &Turned, two: &Turned, dx: i32, dy: i32, gap: i32) -> bool {
+        if mutant::none() {
+            return in_conflict(one, two, dx, dy, gap);
+        }
+        mistaken::in_conflict(one, two, dx, dy, gap, mutant::is(self.square_gap))
     }
 
     /// A pair test for each candidate of the other type. Gives the number of tests.
@@ -255,7 +266,7 @@ fn offset_table(board: &Board, kind: usize, turn: usize, other: usize, other_tur
         for rows in 1..2 * job.rows {
             let dx = (columns as i32 - job.columns as i32) * job.step;
             let dy = (rows as i32 - job.rows as i32) * job.step;
-            table[offset_at(job, columns, rows)] = in_conflict(one, two, dx, dy, gap);
+            table[offset_at(job, columns, rows)] = board.in_conflict(one, two, dx, dy, gap);
         }
     }
     table

@@ -16,15 +16,19 @@ pub struct Candidate {
     pub turn: usize,
     /// The largest x.
     pub end: i64,
-    parts: Vec<Part>,
+    pub parts: Vec<Part>,
     /// Its place in the table of remembered conflicts.
     place: usize,
 }
+
+/// Whether two pieces, each the list of its placed parts, are in conflict at a gap.
+pub type Measure = fn(&[Part], &[Part], i64) -> bool;
 
 /// A job under a margin.
 pub struct Board {
     pub job: Job,
     margin: i64,
+    measure: Measure,
     /// For each type, its candidates by rising number.
     pub candidates: Vec<Vec<Candidate>>,
     remembered: Remembered,
@@ -45,6 +49,11 @@ impl Board {
 
     /// Refused by 13 under a margin that is too large.
     pub fn new(job: Job, margin: u64) -> Result<Board, u8> {
+        Board::measured(job, margin, in_conflict)
+    }
+
+    /// A board on which gaps are measured in another way, to compare with.
+    pub fn measured(job: Job, margin: u64, measure: Measure) -> Result<Board, u8> {
         if margin > MOST_MARGIN {
             return Err(13);
         }
@@ -55,11 +64,16 @@ impl Board {
             candidate.place = places;
             places += 1;
         }
-        Ok(Board { job, margin, candidates, remembered: Remembered::new(places) })
+        Ok(Board { job, margin, measure, candidates, remembered: Remembered::new(places) })
     }
 
     pub fn at(&self, piece: Piece) -> &Candidate {
         &self.candidates[piece.kind][piece.index]
+    }
+
+    /// Of all types together.
+    pub fn candidate_count(&self) -> usize {
+        self.candidates.iter().map(Vec::len).sum()
     }
 
     /// The place in the type's list of its candidate of that number, if there is such a candidate.
@@ -70,7 +84,7 @@ impl Board {
     pub fn conflict(&self, one: Piece, other: Piece) -> bool {
         let (a, b) = (self.at(one), self.at(other));
         let gap = || self.job.pair_gap(one.kind, other.kind);
-        self.remembered.get(a.place, b.place, || in_conflict(&a.parts, &b.parts, gap()))
+        self.remembered.get(a.place, b.place, || (self.measure)(&a.parts, &b.parts, gap()))
     }
 
     /// The largest end plus the margin.

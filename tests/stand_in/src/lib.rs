@@ -136,11 +136,16 @@ fn margin_refused(others: &[(&str, bool, u8)]) -> u64 {
     refused(first.map_or(13, |&(_, _, number)| number))
 }
 
-/// The board under a margin. With the mistake named, its candidates are those of a sheet without clamps.
-fn clamped<'a>(job: &'a Job, margin: i32, mistake: &str) -> Board<'a> {
+/// The board under a margin. With the first mistake named, its candidates are those of a sheet without clamps; with the
+/// second, this service alone measures gaps as squares.
+fn clamped<'a>(job: &'a Job, margin: i32, mistakes: [&'static str; 2]) -> Board<'a> {
+    let [unclamped, square_gap] = mistakes;
     let mut board = Board::new(job, margin);
-    if mutant::is(mistake) {
+    if mutant::is(unclamped) {
         board.candidates = Board::new(job, 0).candidates;
+    }
+    if mutant::is(square_gap) {
+        board.square_gap = square_gap;
     }
     board
 }
@@ -189,14 +194,14 @@ fn write_row(job: &Job, margin: u64, kind: u64, number: u64, other: u64, row: &m
     if absent {
         return refused(12);
     }
-    let board = clamped(job, margin, "row_of_unclamped_candidate");
+    let board = clamped(job, margin, ["row_of_unclamped_candidate", "row_with_square_gap"]);
     if !board.is_candidate(kind as usize, number as usize) {
         return refused(12);
     }
     if short {
         return refused(9);
     }
-    let board = clamped(job, margin, "row_against_unclamped_candidates");
+    let board = clamped(job, margin, ["row_against_unclamped_candidates", "row_with_square_gap"]);
     let mut out: Vec<u64> =
         row.chunks_exact(8).take(words).map(|b| u64::from_le_bytes(b.try_into().expect("eight"))).collect();
     if !mutant::is("row_untouched") {
@@ -252,7 +257,7 @@ fn checked(job: &Job, margin: i32, layout: &[u8]) -> Option<i32> {
     if numbers.len() != 4 * job.pieces && !longer {
         return None;
     }
-    let board = clamped(job, margin, "check_unclamped");
+    let board = clamped(job, margin, ["check_unclamped", "check_with_square_gap"]);
     let (mut placed, mut length): (Vec<(usize, usize)>, i32) = (vec![], 0);
     for entry in numbers.chunks_exact(4).take(job.pieces) {
         let (kind, column, row, turn) = (entry[0], entry[1], entry[2], entry[3]);
@@ -321,7 +326,7 @@ fn run(job: &Job, margin: u64, budget: u32, work: &mut [u8], answer: &mut [u8]) 
     if answer_short {
         return refused(9);
     }
-    let board = clamped(job, margin, "run_unclamped");
+    let board = clamped(job, margin, ["run_unclamped", "run_with_square_gap"]);
     let mut rows = Rows::new(&board);
     let out = Walk::new(&board, &mut rows).run(budget.into());
     let none = !out.stopped && out.best.is_none();

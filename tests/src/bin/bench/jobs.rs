@@ -1,5 +1,6 @@
 //! Jobs to measure: from small to the largest that the format allows, heavy and long pieces, three series that
-//! grow one thing, and two of the jobs again under a margin.
+//! grow one thing, two of the jobs again under a margin, and jobs with gaps that take corners and edges of many parts
+//! to be measured.
 
 use nest_tests::draft::{encode, Arrangement, Draft};
 
@@ -35,17 +36,29 @@ fn clamped(margin: u8, rows: u16, columns: u16, types: usize, pieces: usize) -> 
     BenchJob { margin, ..grid(&format!("margin {margin}"), rows, columns, types, pieces) }
 }
 
-/// Pieces of six parts of eight corners, as many as fit into 1024 bytes.
-fn many_parts() -> BenchJob {
+/// Pieces of six parts of eight corners, as many as fit into 1024 bytes; all in one class, if there is any.
+fn many_parts(name: &str, classes: &[[u8; 3]]) -> BenchJob {
     let octagon = SHAPES[2];
     let moved: Vec<Vec<(i8, i8)>> =
         (0..6).map(|i| octagon.iter().map(|&(x, y)| (x + i % 3, y + i / 3)).collect()).collect();
     let parts: Vec<&[(i8, i8)]> = moved.iter().map(Vec::as_slice).collect();
-    let mut draft = Draft::new(31, 31, 1);
+    let mut draft = Draft::new(31, 31, 1).classes(classes);
     for kind in 0..8 {
-        draft = draft.with(if kind < 4 { 2 } else { 1 }, 15, 0, &parts);
+        draft = draft.with(if kind < 4 { 2 } else { 1 }, 15, classes.len() as u8, &parts);
     }
-    named("six parts, eight corners".into(), draft)
+    named(name.into(), draft)
+}
+
+/// Octagons, slanting strips and triangles with this gap, and the whole board with them so many times as large.
+fn gapped(gap: u8, scale: u8) -> BenchJob {
+    let larger = |at: i8| at * scale as i8;
+    let side = 31 * u16::from(scale);
+    let mut draft = Draft::new(side, side, scale.into()).classes(&[[0, 0, gap]]);
+    for shape in [SHAPES[2], SHAPES[3], SHAPES[1], SHAPES[2]] {
+        let shape: Vec<(i8, i8)> = shape.iter().map(|&(x, y)| (larger(x), larger(y))).collect();
+        draft = draft.with(2, 15, 1, &[&shape]);
+    }
+    named(format!("gap {gap}, step {scale}: 1024d 4t 8p"), draft)
 }
 
 /// Eight types in four turns on 1024 dots, each a third of the board long: far-reaching pieces.
@@ -67,7 +80,7 @@ pub fn bench_jobs() -> Vec<BenchJob> {
         grid("small", 8, 8, 2, 4),
         grid("middle", 16, 16, 4, 8),
         grid("largest", 32, 32, 8, 12),
-        many_parts(),
+        many_parts("six parts, eight corners", &[]),
         thirds(),
     ];
     // Eight rows: too few for the pieces to stand in one column, so that the walks are long.
@@ -76,5 +89,6 @@ pub fn bench_jobs() -> Vec<BenchJob> {
     jobs.extend([6, 8, 10, 12].map(|pieces| grid("pieces grow", 8, 48, 2, pieces)));
     // The middle and the largest again.
     jobs.extend([clamped(2, 16, 16, 4, 8), clamped(2, 32, 32, 8, 12)]);
+    jobs.extend([gapped(3, 1), gapped(20, 8), many_parts("gap 3: six parts of eight", &[[0, 0, 3]])]);
     jobs
 }

@@ -60,6 +60,12 @@ impl Case {
         Some(self.walked.get_or_init(|| walked_far(board)))
     }
 
+    /// Whether the walk takes other steps, or finds another layout, on another board.
+    pub fn walks_otherwise(&self, other: &Board) -> bool {
+        let there = walked_far(other);
+        self.walked().is_some_and(|here| (there.steps, &there.best) != (here.steps, &here.best))
+    }
+
     /// The best layout of that walk.
     pub fn best(&self) -> Option<&[Piece]> {
         self.walked()?.best.as_deref()
@@ -71,14 +77,13 @@ fn clamped(reading: &Reading, margin: u64) -> Clamped {
 }
 
 /// The walk to its end, where it is short enough.
-pub fn walked_far(board: &Board) -> Walked {
+fn walked_far(board: &Board) -> Walked {
     walk(board, step_limit(board))
 }
 
 /// On boards with many candidates a step of the plain walk is slow.
 fn step_limit(board: &Board) -> u64 {
-    let candidates: usize = board.candidates.iter().map(Vec::len).sum();
-    match candidates {
+    match board.candidate_count() {
         0..=1500 => STEPS_AT_MOST,
         _ => 30,
     }

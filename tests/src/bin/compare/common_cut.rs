@@ -3,7 +3,7 @@
 use nest_tests::reference::board::Board;
 use nest_tests::reference::reader::Job;
 
-use crate::case::{walked_far, Case};
+use crate::case::Case;
 use crate::report::Report;
 
 const COPIES: &str = "types of several copies in a marked class";
@@ -47,7 +47,7 @@ fn what_pair(job: &Job, one: usize, other: usize) -> Option<&'static str> {
     }
 }
 
-/// Whether the walk takes other steps, or finds another layout, where no class is marked.
+/// Whether the walk is another one where no class is marked.
 fn nests_otherwise(case: &Case, board: &Board) -> bool {
     let mut unmarked = board.job.clone();
     unmarked.classes.iter_mut().for_each(|c| c.marked = false);
@@ -56,7 +56,5 @@ fn nests_otherwise(case: &Case, board: &Board) -> bool {
     if kinds.clone().all(|one| kinds.clone().all(|other| same_gap(one, other))) {
         return false;
     }
-    let (Ok(other), Some(walked)) = (Board::new(unmarked, case.margin), case.walked()) else { return false };
-    let other_walked = walked_far(&other);
-    (other_walked.steps, &other_walked.best) != (walked.steps, &walked.best)
+    Board::new(unmarked, case.margin).is_ok_and(|other| case.walks_otherwise(&other))
 }

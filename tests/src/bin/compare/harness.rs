@@ -12,6 +12,7 @@ use crate::case::{Case, Twin};
 use crate::lent::{awkward_lengths, Lent};
 use crate::nest;
 use crate::report::{hexadecimal, Report};
+use crate::round_gap;
 
 /// Boards with at most this many layouts are also searched exhaustively.
 const LAYOUTS_AT_MOST: u64 = 4000;
@@ -136,12 +137,19 @@ impl Harness<'_> {
             return self.row(case, kind, number, other, length);
         };
         let needed = 8 * board.job.words();
-        for _ in 0..3 {
+        // Where candidates are few a row takes little time, and is the sooner one of those that a job was made for.
+        let rows = if board.candidate_count() <= 100 { 6 } else { 3 };
+        for _ in 0..rows {
             let Some((kind, number, other)) = self.good_row(board) else { break };
             let short = awkward_lengths(needed, 8);
             self.row(case, kind, number, other, needed);
             let length = self.noise.pick(&short);
             self.row(case, kind, number, other, length);
+            // And the other way round, from the nearest that is free.
+            if let Some(nearest) = round_gap::count_row(board, kind, number, other, self.report) {
+                self.row(case, other, nearest, kind, needed);
+                round_gap::count_row(board, other, nearest, kind, self.report);
+            }
         }
         for _ in 0..4 {
             let (kind, number, other) = self.bad_row(board);

@@ -12,6 +12,7 @@ mod margins;
 mod nest;
 mod paper;
 mod report;
+mod round_gap;
 mod saving;
 
 use std::process::exit;
@@ -23,8 +24,8 @@ use nest_tests::noise::Noise;
 use report::Report;
 
 const DEFAULT_COUNT: u64 = 4000;
-/// From the default count on, each refusal and each thing counted of common cut and of saving must have been seen this
-/// often.
+/// From the default count on, each refusal and each thing counted of common cut, of the round gap and of saving must
+/// have been seen this often.
 const SEEN_AT_LEAST: u64 = 100;
 
 fn main() {
@@ -56,7 +57,7 @@ fn main() {
 fn rarely_seen(report: &Report) -> Vec<String> {
     let refusals = (1..=13).filter(|&n| report.seen(n) < SEEN_AT_LEAST).map(|n| format!("refusal {n}"));
     let of_save = (1..=7).chain([9]).filter(|&n| report.seen_of("save", n) < SEEN_AT_LEAST);
-    let counted = common_cut::COUNTED.into_iter().chain(saving::counted_things());
+    let counted = common_cut::COUNTED.into_iter().chain(round_gap::COUNTED).chain(saving::counted_things());
     let things = counted.filter(|what| report.noted(what) < SEEN_AT_LEAST).map(str::to_string);
     refusals.chain(of_save.map(|n| format!("refusal {n} of save"))).chain(things).collect()
 }
@@ -92,6 +93,7 @@ fn random_case(seed: u64, report: &mut Report) {
         report.mismatch(&what, &case.bytes, case.margin);
     }
     common_cut::count(&case, report);
+    round_gap::count_job(&case, report);
     saving::count(&case, report);
     Harness { noise: &mut noise, report }.every_service(&case);
 }

@@ -1,15 +1,14 @@
 -- `geometry::along::highest` meets its contract: the most along a direction is the opposite of the least along the opposite one. Assumes nothing.
 use mathlib.Core.List.{map}
-use mathlib.Core.Path.{_≡_, refl, sym, _∙_, ap}
-use Prim.Native.Nat.{_≤_}
+use mathlib.Core.Path.{_≡_, refl}
 use denote.Ref.{now}
-use lib.IntN.{ℤ, pos, negℤ, natAbs, _-ℤ_, negℤ-negℤ}
-use mir.Syntax.{w32, w64}
+use lib.IntN.{pos, _-ℤ_}
+use mir.Syntax.{w32}
 use mir.Val.{toZ, ofZ}
 use mir.ValLaws.{toZ-ofZ}
 use Rattle.integers.proofs.Machine.{op-fits, op-gives}
-use Rattle.model.specs.Geometry.{along, direction, negated}
-use Rattle.model.specs.Lists.{largestZ, smallestZ}
+use Rattle.model.specs.Geometry.{along, direction}
+use Rattle.model.specs.Lists.{smallestZ}
 use Rattle.polygons.specs.Flat.{partOf}
 use Rattle.geometry.specs.Clears.{Small}
 use Rattle.geometry.proofs.DistanceLaws.{opposite-32}

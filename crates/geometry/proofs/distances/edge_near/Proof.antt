@@ -6,7 +6,7 @@ use native.Mathlib.Omega.{arith}
 use borrow.Author.Needs.{sfits-of}
 use denote.Ref.{now}
 use lib.Dec.{lit≤}
-use lib.IntN.{natAbs, _-ℤ_}
+use lib.IntN.{_-ℤ_}
 use mir.Syntax.{w16}
 use mir.Val.{SFits, toZ, ofZ}
 use mir.ValLaws.{toZ-ofZ}

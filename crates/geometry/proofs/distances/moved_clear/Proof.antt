@@ -1,10 +1,9 @@
 -- `geometry::distances::moved_clear` meets its contract: no sum wraps, and the test is of the moved corner. Assumes nothing.
 use mathlib.Core.Path.{_≡_, _∙_}
-use Prim.Native.Nat.{_≤_}
 use native.Mathlib.Omega.{arith}
 use borrow.Author.Needs.{sfits-of}
 use denote.Ref.{now}
-use lib.IntN.{natAbs, _+ℤ_}
+use lib.IntN.{_+ℤ_}
 use mir.Syntax.{w16}
 use mir.Val.{SFits, toZ, ofZ}
 use mir.ValLaws.{toZ-ofZ}

@@ -4,13 +4,13 @@ use lib.IntN.{ℤ, pos, _+ℤ_, _-ℤ_, _*ℤ_}
 use lib.Signed.{leZ, ltZ}
 use borrow.Author.Needs.{sfits-of}
 use mir.Syntax.{w16, w64}
-use mir.Val.{SFits, toZ, ofZ}
+use mir.Val.{toZ, ofZ}
 use mir.ValLaws.{toZ-ofZ}
 use Rattle.integers.proofs.Machine.{op-fits, op-gives}
 use Rattle.model.specs.Content.{vertex, origin}
 use Rattle.model.specs.Geometry.{nearEdge}
 use Rattle.geometry.specs.Clears.{Small}
-use Rattle.geometry.proofs.DistanceLaws.{square-fits, limit-fits, aside-fits, nearBy, near-before, near-beyond, near-beside, near-is}
+use Rattle.geometry.proofs.DistanceLaws.{limit-fits, aside-fits, nearBy, near-before, near-beyond, near-beside, near-is}
 use Rattle.geometry.proofs.Sizes.{small-as, small-fits, small-read, small-more, small-sum, small-difference}
 use Rattle.geometry.proofs.distances.near_edge.Statement.{statement}
 use Rattle.geometry.proofs.distances.near_edge.Tie as tie

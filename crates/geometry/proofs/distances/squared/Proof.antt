@@ -1,5 +1,4 @@
 -- `geometry::distances::squared` meets its contract. Assumes nothing.
-use mathlib.Core.Path.{_∙_}
 use lib.IntN.{_*ℤ_}
 use borrow.Author.Needs.{needs}
 use Rattle.integers.proofs.Machine.{op-fits, op-gives}

@@ -1,15 +1,15 @@
 -- `geometry::pairs::clear_along` meets its contract: what the direction keeps apart is clear, and so are the corners that are spared; the others' distances decide. Assumes nothing.
 use mathlib.Core.List.{map}
-use mathlib.Core.Path.{_≡_, refl, sym, _∙_, ap, ap₂, subst}
-use Prim.Native.Nat.{_≤_, _<_}
+use mathlib.Core.Path.{_≡_, refl, sym, _∙_, ap₂}
+use Prim.Native.Nat.{_<_}
 use native.Mathlib.Omega.{arith}
 use borrow.Author.Tests.{not-true, not-false}
 use denote.Ref.{now}
-use lib.IntN.{ℤ, pos, natAbs, _+ℤ_, _-ℤ_}
+use lib.IntN.{ℤ, pos, _+ℤ_, _-ℤ_}
 use lib.ListN.{length}
 use lib.Signed.{leZ}
 use mir.Syntax.{w16, w32, w64}
-use mir.Val.{SFits, toZ, ofZ}
+use mir.Val.{toZ, ofZ}
 use mir.ValLaws.{toZ-ofZ}
 use Rattle.integers.proofs.Machine.{read₂, op-fits, op-gives}
 use Rattle.model.specs.Content.{vertex, Part}
@@ -19,10 +19,9 @@ use Rattle.convexity.specs.Square.{clearance}
 use Rattle.polygons.specs.Flat.{partOf, shifted}
 use Rattle.polygons.proofs.Flat.{part-length}
 use Rattle.geometry.specs.Clears.{Small}
-use Rattle.geometry.specs.Compact.{Spared}
 use Rattle.geometry.proofs.DistanceLaws.{opposite-size, opposite-fits, opposite-32}
 use Rattle.geometry.proofs.PairLaws.{kept-clear, spared-first, spared-second, both-second, both-first, clear-back}
-use Rattle.geometry.proofs.Sizes.{small-as, small-more, small-sum, small-difference, small-fits, small-read, more-fits}
+use Rattle.geometry.proofs.Sizes.{small-as, small-more, small-sum, small-difference, small-fits, small-read}
 use Rattle.geometry.proofs.pairs.clear_along.Statement.{statement}
 use Rattle.geometry.proofs.pairs.clear_along.Tie as tie
 
