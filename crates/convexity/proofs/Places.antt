@@ -31,11 +31,11 @@ use Rattle.convexity.proofs.Separation.{Sep, nx, ny, ByEdge}
 abbrev pub edgeAt : Part → ℕ → Edge
 edgeAt P i = record { s = vertexAt P i; t = vertexAt P (following P i) }
 
-following-step : (P : Part) (i : ℕ) → suc i < length P → following P i ≡ suc i
+pub following-step : (P : Part) (i : ℕ) → suc i < length P → following P i ≡ suc i
 unfolding following
 following-step P i h = rw (ne-eqb (suc i) (length P) (omega arith))
 
-following-last : (P : Part) (i : ℕ) → suc i ≡ length P → following P i ≡ 0
+pub following-last : (P : Part) (i : ℕ) → suc i ≡ length P → following P i ≡ 0
 unfolding following
 following-last P i h = rw (eq-eqb (suc i) (length P) h)
 

@@ -7,7 +7,7 @@ use lib.ListN.{length}
 use Rattle.model.specs.Content.{Part}
 use Rattle.model.specs.Geometry.{sound}
 
--- A part of an accepted job: sound, with "3 to 8" corners. (The model's `sound` asks nothing of fewer than three; no theorem needs the eight.)
+-- What the theorems ask of a part, and every part of an accepted job has: it is sound, with at least three corners. (The model's `sound` asks nothing of fewer.)
 pub record SoundPart (P : Part) : Type 0 where
   pub isSound : sound P ≡ true
   pub corners : 3 ≤ length P

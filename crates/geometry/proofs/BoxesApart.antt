@@ -1,4 +1,4 @@
--- Pieces whose bounding boxes an axis direction separates at the gap are not in conflict. Assumes nothing.
+-- Pieces whose bounding boxes are the gap apart along an axis are not in conflict. Assumes nothing.
 use mathlib.Core.Bool.{Bool, true, false, not, _||_}
 use mathlib.Core.List.{List, [], _∷_, map}
 use mathlib.Core.Path.{_≡_, refl, sym, ap, subst, _∙_, fun-ext}
@@ -220,7 +220,7 @@ module _ (gap : ℕ) (E F : Extents) (dx dy : ℤ) (apart : boxesApart gap E F d
       ap (λ t. t || any (λ P. any (λ Q. not (separated gap P Q)) (map (map (shifted dx dy)) Qs)) Ps) (part-apart P Qs (g .0) (i .0) h k)
       ∙ pieces-apart Ps Qs (g .1) (i .1) h k
 
--- Pieces whose boxes an axis direction separates at the gap are not in conflict.
+-- Pieces whose boxes are the gap apart along an axis are not in conflict.
 pub boxes-apart : (gap : ℕ) (Ps Qs : List Part) (dx dy : ℤ) → SoundParts Ps → SoundParts Qs → boxesApart gap (extentsOf (concat Ps)) (extentsOf (concat Qs)) dx dy ≡ true
     → piecesConflict gap Ps (map (map (shifted dx dy)) Qs) ≡ false
 boxes-apart gap Ps Qs dx dy h k e =

@@ -18,9 +18,10 @@ use Rattle.model.specs.Geometry.{vertexAt, following, cross, shifted, distanceS
 use Rattle.model.specs.Lists.{all, below}
 use Rattle.model.proofs.Lists.{all-at, all-of, all-below, below-all, not-both}
 use Rattle.model.proofs.Box.{all-and}
+use Rattle.model.proofs.Moves.{along-from, length-from, cross-from}
 use Rattle.model.proofs.Tests.{all-map}
 use Rattle.convexity.proofs.Members.{is-false}
-use Rattle.geometry.specs.Clears.{Small}
+use Rattle.geometry.specs.Directions.{Small}
 use Rattle.geometry.specs.Compact.{cornerClear}
 use Rattle.geometry.proofs.Sizes.{size-of, fits-64}
 
@@ -88,19 +89,10 @@ module _ (square along start length aside : ℤ) where
 pub near-is : (gap : ℕ) (a b x y : ℤ)
     → nearBy (pos gap *ℤ pos gap) (a *ℤ x +ℤ b *ℤ y) (x *ℤ x +ℤ y *ℤ y) (a *ℤ a +ℤ b *ℤ b) (a *ℤ y -ℤ b *ℤ x) ≡ nearEdge gap origin (vertex a b) (vertex x y)
 unfolding nearBy nearEdge alongEdge distanceSquared cross
-near-is gap a b x y = rw (end a b x y, along a b x y, length a b, length x y, aside a b x y)
+near-is gap a b x y = rw (end a b x y, along-from a b x y, length-from a b, length-from x y, cross-from a b x y)
   where
-    along : (a b x y : ℤ) → a *ℤ x +ℤ b *ℤ y ≡ (a -ℤ pos 0) *ℤ (x -ℤ pos 0) +ℤ (b -ℤ pos 0) *ℤ (y -ℤ pos 0)
-    along = ring 4 (λ a b x y. a ⊠ x ⊞ b ⊠ y ≈ (a ⊟ # (pos 0)) ⊠ (x ⊟ # (pos 0)) ⊞ (b ⊟ # (pos 0)) ⊠ (y ⊟ # (pos 0))) tt
-
-    length : (a b : ℤ) → a *ℤ a +ℤ b *ℤ b ≡ (a -ℤ pos 0) *ℤ (a -ℤ pos 0) +ℤ (b -ℤ pos 0) *ℤ (b -ℤ pos 0)
-    length = ring 2 (λ a b. a ⊠ a ⊞ b ⊠ b ≈ (a ⊟ # (pos 0)) ⊠ (a ⊟ # (pos 0)) ⊞ (b ⊟ # (pos 0)) ⊠ (b ⊟ # (pos 0))) tt
-
     end : (a b x y : ℤ) → (x *ℤ x +ℤ y *ℤ y) -ℤ (a *ℤ x +ℤ b *ℤ y) -ℤ (a *ℤ x +ℤ b *ℤ y) +ℤ (a *ℤ a +ℤ b *ℤ b) ≡ (x -ℤ a) *ℤ (x -ℤ a) +ℤ (y -ℤ b) *ℤ (y -ℤ b)
     end = ring 4 (λ a b x y. (x ⊠ x ⊞ y ⊠ y) ⊟ (a ⊠ x ⊞ b ⊠ y) ⊟ (a ⊠ x ⊞ b ⊠ y) ⊞ (a ⊠ a ⊞ b ⊠ b) ≈ (x ⊟ a) ⊠ (x ⊟ a) ⊞ (y ⊟ b) ⊠ (y ⊟ b)) tt
-
-    aside : (a b x y : ℤ) → a *ℤ y -ℤ b *ℤ x ≡ (a -ℤ pos 0) *ℤ (y -ℤ pos 0) -ℤ (b -ℤ pos 0) *ℤ (x -ℤ pos 0)
-    aside = ring 4 (λ a b x y. a ⊠ y ⊟ b ⊠ x ≈ (a ⊟ # (pos 0)) ⊠ (y ⊟ # (pos 0)) ⊟ (b ⊟ # (pos 0)) ⊠ (x ⊟ # (pos 0))) tt
 
 -- ---- edges, one after the other
 

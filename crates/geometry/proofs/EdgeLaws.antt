@@ -5,7 +5,6 @@ use mathlib.Core.Path.{_≡_, refl, sym, ap, _∙_}
 use Prim.Native.Nat.{ℕ, suc, _+_, _<_}
 use native.Mathlib.Numerals.{add-one}
 use native.Mathlib.Omega.{arith}
-use borrow.Author.Tests.{eq-eqb, ne-eqb}
 use lib.IntN.{ℤ, pos, negℤ, _+ℤ_, _-ℤ_, +ℤ-idl, negℤ-negℤ}
 use lib.ListN.{length, getD}
 use lib.Signed.{leZ, _≤ℤ_, _<ℤ_, ≤ℤ-refl}
@@ -20,6 +19,7 @@ use Rattle.model.proofs.Conflict.{smallest-opposite}
 use Rattle.model.proofs.Lists.{all-at, all-of}
 use Rattle.model.proofs.Tests.{any-map}
 use Rattle.convexity.proofs.Members.{in-any, in-none, in-below, below-in}
+use Rattle.convexity.proofs.Places.{following-step, following-last}
 use Rattle.polygons.specs.Flat.{normalOf}
 
 -- ---- the edges
@@ -36,12 +36,10 @@ module _ (t : Direction → Bool) (P : Part) where
 
 -- the next vertex, by the place of its y
 pub next-inside : (P : Part) (k : ℕ) → suc k < length P → k + 1 ≡ following P k
-unfolding following
-next-inside P k h = rw (ne-eqb (suc k) (length P) (omega arith)) (add-one k)
+next-inside P k h = add-one k ∙ sym (following-step P k h)
 
 pub next-first : (P : Part) (k : ℕ) → suc k ≡ length P → 0 ≡ following P k
-unfolding following
-next-first P k h = rw (eq-eqb (suc k) (length P) h)
+next-first P k h = sym (following-last P k h)
 
 -- the normal of an edge, by the vertices that it joins
 pub normal-at : (P : Part) (k m : ℕ) → m ≡ following P k → outwardNormal (vertexAt P k) (vertexAt P m) ≡ normalOf P k

@@ -18,7 +18,7 @@ use Rattle.model.specs.Content.{Vertex, Part, origin}
 use Rattle.model.specs.Geometry.{vertexAt}
 use Rattle.model.specs.Lists.{smallestFrom, smallestZ}
 use Rattle.model.proofs.Extremes.{smallest-more}
-use Rattle.geometry.specs.Clears.{Small}
+use Rattle.geometry.specs.Directions.{Small}
 
 first-of : (f : Vertex → ℤ) (P : Part) → 0 < length P → smallestFrom (f (vertexAt P 0)) (map f (drop 1 P)) ≡ smallestZ (map f P)
 unfolding vertexAt smallestZ

@@ -24,7 +24,7 @@ use Rattle.convexity.proofs.Clear.{clear-zero}
 use Rattle.convexity.proofs.Theorems.{kept-apart}
 use Rattle.polygons.specs.Flat.{shifted}
 use Rattle.geometry.specs.Apart.{bothClear, besideOf}
-use Rattle.geometry.specs.Clears.{clears, Separating}
+use Rattle.geometry.specs.Directions.{separatesMoved, Separating}
 use Rattle.geometry.specs.Compact.{Spared}
 use Rattle.geometry.proofs.DistanceLaws.{one-corner}
 use Rattle.geometry.proofs.EdgeLaws.{some-normal}
@@ -34,13 +34,13 @@ use Rattle.geometry.proofs.EdgeLaws.{some-normal}
 -- Q, which has a vertex, is moved by (dx, dy)
 module _ (P Q : Part) (dx dy : ℤ) (someQ : 0 < length Q) where
   -- a normal of P
-  clears-first : (d : Direction) → clears P Q (vertex dx dy) d ≡ separates P (map (shifted dx dy) Q) d
-  unfolding clears separates
+  clears-first : (d : Direction) → separatesMoved P Q (vertex dx dy) d ≡ separates P (map (shifted dx dy) Q) d
+  unfolding separatesMoved separates
   clears-first d = ap (leZ (largestZ (map (along d) P))) (sym (smallest-shifted d dx dy Q someQ))
 
   -- a normal of Q, with the parts changed over
-  clears-second : (d : Direction) → clears Q P (vertex (pos 0 -ℤ dx) (pos 0 -ℤ dy)) d ≡ separates (map (shifted dx dy) Q) P d
-  unfolding clears separates along
+  clears-second : (d : Direction) → separatesMoved Q P (vertex (pos 0 -ℤ dx) (pos 0 -ℤ dy)) d ≡ separates (map (shifted dx dy) Q) P d
+  unfolding separatesMoved separates along
   clears-second d =
       across (largestZ (map (along d) Q)) (smallestZ (map (along d) P)) (d .a) (d .b) dx dy
       ∙ ap (λ s. leZ s (smallestZ (map (along d) P))) (sym (largest-shifted d dx dy Q someQ))
@@ -52,7 +52,7 @@ module _ (P Q : Part) (dx dy : ℤ) (someQ : 0 < length Q) where
 
   -- all of them
   disjoint-is : disjoint P (map (shifted dx dy) Q)
-      ≡ (any (clears P Q (vertex dx dy)) (normals P) || any (clears Q P (vertex (pos 0 -ℤ dx) (pos 0 -ℤ dy))) (normals Q))
+      ≡ (any (separatesMoved P Q (vertex dx dy)) (normals P) || any (separatesMoved Q P (vertex (pos 0 -ℤ dx) (pos 0 -ℤ dy))) (normals Q))
   disjoint-is =
       disjoint-groups P (map (shifted dx dy) Q)
       ∙ ap₂ _||_ (sym (any-same _ _ clears-first (normals P)))
@@ -131,14 +131,14 @@ module _ (gap : ℕ) (P Q : Part) (dx dy : ℤ) (someP : 0 < length P) (someQ : 
 
 module _ (gap : ℕ) (P Q : Part) (dx dy : ℤ) where
   -- none of them separates
-  pub beside-none : any (clears P Q (vertex dx dy)) (normals P) ≡ false → 0 ≡ besideOf gap P Q dx dy
+  pub beside-none : any (separatesMoved P Q (vertex dx dy)) (normals P) ≡ false → 0 ≡ besideOf gap P Q dx dy
   unfolding besideOf
   beside-none e = rw e
 
   -- edge k does, and the distances decide
   pub beside-some : (k : ℕ) → Separating P Q (vertex dx dy) k → k < length P → (b : Bool) → b ≡ bothClear gap P (map (shifted dx dy) Q) → cond b 1 2 ≡ besideOf gap P Q dx dy
   unfolding besideOf
-  beside-some k s h b e = rw (some-normal (clears P Q (vertex dx dy)) P k h (s .found h), e)
+  beside-some k s h b e = rw (some-normal (separatesMoved P Q (vertex dx dy)) P k h (s .found h), e)
 
 -- Two parts are separated if the edges of the first say so, or say nothing and those of the second do.
 abbrev code : Bool → Bool → ℕ
@@ -158,10 +158,10 @@ module _ (gap : ℕ) (P Q : Part) (dx dy : ℤ) (someQ : 0 < length Q) where
   by-second false false c h = refl
 
   abbrev firstEdges : Bool
-  firstEdges = any (clears P Q (vertex dx dy)) (normals P)
+  firstEdges = any (separatesMoved P Q (vertex dx dy)) (normals P)
 
   abbrev secondEdges : Bool
-  secondEdges = any (clears Q P (vertex (pos 0 -ℤ dx) (pos 0 -ℤ dy))) (normals Q)
+  secondEdges = any (separatesMoved Q P (vertex (pos 0 -ℤ dx) (pos 0 -ℤ dy))) (normals Q)
 
   abbrev clear : Bool
   clear = bothClear gap P (map (shifted dx dy) Q)

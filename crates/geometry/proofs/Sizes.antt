@@ -18,7 +18,7 @@ use Rattle.integers.proofs.Sizes.{sized, bounded, fits-natAbs}
 use Rattle.integers.proofs.Solver.{#, _⊞_, _⊟_, _⊠_}
 use Rattle.model.specs.Geometry.{direction}
 use Rattle.convexity.specs.Square.{clearance}
-use Rattle.geometry.specs.Clears.{Small}
+use Rattle.geometry.specs.Directions.{Small}
 
 -- a number of w bits is at most half the width's range
 pub size-of : (w : Width) (z : ℤ) → SFits w z → natAbs z ≤ 2 ^ hbits w

@@ -1,5 +1,5 @@
 -- The definitions that the contracts of this crate cite beside the model's.
-pub mod Clears
+pub mod Directions
 pub mod Compact
 pub mod Apart
 pub mod Pieces

@@ -12,7 +12,7 @@ ghost use Rattle.model.specs.Geometry.{direction, vertexAt};
 ghost use Rattle.model.specs.Lists.{largestZ, smallestZ};
 ghost use Rattle.convexity.specs.Square.{clearance};
 ghost use Rattle.polygons.specs.Flat.{partOf};
-ghost use Rattle.geometry.specs.Clears.{Small};
+ghost use Rattle.geometry.specs.Directions.{Small};
 ghost use Rattle.geometry.specs.Compact.{Short};
 use integers::dot;
 use polygons::vertices::coordinate;

@@ -7,7 +7,7 @@ ghost use lib.ListN.{length};
 ghost use Rattle.model.specs.Content.{vertex, origin};
 ghost use Rattle.model.specs.Geometry.{direction, vertexAt, following, nearEdge, cornersClear};
 ghost use Rattle.polygons.specs.Flat.{partOf, shifted};
-ghost use Rattle.geometry.specs.Clears.{Small};
+ghost use Rattle.geometry.specs.Directions.{Small};
 ghost use Rattle.geometry.specs.Compact.{Compact, Short, cornerClear, Spared};
 use crate::along::vertex_along;
 use crate::edges::next_vertex;
@@ -48,6 +48,7 @@ fn near_edge(a: i16, b: i16, x: i16, y: i16, gap: u16) -> bool
     }
     let length = way_along(a, b, a, b);
     if length <= along {
+        // The squared distance from the end.
         return from_start - along - along + length < square;
     }
     let aside = way_aside(a, b, x, y);

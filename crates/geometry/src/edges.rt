@@ -6,7 +6,7 @@ ghost use lib.ListN.{length};
 ghost use Rattle.model.specs.Content.{vertex};
 ghost use Rattle.model.specs.Geometry.{vertexAt, following};
 ghost use Rattle.polygons.specs.Flat.{partOf, coordinateOf};
-ghost use Rattle.geometry.specs.Clears.{Separating};
+ghost use Rattle.geometry.specs.Directions.{Separating};
 use crate::along::lies_beyond;
 use crate::along::lowest;
 use crate::along::move_along;
@@ -30,7 +30,7 @@ pub fn next_vertex(p: &[i16], k: usize) -> usize
 }
 
 // The first edge of p whose outward normal separates p from q moved by (dx, dy); as many as p has edges where there is none. In a sound part no vertex lies further along
-// the normal than the edge's own, so that one is asked first: a normal that does not separate is given up at the first vertex of q that lies too near it. p need not be
+// the normal than the edge's own, so that one is asked first: a normal that does not separate is given up at the first vertex of q that does not lie beyond it. p need not be
 // sound, so a normal that passes is tried against every vertex of p.
 pub fn separating_edge(p: &[i16], q: &[i16], dx: i16, dy: i16) -> usize
     ensures { λ r. ⌜ (r ≤ length (now (p .entry)) / 2) × Separating (partOf (now (p .entry))) (partOf (now (q .entry))) (vertex dx dy) r ⌝ }

@@ -19,15 +19,15 @@ use crate::edges::next_vertex;
 use crate::edges::separating_edge;
 use polygons::extents::Extents;
 
-// Whether what ends at `high` and is moved by `from` clears, by the gap, what begins at `low` and is moved by `to`.
+// Whether what ends at `high` and is moved by `from` separatesMoved, by the gap, what begins at `low` and is moved by `to`.
 fn clear_of(high: i16, from: i16, low: i16, to: i16, gap: u16) -> bool
     ensures { λ r. ⌜ r ≡ clearOf gap high from low to ⌝ }
 {
     (high as i64) + (from as i64) + (gap as i64) <= (low as i64) + (to as i64)
 }
 
-// Whether an axis direction separates parts of these boxes, the second moved by (dx, dy).
-pub fn axes_separate(e: Extents, f: Extents, dx: i16, dy: i16, gap: u16) -> bool
+// Whether these boxes are the gap apart along an axis, the second moved by (dx, dy).
+pub fn boxes_apart(e: Extents, f: Extents, dx: i16, dy: i16, gap: u16) -> bool
     ensures { λ r. ⌜ r ≡ boxesApart gap e f dx dy ⌝ }
 {
     clear_of(e.max_x, 0, f.min_x, dx, gap)
@@ -36,7 +36,7 @@ pub fn axes_separate(e: Extents, f: Extents, dx: i16, dy: i16, gap: u16) -> bool
         | clear_of(f.max_y, dy, e.min_y, 0, gap)
 }
 
-// Whether no corner of p or of q, moved by (dx, dy), is nearer than the gap to an edge of the other one. Any direction (a, b) will do. Where it keeps the two the gap apart no
+// Whether no corner of p or of q, moved by (dx, dy), is nearer than the gap to an edge of the other one. Any direction but (0, 0) will do. Where it keeps the two the gap apart no
 // distance is measured, and otherwise those of the corners that lie so near the other part along it.
 fn clear_along(p: &[i16], q: &[i16], dx: i16, dy: i16, a: i32, b: i32, gap: u16) -> bool
     requires { ⌜ (2 ≤ length (now p)) × (2 ≤ length (now q)) ⌝ }
@@ -57,7 +57,7 @@ fn clear_along(p: &[i16], q: &[i16], dx: i16, dy: i16, a: i32, b: i32, gap: u16)
     corners_clear(p, 0 - dx, 0 - dy, q, 0 - a, 0 - b, reach - low, gap)
 }
 
-// The same, along the outward normal of edge k of p. (That of a sound part is not (0, 0).)
+// The same, along the outward normal of edge k of p. (p need not be sound here: where that normal is (0, 0), another direction serves.)
 fn clear_beside(p: &[i16], q: &[i16], dx: i16, dy: i16, k: usize, gap: u16) -> bool
     requires { ⌜ (2 * k + 1 < length (now p)) × (2 ≤ length (now q)) ⌝ }
     requires { ⌜ Short 4096 dx dy × (Compact (partOf (now p)) × Compact (partOf (now q))) ⌝ }

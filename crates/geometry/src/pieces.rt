@@ -9,7 +9,7 @@ ghost use Rattle.model.specs.Geometry.{piecesConflict};
 ghost use Rattle.polygons.specs.Flat.{shifted};
 ghost use Rattle.geometry.specs.Compact.{Compact, Short};
 ghost use Rattle.geometry.specs.Pieces.{Fitting, Standing, partIn, boxIn, partsIn, partConflicts};
-use crate::pairs::axes_separate;
+use crate::pairs::boxes_apart;
 use crate::pairs::separated;
 use polygons::extents::Extents;
 
@@ -88,7 +88,7 @@ fn parts_conflict(
     requires { ⌜ ((Standing (now table) p × (i < p .count)) × (Standing (now table) q × (m < q .count))) × Short 4096 dx dy ⌝ }
     ensures { λ r. ⌜ r ≡ not (Geometry.separated gap (partIn (now (table .entry)) p i) (map (shifted dx dy) (partIn (now (table .entry)) q m))) ⌝ }
 {
-    if axes_separate(part_box(table, p, i), part_box(table, q, m), dx, dy, gap) {
+    if boxes_apart(part_box(table, p, i), part_box(table, q, m), dx, dy, gap) {
         return false;
     }
     not_separated(table, p, i, q, m, dx, dy, gap)

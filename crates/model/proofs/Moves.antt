@@ -82,6 +82,16 @@ normals-shifted a b P =
 
 -- ---- what a move does to distances
 
+-- the numbers of a corner and an edge from the start (0, 0)
+pub along-from : (a b x y : ℤ) → a *ℤ x +ℤ b *ℤ y ≡ (a -ℤ pos 0) *ℤ (x -ℤ pos 0) +ℤ (b -ℤ pos 0) *ℤ (y -ℤ pos 0)
+along-from = ring 4 (λ a b x y. a ⊠ x ⊞ b ⊠ y ≈ (a ⊟ # (pos 0)) ⊠ (x ⊟ # (pos 0)) ⊞ (b ⊟ # (pos 0)) ⊠ (y ⊟ # (pos 0))) tt
+
+pub length-from : (a b : ℤ) → a *ℤ a +ℤ b *ℤ b ≡ (a -ℤ pos 0) *ℤ (a -ℤ pos 0) +ℤ (b -ℤ pos 0) *ℤ (b -ℤ pos 0)
+length-from = ring 2 (λ a b. a ⊠ a ⊞ b ⊠ b ≈ (a ⊟ # (pos 0)) ⊠ (a ⊟ # (pos 0)) ⊞ (b ⊟ # (pos 0)) ⊠ (b ⊟ # (pos 0))) tt
+
+pub cross-from : (a b x y : ℤ) → a *ℤ y -ℤ b *ℤ x ≡ (a -ℤ pos 0) *ℤ (y -ℤ pos 0) -ℤ (b -ℤ pos 0) *ℤ (x -ℤ pos 0)
+cross-from = ring 4 (λ a b x y. a ⊠ y ⊟ b ⊠ x ≈ (a ⊟ # (pos 0)) ⊠ (y ⊟ # (pos 0)) ⊟ (b ⊟ # (pos 0)) ⊠ (x ⊟ # (pos 0))) tt
+
 -- A distance looks only at how the corner and the edge's end lie from the edge's start.
 pub near-from : (h : ℕ) (s t v : Vertex) → nearEdge h s t v ≡ nearEdge h origin (vertex (t .x -ℤ s .x) (t .y -ℤ s .y)) (vertex (v .x -ℤ s .x) (v .y -ℤ s .y))
 unfolding nearEdge alongEdge distanceSquared cross
@@ -101,19 +111,10 @@ near-from h s t v =
         ≡ cond (leZ u′ (pos 0)) (ltZ p′ (pos (h * h))) (cond (leZ l′ u′) (ltZ q′ (pos (h * h))) (ltZ (c′ *ℤ c′) (pos (h * h) *ℤ l′)))
     near-same h eu el ep eq ec = rw (eu, el, ep, eq, ec)
 
-    along-from : (a b x y : ℤ) → a *ℤ x +ℤ b *ℤ y ≡ (a -ℤ pos 0) *ℤ (x -ℤ pos 0) +ℤ (b -ℤ pos 0) *ℤ (y -ℤ pos 0)
-    along-from = ring 4 (λ a b x y. a ⊠ x ⊞ b ⊠ y ≈ (a ⊟ # (pos 0)) ⊠ (x ⊟ # (pos 0)) ⊞ (b ⊟ # (pos 0)) ⊠ (y ⊟ # (pos 0))) tt
-
-    length-from : (a b : ℤ) → a *ℤ a +ℤ b *ℤ b ≡ (a -ℤ pos 0) *ℤ (a -ℤ pos 0) +ℤ (b -ℤ pos 0) *ℤ (b -ℤ pos 0)
-    length-from = ring 2 (λ a b. a ⊠ a ⊞ b ⊠ b ≈ (a ⊟ # (pos 0)) ⊠ (a ⊟ # (pos 0)) ⊞ (b ⊟ # (pos 0)) ⊠ (b ⊟ # (pos 0))) tt
-
     end-from : (sx sy tx ty vx vy : ℤ) → (vx -ℤ tx) *ℤ (vx -ℤ tx) +ℤ (vy -ℤ ty) *ℤ (vy -ℤ ty)
         ≡ ((vx -ℤ sx) -ℤ (tx -ℤ sx)) *ℤ ((vx -ℤ sx) -ℤ (tx -ℤ sx)) +ℤ ((vy -ℤ sy) -ℤ (ty -ℤ sy)) *ℤ ((vy -ℤ sy) -ℤ (ty -ℤ sy))
     end-from = ring 6 (λ sx sy tx ty vx vy. (vx ⊟ tx) ⊠ (vx ⊟ tx) ⊞ (vy ⊟ ty) ⊠ (vy ⊟ ty)
         ≈ ((vx ⊟ sx) ⊟ (tx ⊟ sx)) ⊠ ((vx ⊟ sx) ⊟ (tx ⊟ sx)) ⊞ ((vy ⊟ sy) ⊟ (ty ⊟ sy)) ⊠ ((vy ⊟ sy) ⊟ (ty ⊟ sy))) tt
-
-    cross-from : (a b x y : ℤ) → a *ℤ y -ℤ b *ℤ x ≡ (a -ℤ pos 0) *ℤ (y -ℤ pos 0) -ℤ (b -ℤ pos 0) *ℤ (x -ℤ pos 0)
-    cross-from = ring 4 (λ a b x y. a ⊠ y ⊟ b ⊠ x ≈ (a ⊟ # (pos 0)) ⊠ (y ⊟ # (pos 0)) ⊟ (b ⊟ # (pos 0)) ⊠ (x ⊟ # (pos 0))) tt
 
 -- So it is the same wherever these two lie the same way from it.
 near-alike : (h : ℕ) (s t v s′ t′ v′ : Vertex) → t .x -ℤ s .x ≡ t′ .x -ℤ s′ .x → t .y -ℤ s .y ≡ t′ .y -ℤ s′ .y → v .x -ℤ s .x ≡ v′ .x -ℤ s′ .x → v .y -ℤ s .y ≡ v′ .y -ℤ s′ .y

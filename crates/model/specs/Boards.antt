@@ -49,7 +49,7 @@ pub data Answer : Type 0 where
   isConflict : Bool → Answer
   isRefused : ℕ → Answer
 
--- A question, and document 01's answer to it.
+-- A question, and the documents' answer to it.
 pub record Marked : Type 0 where
   pub question : Question
   pub expected : Answer
@@ -423,7 +423,7 @@ roundConflicts =
     -- The same with the edge's part second: both parts' corners are asked for.
     ∷ (conflicts 5 (squareAt 7 7) slanting ⇒ isConflict false)
     ∷ (conflicts 5 (squareAt 6 7) slanting ⇒ isConflict true)
-    -- "An edge is a segment: beyond its ends the end corner counts." The line through the first square's upper edge, which ends at (2,2), goes through (5,2), 3 away.
+    -- "An edge is a segment: beyond its ends the end corner counts." The line through the first square's upper edge, one end of which is (2,2), goes through (5,2), 3 away.
     ∷ (conflicts 3 square (squareAt 5 2) ⇒ isConflict false)
     ∷ (conflicts 4 square (squareAt 5 2) ⇒ isConflict true)
     -- Tip to tip, 3 across and 4 up: 5 away.
@@ -440,14 +440,17 @@ roundConflicts =
 unfoldable pub slantingJob : ℕ → List ℕ
 slantingJob gap = jobOf 9 9 (0 ∷ 0 ∷ gap ∷ []) 2 ((1 ∷ 1 ∷ 1 ∷ 1 ∷ 3 ∷ 0 ∷ 0 ∷ 8 ∷ 0 ∷ 0 ∷ 6 ∷ []) ++ squareOf 1 1)
 
--- "All comparisons of conflict and of shortest use the round measure from here": check, and run.
+-- "All comparisons of conflict and of shortest use the round measure from here": row, check and run.
 unfoldable pub roundServices : List Marked
 roundServices =
-    (checks (slantingJob 5) (0 ∷ 0 ∷ 0 ∷ 0 ∷ 1 ∷ 7 ∷ 7 ∷ 0 ∷ []) ⇒ finds (C.Passes 9))
+    -- Of the 42 places of a square at gap 5, W 8, L 7, all but (5,6), number 204, are in conflict with (0,0).
+    (rows (gapSquares 5 8 7) 0 ⇒ shows (W.Count 5) (1229782933683900689 ∷ 1229781770016198912 ∷ 1229483871084544017 ∷ 273 ∷ 0 ∷ []))
+    ∷ (checks (slantingJob 5) (0 ∷ 0 ∷ 0 ∷ 0 ∷ 1 ∷ 7 ∷ 7 ∷ 0 ∷ []) ⇒ finds (C.Passes 9))
     ∷ (checks (slantingJob 6) (0 ∷ 0 ∷ 0 ∷ 0 ∷ 1 ∷ 7 ∷ 7 ∷ 0 ∷ []) ⇒ finds (C.Refused 11))
     ∷ (checks (slantingJob 5) (0 ∷ 0 ∷ 0 ∷ 0 ∷ 1 ∷ 6 ∷ 7 ∷ 0 ∷ []) ⇒ finds (C.Refused 11))
-    -- Two squares at gap 5, W 8: columns from 0, rows 0 to 6. At L 7 the columns 0 to 5: only (0,0) and (5,6) are far enough apart, which takes two steps. After that each
-    -- other candidate for the first square that would be shorter, columns 0 to 4, is a step that look-ahead gives back: 34 more. (By the square measure: none.)
+    -- Two squares at gap 5, W 8: rows 0 to 6. At L 7, columns 0 to 5, only (0,0) with (5,6) and (0,6) with (5,0) are far enough apart. The first pair takes two steps, and the
+    -- second is no shorter: after that each other candidate for the first square that ends below 7, columns 0 to 4, is a step that look-ahead gives back, 34 more. (By the square
+    -- measure: none.)
     ∷ (runs (gapSquares 5 8 7) 1000000 ⇒ says (Shortest 7 36) true (0 ∷ 0 ∷ 0 ∷ 0 ∷ 0 ∷ 5 ∷ 6 ∷ 0 ∷ []))
     -- At L 6 the columns 0 to 4: no two are far enough apart. Each candidate is a step.
     ∷ (runs (gapSquares 5 8 6) 1000000 ⇒ says (Infeasible 35) true untouched)

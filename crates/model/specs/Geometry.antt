@@ -99,7 +99,7 @@ unfoldable pub alongEdge : Vertex → Vertex → Vertex → ℤ
 alongEdge s t v = (t .x -ℤ s .x) *ℤ (v .x -ℤ s .x) +ℤ (t .y -ℤ s .y) *ℤ (v .y -ℤ s .y)
 
 -- The corner v is nearer than h to the edge from s to t. Document 02, 5/13: "An edge is a segment: beyond its ends the end corner counts. Distances are
--- compared squared, in whole numbers." (Beside the edge the distance from its line is `cross` divided by the edge's length.)
+-- compared squared, in whole numbers." (Beside the edge the distance from its line is `cross`, whatever its sign, divided by the edge's length.)
 unfoldable pub nearEdge : ℕ → Vertex → Vertex → Vertex → Bool
 nearEdge h s t v =
     cond (leZ (alongEdge s t v) (pos 0)) (ltZ (distanceSquared s v) (pos (h * h)))

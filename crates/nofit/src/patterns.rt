@@ -15,7 +15,7 @@ ghost use Rattle.nofit.specs.Filling.{dotOf, conflictAtDot, blockedAtDot
 ghost use Rattle.nofit.specs.Filling.{PairOf, boundOf, patternOf, Small, Fillable, parityBits, ParitiesTo};
 use crate::places::Nofit;
 use candidates::conflicts::pair_gap;
-use geometry::pairs::axes_separate;
+use geometry::pairs::boxes_apart;
 use geometry::pieces::Piece;
 use geometry::pieces::pieces_conflict;
 use job::View;
@@ -77,7 +77,7 @@ fn conflict_at(
 {
     let dx = away(s.step, s.reach, d.column);
     let dy = away(s.step, s.lift, d.row);
-    if axes_separate(e, f, dx, dy, s.gap) {
+    if boxes_apart(e, f, dx, dy, s.gap) {
         return false;
     }
     pieces_conflict(turned, p, r, dx, dy, s.gap)

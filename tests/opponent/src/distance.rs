@@ -123,7 +123,7 @@ fn near_middle(out: i32, [nx, ny]: [i32; 2], whole: i32, gap: i32) -> bool {
     distance < limit || distance == limit && mutant::is("near_at_the_gap_from_the_middle")
 }
 
-/// The squared gap. The mistakes: it is not squared, there or nowhere.
+/// The squared gap. The mistakes: it is not squared, at one of the two places or at both.
 #[inline(always)]
 fn squared(gap: i32, mistake: &str) -> i32 {
     if mutant::is("gap_not_squared") || mutant::is(mistake) {

@@ -110,7 +110,8 @@ fn boards_of_halves() -> Vec<SmallBoard> {
     let mut claims = conflicts(&[((0, 0), (3, 4), false), ((0, 0), (2, 4), true)]);
     claims.push(run(u32::MAX, "shortest 11 16\n0 0 0 0\n1 3 4 0\n"));
     // 30 times as large, with 12 times the gap, on dots 12 apart: a step moves 12 times as far as on the sheet above,
-    // so the walk is the same. Squared, some distances have more than 16 bits, and times an edge's length more than 32.
+    // so the walk is the same. Squared, some distances have more than 16 bits, and times an edge's squared length they do
+    // not fit 32 signed bits.
     let (large, other) = (&[(-120, -84), (120, -84), (-120, 96)], &[(120, -84), (120, 96), (-120, 96)]);
     let mut large_claims = conflicts(&[((10, 7), (13, 11), false), ((10, 7), (12, 11), true)]);
     large_claims.push(run(u32::MAX, "shortest 276 16\n0 10 7 0\n1 13 11 0\n"));

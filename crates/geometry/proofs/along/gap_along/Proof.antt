@@ -1,11 +1,11 @@
--- `geometry::along::gap_along` meets its contract: no operation wraps, and the product is the model's clearance. Assumes nothing.
+-- `geometry::along::gap_along` meets its contract: no operation wraps, and the product is the clearance of the square measure. Assumes nothing.
 use mathlib.Core.Path.{ap}
 use borrow.Author.Needs.{needs}
 use lib.IntN.{pos, natAbs, _+ℤ_, _*ℤ_}
 use mir.Syntax.{w32}
 use mir.ValLaws.{toZ-ofZ}
 use Rattle.integers.proofs.Machine.{op-fits, op-gives}
-use Rattle.geometry.specs.Clears.{Small}
+use Rattle.geometry.specs.Directions.{Small}
 use Rattle.geometry.proofs.Sizes.{small-as, small-at, small-fits, small-read, small-sum, gap-read, gap-small}
 use Rattle.geometry.proofs.along.gap_along.Statement.{statement}
 use Rattle.geometry.proofs.along.gap_along.Tie as tie

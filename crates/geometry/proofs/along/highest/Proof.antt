@@ -10,7 +10,7 @@ use Rattle.integers.proofs.Machine.{op-fits, op-gives}
 use Rattle.model.specs.Geometry.{along, direction}
 use Rattle.model.specs.Lists.{smallestZ}
 use Rattle.polygons.specs.Flat.{partOf}
-use Rattle.geometry.specs.Clears.{Small}
+use Rattle.geometry.specs.Directions.{Small}
 use Rattle.geometry.proofs.DistanceLaws.{opposite-32}
 use Rattle.geometry.proofs.EdgeLaws.{opposite-least}
 use Rattle.geometry.proofs.Sizes.{small-as, small-at, small-read, small-fits, small-opposite}

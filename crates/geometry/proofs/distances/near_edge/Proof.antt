@@ -9,7 +9,7 @@ use mir.ValLaws.{toZ-ofZ}
 use Rattle.integers.proofs.Machine.{op-fits, op-gives}
 use Rattle.model.specs.Content.{vertex, origin}
 use Rattle.model.specs.Geometry.{nearEdge}
-use Rattle.geometry.specs.Clears.{Small}
+use Rattle.geometry.specs.Directions.{Small}
 use Rattle.geometry.proofs.DistanceLaws.{limit-fits, aside-fits, nearBy, near-before, near-beyond, near-beside, near-is}
 use Rattle.geometry.proofs.Sizes.{small-as, small-fits, small-read, small-more, small-sum, small-difference}
 use Rattle.geometry.proofs.distances.near_edge.Statement.{statement}

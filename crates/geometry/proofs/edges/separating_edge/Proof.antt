@@ -22,7 +22,7 @@ use Rattle.model.specs.Geometry.{Direction, along, direction, vertexAt, outward
 use Rattle.model.specs.Lists.{largestZ, smallestZ}
 use Rattle.polygons.specs.Flat.{partOf, normalOf}
 use Rattle.polygons.proofs.Flat.{part-length}
-use Rattle.geometry.specs.Clears.{clears, Separating}
+use Rattle.geometry.specs.Directions.{separatesMoved, Separating}
 use Rattle.geometry.proofs.EdgeLaws.{normal-at, no-normal, all-within, one-beyond, one-within, refuted}
 use Rattle.geometry.proofs.Sizes.{less-fits, less-gives, more-fits, more-gives}
 use Rattle.geometry.proofs.edges.separating_edge.Statement.{statement}
@@ -36,7 +36,7 @@ abbrev μ-loop : tie.MeasureT-loop
 
 abbrev Inv-directions : tie.InvT-directions
 Inv-directions p q dx dy n k₀ k =
-    (n ≡ length p / 2) × (k ≤ n) × ((j : ℕ) → j < k → clears (partOf p) (partOf q) (vertex (toZ w16 dx) (toZ w16 dy)) (normalOf (partOf p) j) ≡ false)
+    (n ≡ length p / 2) × (k ≤ n) × ((j : ℕ) → j < k → separatesMoved (partOf p) (partOf q) (vertex (toZ w16 dx) (toZ w16 dy)) (normalOf (partOf p) j) ≡ false)
 
 abbrev μ-directions : tie.MeasureT-directions
 μ-directions p q dx dy n k₀ k = n - k
@@ -54,7 +54,7 @@ abbrev offset : (c : tie.Start Inv-loop μ-loop Inv-directions μ-directions) �
 offset c = vertex (toZ w16 (ofZ w16 (c .args .dx))) (toZ w16 (ofZ w16 (c .args .dy)))
 
 abbrev test : (c : tie.Start Inv-loop μ-loop Inv-directions μ-directions) → Direction → Bool
-test c = clears (first c) (second c) (offset c)
+test c = separatesMoved (first c) (second c) (offset c)
 
 abbrev edge : (c : tie.At-directions Inv-loop μ-loop Inv-directions μ-directions) → ℕ
 edge c = c .directions .k
@@ -85,7 +85,7 @@ is-normal c =
 
 -- so the furthest against the least and the way is the test
 verdict : (c : tie.After-difference2 Inv-loop μ-loop Inv-directions μ-directions) (b : Bool) → leZ (far c) (low c +ℤ way c) ≡ b → test (c .before .before .before .before .before) (normalOf (first (c .before .before .before .before .before)) (edge (c .before .before .before .before))) ≡ b
-unfolding clears
+unfolding separatesMoved
 verdict c b e = ap (test (c .before .before .before .before .before)) (sym (is-normal c)) ∙ e
 
 -- the offset, free of the bits of the parameters

@@ -13,7 +13,7 @@ use Rattle.model.specs.Content.{Vertex, vertex, Part}
 use Rattle.polygons.specs.Flat.{partOf, shifted}
 use Rattle.polygons.proofs.Flat.{part-length}
 use Rattle.geometry.specs.Apart.{bothClear}
-use Rattle.geometry.specs.Clears.{Separating}
+use Rattle.geometry.specs.Directions.{Separating}
 use Rattle.geometry.proofs.PairLaws.{beside-none, beside-some}
 use Rattle.geometry.proofs.pairs.beside.Statement.{statement}
 use Rattle.geometry.proofs.pairs.beside.Tie as tie

@@ -18,7 +18,7 @@ use Rattle.model.specs.Lists.{largestZ, smallestZ}
 use Rattle.convexity.specs.Square.{clearance}
 use Rattle.polygons.specs.Flat.{partOf, shifted}
 use Rattle.polygons.proofs.Flat.{part-length}
-use Rattle.geometry.specs.Clears.{Small}
+use Rattle.geometry.specs.Directions.{Small}
 use Rattle.geometry.proofs.DistanceLaws.{opposite-size, opposite-fits, opposite-32}
 use Rattle.geometry.proofs.PairLaws.{kept-clear, spared-first, spared-second, both-second, both-first, clear-back}
 use Rattle.geometry.proofs.Sizes.{small-as, small-more, small-sum, small-difference, small-fits, small-read}

@@ -21,8 +21,8 @@ part-box-requires c κs = ((c .pre .0 .0 .0 .fitting, c .pre .0 .0 .1), c .pre .
 part-box-requires-2 : tie.Need-part-box-requires-2
 part-box-requires-2 c κs = ((c .before .pre .0 .1 .0 .fitting, c .before .pre .0 .1 .1), c .before .pre .0 .1 .0 .size)
 
-axes-separate-requires : tie.Need-axes-separate-requires
-axes-separate-requires c κs = search needs
+boxes-apart-requires : tie.Need-boxes-apart-requires
+boxes-apart-requires c κs = search needs
 
 returns : tie.Need-returns
 returns c =
@@ -32,7 +32,7 @@ returns c =
     boxed-apart (e .gap) (now (e .table)) (e .p) (e .q) (e .i) (e .m) (e .dx) (e .dy) (s .pre .0 .0 .0) (s .pre .0 .1 .0) (s .pre .0 .0 .1) (s .pre .0 .1 .1)
     ((λ j. boxesApart (e .gap) (sym (second .before .part-box .ensures) j) (sym (second .part-box2 .ensures) j) (e .dx) (e .dy))
     ∙ sym (read₂ w16 (e .dx) (e .dy) (s .fits .dx) (s .fits .dy) (λ x y. boxesApart (e .gap) (second .before .part-box .result) (second .part-box2 .result) x y))
-    ∙ sym (c .before .axes-separate .ensures) ∙ c .if1 .taken)
+    ∙ sym (c .before .boxes-apart .ensures) ∙ c .if1 .taken)
 
 not-separated-requires : tie.Need-not-separated-requires
 not-separated-requires c κs = (
@@ -51,4 +51,4 @@ returns-2 c =
     ∙ read₂ w16 (e .dx) (e .dy) (s .fits .dx) (s .fits .dy) (λ x y. not (separated (e .gap) (partIn (now (e .table)) (e .p) (e .i)) (map (shifted x y) (partIn (now (e .table)) (e .q) (e .m)))))
 
 pub parts-conflict-spec : {M : Type 1} → statement M
-parts-conflict-spec = tie.close (tie.spec part-box-requires part-box-requires-2 axes-separate-requires returns not-separated-requires returns-2)
+parts-conflict-spec = tie.close (tie.spec part-box-requires part-box-requires-2 boxes-apart-requires returns not-separated-requires returns-2)

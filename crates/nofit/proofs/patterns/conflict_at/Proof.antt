@@ -65,8 +65,8 @@ along-is c = toZ-ofZ w16 _ (sfits-of (c .away .ok)) ∙ c .away .ensures
 up-is : (c : tie.After-away2) → toZ w16 (ofZ w16 (c .away2 .result)) ≡ up (c .before .before)
 up-is c = toZ-ofZ w16 _ (sfits-of (c .away2 .ok)) ∙ c .away2 .ensures
 
-axes-separate-requires : tie.Need-axes-separate-requires
-axes-separate-requires c κs = search needs
+boxes-apart-requires : tie.Need-boxes-apart-requires
+boxes-apart-requires c κs = search needs
 
 returns : tie.Need-returns
 unfolding conflictAtDot
@@ -77,7 +77,7 @@ returns c =
     let p = e .pre .0 .1 .0 in
     let r = e .pre .0 .1 .1 in
     sym (boxes-apart (e .args .s .gap) (placed e) (other e) (along e) (up e) (standing-sound (now (e .args .turned)) (e .args .p) (p .stands)) (standing-sound (now (e .args .turned)) (e .args .r) (r .stands))
-    ((λ j. boxesApart (e .args .s .gap) (sym (p .box) j) (sym (r .box) j) (sym (along-is first) j) (sym (up-is second) j)) ∙ sym (c .before .axes-separate .ensures) ∙ c .if1 .taken))
+    ((λ j. boxesApart (e .args .s .gap) (sym (p .box) j) (sym (r .box) j) (sym (along-is first) j) (sym (up-is second) j)) ∙ sym (c .before .boxes-apart .ensures) ∙ c .if1 .taken))
 
 pieces-conflict-requires : tie.Need-pieces-conflict-requires
 pieces-conflict-requires c κs = (
@@ -102,7 +102,7 @@ conflict-at-spec =
     (tie.spec
     away-requires
     away-requires-2
-    axes-separate-requires
+    boxes-apart-requires
     returns
     pieces-conflict-requires
     returns-2)

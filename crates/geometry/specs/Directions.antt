@@ -13,13 +13,13 @@ use Rattle.model.specs.Lists.{any, largestZ, smallestZ}
 use Rattle.polygons.specs.Flat.{normalOf}
 
 -- d separates P from Q moved by e.
-unfoldable pub clears : Part → Part → Vertex → Direction → Bool
-clears P Q e d = leZ (largestZ (map (along d) P)) (smallestZ (map (along d) Q) +ℤ along d e)
+unfoldable pub separatesMoved : Part → Part → Vertex → Direction → Bool
+separatesMoved P Q e d = leZ (largestZ (map (along d) P)) (smallestZ (map (along d) Q) +ℤ along d e)
 
 -- Edge k is one of P's, and its normal separates P from Q moved by e; or k is as many as P has edges, and no normal does.
 pub record Separating (P Q : Part) (e : Vertex) (k : ℕ) : Type 0 where
-  pub found : k < length P → clears P Q e (normalOf P k) ≡ true
-  pub none : length P ≤ k → any (clears P Q e) (normals P) ≡ false
+  pub found : k < length P → separatesMoved P Q e (normalOf P k) ≡ true
+  pub none : length P ≤ k → any (separatesMoved P Q e) (normals P) ≡ false
 
 -- A result and a bound of its size, so that a caller can add to it.
 pub record Small (z : ℤ) (k : ℕ) (r : ℤ) : Type 0 where

@@ -1,4 +1,4 @@
--- `geometry::pairs::axes_separate` meets its contract: the four tests are the definition's four. Assumes nothing.
+-- `geometry::pairs::boxes_apart` meets its contract: the four tests are the definition's four. Assumes nothing.
 use mathlib.Core.Path.{_∙_}
 use lib.IntN.{pos}
 use mir.Syntax.{w16}
@@ -6,8 +6,8 @@ use mir.ValLaws.{toZ-ofZ}
 use Rattle.geometry.specs.Apart.{clearOf, boxesApart}
 use Rattle.polygons.proofs.BoxLaws.{or-four}
 use borrow.Author.Needs.{sfits-of}
-use Rattle.geometry.proofs.pairs.axes_separate.Statement.{statement}
-use Rattle.geometry.proofs.pairs.axes_separate.Tie as tie
+use Rattle.geometry.proofs.pairs.boxes_apart.Statement.{statement}
+use Rattle.geometry.proofs.pairs.boxes_apart.Tie as tie
 
 clear-of-requires : tie.Need-clear-of-requires
 clear-of-requires c κs = tt
@@ -40,8 +40,8 @@ returns c =
     (c .clear-of4 .ensures
     ∙ (λ i. clearOf (s .args .gap) (toZ-ofZ w16 (s .args .f .«max_y») (sfits-of (f .1 .1 .1 .0 .1)) i) (dy i) (toZ-ofZ w16 (s .args .e .«min_y») (sfits-of (e .1 .1 .0 .1)) i) (pos 0)))
 
-pub axes-separate-spec : {M : Type 1} → statement M
-axes-separate-spec =
+pub boxes-apart-spec : {M : Type 1} → statement M
+boxes-apart-spec =
     tie.close
     (tie.spec
     clear-of-requires
