@@ -2,7 +2,7 @@
 use mathlib.Core.List.{List, map}
 use mathlib.Core.Path.{_≡_, refl}
 use Prim.Native.Nat.{ℕ}
-use Rattle.model.specs.Boards.{Marked, answerUnder, answerTo, boards, furtherBoards, clampRuns, clampRows, clampChecks, clampRefusals, cutRuns, cutConflicts, cutBytes, cutReads, savedJobs, roundConflicts, roundServices, numbersOf, saidBy, shownBy, toldBy, savedBy, scattered, scatteredSaved, printedSaved, square, squareAt, slanting, tipUp, tipDown, largeSquare, slantingJob, jobOf, squareOf, squareType, squares, gapSquares, printedJob, printedText, triangles, strips, bar, rankedSquares, twoTypes, leftCorner, star, squareTwice}
+use Rattle.model.specs.Boards.{Marked, answerUnder, answerTo, boards, furtherBoards, clampRuns, clampRows, clampChecks, clampRefusals, cutRuns, cutConflicts, cutBytes, cutReads, savedJobs, roundConflicts, roundServices, numbersOf, saidBy, shownBy, toldBy, savedBy, scattered, scatteredSaved, printedSaved, square, squareAt, slanting, tipUp, tipDown, largeSquare, slantingJob, plates, jobOn, jobOf, squareOf, squareType, squares, gapSquares, printedJob, printedText, triangles, strips, bar, rankedSquares, twoTypes, leftCorner, star, squareTwice}
 use Rattle.model.specs.Opened.{opened}
 
 -- Every question of the table has its expected answer.
@@ -10,7 +10,7 @@ abbrev pub Hold : List Marked → Type 0
 Hold table = map (λ m. answerTo (m .question)) table ≡ map (λ m. m .expected) table
 
 unfoldable openedBoards : ℕ
-unfolding opened boards furtherBoards clampRuns clampRows clampChecks clampRefusals cutRuns cutConflicts cutBytes cutReads savedJobs roundConflicts roundServices scattered scatteredSaved printedSaved answerUnder answerTo numbersOf saidBy shownBy toldBy savedBy square squareAt slanting tipUp tipDown largeSquare slantingJob jobOf squareOf squareType squares gapSquares printedJob printedText triangles strips bar rankedSquares twoTypes leftCorner star squareTwice
+unfolding opened boards furtherBoards clampRuns clampRows clampChecks clampRefusals cutRuns cutConflicts cutBytes cutReads savedJobs roundConflicts roundServices scattered scatteredSaved printedSaved answerUnder answerTo numbersOf saidBy shownBy toldBy savedBy square squareAt slanting tipUp tipDown largeSquare slantingJob plates jobOn jobOf squareOf squareType squares gapSquares printedJob printedText triangles strips bar rankedSquares twoTypes leftCorner star squareTwice
 openedBoards = 0
 
 -- The paper prints the bytes of one job; the others are put together the same way.

@@ -111,16 +111,20 @@ answerTo q = answerUnder 0 q
 
 -- ---- Jobs
 
--- A job of class records, a board with step 1, and so many types in their bytes: the sections in this order, then the trailer.
-unfoldable pub jobOf : ℕ → ℕ → List ℕ → ℕ → List ℕ → List ℕ
-jobOf w l classes types ts =
+-- A job of class records, a board of this width, length and step, and so many types in their bytes: the sections in this order, then the trailer.
+unfoldable pub jobOn : List ℕ → List ℕ → ℕ → List ℕ → List ℕ
+jobOn board classes types ts =
     classes
-    ++ bytesOf 2 (w ∷ l ∷ 1 ∷ [])
+    ++ bytesOf 2 board
     ++ ts
     ++ bytesOf 2 (length classes ∷ 0 ∷ (length classes + 6) ∷ length ts ∷ [])
     ++ ((length classes / 3) ∷ types ∷ [])
     ++ bytes 2 (length classes + length ts + 20)
     ++ (0x44 ∷ 0x42 ∷ [])
+
+-- "step 1 unless said"
+unfoldable pub jobOf : ℕ → ℕ → List ℕ → ℕ → List ℕ → List ℕ
+jobOf w l classes types ts = jobOn (w ∷ l ∷ 1 ∷ []) classes types ts
 
 -- "turn mask 1": squares as a type, with this demand and class mask.
 unfoldable pub squareOf : ℕ → ℕ → List ℕ
@@ -440,18 +444,24 @@ roundConflicts =
 unfoldable pub slantingJob : ℕ → List ℕ
 slantingJob gap = jobOf 9 9 (0 ∷ 0 ∷ gap ∷ []) 2 ((1 ∷ 1 ∷ 1 ∷ 1 ∷ 3 ∷ 0 ∷ 0 ∷ 8 ∷ 0 ∷ 0 ∷ 6 ∷ []) ++ squareOf 1 1)
 
+-- Two plates (0,0) (2,0) (2,1) (0,1) in a class of this gap, W 6, L 7, step 5: they have four places, the dots (0,0), (0,5), (5,0) and (5,5). Those beside each other are 3
+-- apart, those above each other 4, and those across 5: 3 along and 4 up.
+unfoldable pub plates : ℕ → List ℕ
+plates gap = jobOn (6 ∷ 7 ∷ 5 ∷ []) (0 ∷ 0 ∷ gap ∷ []) 1 (2 ∷ 1 ∷ 1 ∷ 1 ∷ 4 ∷ 0 ∷ 0 ∷ 2 ∷ 0 ∷ 2 ∷ 1 ∷ 0 ∷ 1 ∷ [])
+
 -- "All comparisons of conflict and of shortest use the round measure from here": row, check and run.
 unfoldable pub roundServices : List Marked
 roundServices =
-    -- Of the 42 places of a square at gap 5, W 8, L 7, all but (5,6), number 204, are in conflict with (0,0).
-    (rows (gapSquares 5 8 7) 0 ⇒ shows (W.Count 5) (1229782933683900689 ∷ 1229781770016198912 ∷ 1229483871084544017 ∷ 273 ∷ 0 ∷ []))
+    -- The numbers of the four places are 0, 4, 8 and 12. At gap 5 the last one is not in conflict with the first, at gap 6 it is.
+    (rows (plates 5) 0 ⇒ shows (W.Count 1) (273 ∷ []))
+    ∷ (rows (plates 6) 0 ⇒ shows (W.Count 1) (4369 ∷ []))
+    ∷ (checks (plates 5) (0 ∷ 0 ∷ 0 ∷ 0 ∷ 0 ∷ 1 ∷ 1 ∷ 0 ∷ []) ⇒ finds (C.Passes 7))
+    ∷ (checks (plates 6) (0 ∷ 0 ∷ 0 ∷ 0 ∷ 0 ∷ 1 ∷ 1 ∷ 0 ∷ []) ⇒ finds (C.Refused 11))
     ∷ (checks (slantingJob 5) (0 ∷ 0 ∷ 0 ∷ 0 ∷ 1 ∷ 7 ∷ 7 ∷ 0 ∷ []) ⇒ finds (C.Passes 9))
     ∷ (checks (slantingJob 6) (0 ∷ 0 ∷ 0 ∷ 0 ∷ 1 ∷ 7 ∷ 7 ∷ 0 ∷ []) ⇒ finds (C.Refused 11))
     ∷ (checks (slantingJob 5) (0 ∷ 0 ∷ 0 ∷ 0 ∷ 1 ∷ 6 ∷ 7 ∷ 0 ∷ []) ⇒ finds (C.Refused 11))
-    -- Two squares at gap 5, W 8: rows 0 to 6. At L 7, columns 0 to 5, only (0,0) with (5,6) and (0,6) with (5,0) are far enough apart. The first pair takes two steps, and the
-    -- second is no shorter: after that each other candidate for the first square that ends below 7, columns 0 to 4, is a step that look-ahead gives back, 34 more. (By the square
-    -- measure: none.)
-    ∷ (runs (gapSquares 5 8 7) 1000000 ⇒ says (Shortest 7 36) true (0 ∷ 0 ∷ 0 ∷ 0 ∷ 0 ∷ 5 ∷ 6 ∷ 0 ∷ []))
-    -- At L 6 the columns 0 to 4: no two are far enough apart. Each candidate is a step.
-    ∷ (runs (gapSquares 5 8 6) 1000000 ⇒ says (Infeasible 35) true untouched)
+    -- At gap 5 the plates stand across, which takes two steps; the place (0,5) for the first plate is one more step, which look-ahead gives back, and the others are not
+    -- shorter. (By the square measure: none.) At gap 6 each place is a step.
+    ∷ (runs (plates 5) 1000000 ⇒ says (Shortest 7 3) true (0 ∷ 0 ∷ 0 ∷ 0 ∷ 0 ∷ 1 ∷ 1 ∷ 0 ∷ []))
+    ∷ (runs (plates 6) 1000000 ⇒ says (Infeasible 4) true untouched)
     ∷ []
