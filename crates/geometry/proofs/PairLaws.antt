@@ -2,7 +2,7 @@
 use mathlib.Core.Bool.{Bool, true, false, cond, _&&_, _||_, and-true, and-false, and-comm, and-assoc}
 use mathlib.Core.List.{[], _∷_, map}
 use mathlib.Core.Path.{_≡_, refl, sym, ap, ap₂, subst, _∙_}
-use Prim.Native.Nat.{ℕ, _<_}
+use Prim.Native.Nat.{ℕ, _≤_, _<_}
 use native.Mathlib.Omega.{arith}
 use lib.Dec.{eqb}
 use lib.IntN.{ℤ, pos, _+ℤ_, _-ℤ_, _*ℤ_}
@@ -27,7 +27,7 @@ use Rattle.geometry.specs.Apart.{bothClear, besideOf}
 use Rattle.geometry.specs.Directions.{separatesMoved, Separating}
 use Rattle.geometry.specs.Compact.{Spared}
 use Rattle.geometry.proofs.DistanceLaws.{one-corner}
-use Rattle.geometry.proofs.EdgeLaws.{some-normal}
+use Rattle.geometry.proofs.EdgeLaws.{no-normal, some-normal}
 
 -- ---- the normals
 
@@ -131,9 +131,11 @@ module _ (gap : ℕ) (P Q : Part) (dx dy : ℤ) (someP : 0 < length P) (someQ : 
 
 module _ (gap : ℕ) (P Q : Part) (dx dy : ℤ) where
   -- none of them separates
-  pub beside-none : any (separatesMoved P Q (vertex dx dy)) (normals P) ≡ false → 0 ≡ besideOf gap P Q dx dy
+  pub beside-none : (k : ℕ) → Separating P Q (vertex dx dy) k → length P ≤ k → 0 ≡ besideOf gap P Q dx dy
   unfolding besideOf
-  beside-none e = rw e
+  beside-none k s h =
+      let e : any (separatesMoved P Q (vertex dx dy)) (normals P) ≡ false = no-normal (separatesMoved P Q (vertex dx dy)) P (λ j g. s .earlier j (omega arith)) in
+      rw e
 
   -- edge k does, and the distances decide
   pub beside-some : (k : ℕ) → Separating P Q (vertex dx dy) k → k < length P → (b : Bool) → b ≡ bothClear gap P (map (shifted dx dy) Q) → cond b 1 2 ≡ besideOf gap P Q dx dy

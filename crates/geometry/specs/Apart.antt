@@ -11,7 +11,7 @@ use Rattle.polygons.specs.Flat.{shifted}
 use Rattle.geometry.specs.Directions.{separatesMoved}
 use Rattle.polygons.specs.declared.extents.Extents.{Extents}
 
--- What ends at high and is moved by from separatesMoved, by the gap, what begins at low and is moved by to.
+-- What ends at high and is moved by from clears, by the gap, what begins at low and is moved by to.
 abbrev pub clearOf : ℕ → ℤ → ℤ → ℤ → ℤ → Bool
 clearOf gap high from low to = leZ (high +ℤ from +ℤ pos gap) (low +ℤ to)
 

@@ -8,18 +8,19 @@ use lib.IntN.{ℤ, natAbs, _+ℤ_}
 use lib.ListN.{length}
 use lib.Signed.{leZ}
 use Rattle.model.specs.Content.{Vertex, Part}
-use Rattle.model.specs.Geometry.{Direction, normals, along}
-use Rattle.model.specs.Lists.{any, largestZ, smallestZ}
+use Rattle.model.specs.Geometry.{Direction, along}
+use Rattle.model.specs.Lists.{largestZ, smallestZ}
 use Rattle.polygons.specs.Flat.{normalOf}
 
 -- d separates P from Q moved by e.
 unfoldable pub separatesMoved : Part → Part → Vertex → Direction → Bool
 separatesMoved P Q e d = leZ (largestZ (map (along d) P)) (smallestZ (map (along d) Q) +ℤ along d e)
 
--- Edge k is one of P's, and its normal separates P from Q moved by e; or k is as many as P has edges, and no normal does.
+-- k is the first edge of P whose normal separates P from Q moved by e; as many as P has edges, where none does.
 pub record Separating (P Q : Part) (e : Vertex) (k : ℕ) : Type 0 where
+  pub most : k ≤ length P
+  pub earlier : (j : ℕ) → j < k → separatesMoved P Q e (normalOf P j) ≡ false
   pub found : k < length P → separatesMoved P Q e (normalOf P k) ≡ true
-  pub none : length P ≤ k → any (separatesMoved P Q e) (normals P) ≡ false
 
 -- A result and a bound of its size, so that a caller can add to it.
 pub record Small (z : ℤ) (k : ℕ) (r : ℤ) : Type 0 where

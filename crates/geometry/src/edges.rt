@@ -1,6 +1,6 @@
 // The edges of a part, and the tests whether the normal of one of them separates it from another part.
 ghost use mathlib.Core.Path.{_≡_};
-ghost use Prim.Native.Nat.{_+_, _*_, _/_, _≤_, _<_};
+ghost use Prim.Native.Nat.{_+_, _*_, _<_};
 ghost use lib.IntN.{_-ℤ_};
 ghost use lib.ListN.{length};
 ghost use Rattle.model.specs.Content.{vertex};
@@ -33,7 +33,7 @@ pub fn next_vertex(p: &[i16], k: usize) -> usize
 // the normal than the edge's own, so that one is asked first: a normal that does not separate is given up at the first vertex of q that does not lie beyond it. p need not be
 // sound, so a normal that passes is tried against every vertex of p.
 pub fn separating_edge(p: &[i16], q: &[i16], dx: i16, dy: i16) -> usize
-    ensures { λ r. ⌜ (r ≤ length (now (p .entry)) / 2) × Separating (partOf (now (p .entry))) (partOf (now (q .entry))) (vertex dx dy) r ⌝ }
+    ensures { λ r. ⌜ Separating (partOf (now (p .entry))) (partOf (now (q .entry))) (vertex dx dy) r ⌝ }
 {
     let n = p.len() / 2;
     let mut k: usize = 0;

@@ -19,7 +19,7 @@ use crate::edges::next_vertex;
 use crate::edges::separating_edge;
 use polygons::extents::Extents;
 
-// Whether what ends at `high` and is moved by `from` separatesMoved, by the gap, what begins at `low` and is moved by `to`.
+// Whether what ends at `high` and is moved by `from` clears, by the gap, what begins at `low` and is moved by `to`.
 fn clear_of(high: i16, from: i16, low: i16, to: i16, gap: u16) -> bool
     ensures { λ r. ⌜ r ≡ clearOf gap high from low to ⌝ }
 {

@@ -23,7 +23,7 @@ use Rattle.model.specs.Lists.{largestZ, smallestZ}
 use Rattle.polygons.specs.Flat.{partOf, normalOf}
 use Rattle.polygons.proofs.Flat.{part-length}
 use Rattle.geometry.specs.Directions.{separatesMoved, Separating}
-use Rattle.geometry.proofs.EdgeLaws.{normal-at, no-normal, all-within, one-beyond, one-within, refuted}
+use Rattle.geometry.proofs.EdgeLaws.{normal-at, all-within, one-beyond, one-within, refuted}
 use Rattle.geometry.proofs.Sizes.{less-fits, less-gives, more-fits, more-gives}
 use Rattle.geometry.proofs.edges.separating_edge.Statement.{statement}
 use Rattle.geometry.proofs.edges.separating_edge.Tie as tie
@@ -199,23 +199,21 @@ answer c k s = subst (λ (e : Vertex). Separating (first c) (second c) e k) (is-
 
 returns : tie.Need-returns Inv-loop μ-loop Inv-directions μ-directions
 returns c =
-    let n = part-length (now (c .before .before .args .p)) in (
-      omega (arith, c .before .directions .inv .0, c .before .directions .inv .1),
-      answer (c .before .before) (c .before .directions .k) (record {
-        found = λ h. absurd (omega arith);
-        none = λ h. no-normal (test (c .before .before)) (first (c .before .before)) (λ j g. c .before .directions .inv .2 j (omega arith));
-      }),
-    )
+    let n = part-length (now (c .before .before .args .p)) in
+    answer (c .before .before) (c .before .directions .k) (record {
+      most = omega (arith, c .before .directions .inv .0, c .before .directions .inv .1);
+      earlier = c .before .directions .inv .2;
+      found = λ h. absurd (omega arith);
+    })
 
 returns-2 : tie.Need-returns-2 Inv-loop μ-loop Inv-directions μ-directions
 returns-2 c =
-    let n = part-length (now (c .before .before .before .before .before .before .before .before .before .before .before .before .before .before .args .p)) in (
-      omega (arith, c .before .before .before .before .before .before .before .before .before .before .before .before .before .directions .inv .0, c .before .before .before .before .before .before .before .before .before .before .before .before .before .directions .inv .1),
-      answer (c .before .before .before .before .before .before .before .before .before .before .before .before .before .before) (c .before .before .before .before .before .before .before .before .before .before .before .before .before .directions .k) (record {
-        found = λ h. verdict (c .before .before .before .before .before .before .before .before .before) true (ap (leZ (far (c .before .before .before .before .before .before .before .before .before))) (sym (is-bound (c .before .before .before .before))) ∙ all-within (along (bearing (c .before .before .before .before .before .before .before .before .before))) (first (c .before .before .before .before .before .before .before .before .before .before .before .before .before .before)) (bound (c .before .before .before .before)) (omega arith) (λ j g. kept (c .before) j (omega arith)));
-        none = λ h. absurd (omega (arith, c .before .before .before .before .before .before .before .before .before .before .before .before .directions-test .taken));
-      }),
-    )
+    let n = part-length (now (c .before .before .before .before .before .before .before .before .before .before .before .before .before .before .args .p)) in
+    answer (c .before .before .before .before .before .before .before .before .before .before .before .before .before .before) (c .before .before .before .before .before .before .before .before .before .before .before .before .before .directions .k) (record {
+      most = omega (arith, c .before .before .before .before .before .before .before .before .before .before .before .before .before .directions .inv .0, c .before .before .before .before .before .before .before .before .before .before .before .before .before .directions .inv .1);
+      earlier = c .before .before .before .before .before .before .before .before .before .before .before .before .before .directions .inv .2;
+      found = λ h. verdict (c .before .before .before .before .before .before .before .before .before) true (ap (leZ (far (c .before .before .before .before .before .before .before .before .before))) (sym (is-bound (c .before .before .before .before))) ∙ all-within (along (bearing (c .before .before .before .before .before .before .before .before .before))) (first (c .before .before .before .before .before .before .before .before .before .before .before .before .before .before)) (bound (c .before .before .before .before)) (omega arith) (λ j g. kept (c .before) j (omega arith)));
+    })
 
 pub separating-edge-spec : {M : Type 1} → statement M
 separating-edge-spec =

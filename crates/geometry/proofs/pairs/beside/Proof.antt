@@ -28,10 +28,10 @@ second c = partOf (now (c .args .q))
 found : (c : tie.After-separating-edge) → Separating (first (c .before)) (second (c .before)) (vertex (c .before .args .dx) (c .before .args .dy)) (c .separating-edge .result)
 found c =
     subst (λ (e : Vertex). Separating (first (c .before)) (second (c .before)) e (c .separating-edge .result))
-    (λ i. vertex (toZ-ofZ w16 (c .before .args .dx) (c .before .fits .dx) i) (toZ-ofZ w16 (c .before .args .dy) (c .before .fits .dy) i)) (c .separating-edge .ensures .1)
+    (λ i. vertex (toZ-ofZ w16 (c .before .args .dx) (c .before .fits .dx) i) (toZ-ofZ w16 (c .before .args .dy) (c .before .fits .dy) i)) (c .separating-edge .ensures)
 
 one : (c : tie.After-clear-beside) → c .before .before .separating-edge .result < length (first (c .before .before .before))
-one c = omega (arith, c .before .before .separating-edge .ensures .0, c .before .if1 .left, part-length (now (c .before .before .before .args .p)))
+one c = omega (arith, c .before .before .separating-edge .ensures .most, c .before .if1 .left, part-length (now (c .before .before .before .args .p)))
 
 distances : (c : tie.After-clear-beside) → c .clear-beside .result ≡ bothClear (c .before .before .before .args .gap) (first (c .before .before .before)) (map (shifted (c .before .before .before .args .dx) (c .before .before .before .args .dy)) (second (c .before .before .before)))
 distances c =
@@ -43,11 +43,12 @@ separating-edge-requires c κs = tt
 
 returns : tie.Need-returns
 returns c =
-    beside-none (c .before .before .args .gap) (first (c .before .before)) (second (c .before .before)) (c .before .before .args .dx) (c .before .before .args .dy) (found (c .before) .none (omega (arith, c .if1 .taken, part-length (now (c .before .before .args .p)))))
+    let n = part-length (now (c .before .before .args .p)) in
+    beside-none (c .before .before .args .gap) (first (c .before .before)) (second (c .before .before)) (c .before .before .args .dx) (c .before .before .args .dy) (c .before .separating-edge .result) (found (c .before)) (omega (arith, c .if1 .taken))
 
 clear-beside-requires : tie.Need-clear-beside-requires
-clear-beside-requires c κs = (
-  (omega (arith, c .before .separating-edge .ensures .0, c .if1 .left), c .before .before .pre .0 .1),
+clear-beside-requires c κs = let n = part-length (now (c .before .before .args .p)) in (
+  (omega (arith, c .before .separating-edge .ensures .most, c .if1 .left), c .before .before .pre .0 .1),
   ((rw (toZ-ofZ w16 (c .before .before .args .dx) (c .before .before .fits .dx)) (c .before .before .pre .1 .0 .0), rw (toZ-ofZ w16 (c .before .before .args .dy) (c .before .before .fits .dy)) (c .before .before .pre .1 .0 .1)), c .before .before .pre .1 .1),
 )
 
