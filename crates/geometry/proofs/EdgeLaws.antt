@@ -1,25 +1,28 @@
 -- The edges of a part one after the other, and the vertices of a part against a limit along a direction. Assumes nothing.
 use mathlib.Core.Bool.{Bool, true, false}
 use mathlib.Core.List.{[], _∷_, map}
-use mathlib.Core.Path.{_≡_, refl, sym, ap, _∙_}
+use mathlib.Core.Path.{_≡_, refl, sym, ap, subst, _∙_}
 use Prim.Native.Nat.{ℕ, suc, _+_, _<_}
 use native.Mathlib.Numerals.{add-one}
 use native.Mathlib.Omega.{arith}
-use lib.IntN.{ℤ, pos, negℤ, _+ℤ_, _-ℤ_, +ℤ-idl, negℤ-negℤ}
+use lib.IntN.{ℤ, pos, _+ℤ_, _-ℤ_, _*ℤ_}
 use lib.ListN.{length, getD}
 use lib.Signed.{leZ, _≤ℤ_, _<ℤ_, ≤ℤ-refl}
 use Rattle.integers.proofs.Certificates.{order, _⊢_by_, hyp, _⊕_}
-use Rattle.integers.proofs.Order.{leZ-true, leZ-false, le-leZ, lt-leZ, clash}
-use Rattle.integers.proofs.Solver.{_⊞_, _⊟_, _≲_, _≺_}
+use Rattle.integers.proofs.Order.{leZ-true, leZ-false, le-leZ, lt-leZ, clash, ≤ℤ-antisym}
+use Rattle.integers.proofs.Solver.{#, _⊞_, _⊟_, _⊠_, _≲_, _≺_}
 use Rattle.model.specs.Content.{Vertex, Part, origin}
-use Rattle.model.specs.Geometry.{Direction, direction, vertexAt, following, outwardNormal, normals, negated, along}
+use Rattle.model.specs.Geometry.{Direction, direction, vertexAt, following, outwardNormal, normals, along}
 use Rattle.model.specs.Lists.{any, below, largestZ, smallestZ}
 use Rattle.model.proofs.Box.{all-above, all-below-bound}
-use Rattle.model.proofs.Conflict.{smallest-opposite}
 use Rattle.model.proofs.Lists.{all-at, all-of}
 use Rattle.model.proofs.Tests.{any-map}
 use Rattle.convexity.proofs.Members.{in-any, in-none, in-below, below-in}
-use Rattle.convexity.proofs.Places.{following-step, following-last}
+use Rattle.convexity.specs.Parts.{SoundPart}
+use Rattle.convexity.proofs.Clear.{good}
+use Rattle.convexity.proofs.Edges.{areaE}
+use Rattle.convexity.proofs.Places.{edgeAt, in-edges, in-part, following-step, following-last}
+use Rattle.convexity.proofs.Separation.{out-nz}
 use Rattle.polygons.specs.Flat.{normalOf}
 
 -- ---- the edges
@@ -69,16 +72,6 @@ module _ (f : Vertex → ℤ) (P : Part) where
   unfolding vertexAt
   all-within z h g = sym (all-below-bound f P h z) ∙ all-of (λ v. leZ (f v) z) P origin (λ j k. le-leZ (f (getD P j origin)) z (g j k))
 
-  -- one vertex exceeds it, so the largest does
-  pub one-beyond : (z : ℤ) (j : ℕ) → j < length P → z <ℤ f (vertexAt P j) → leZ (largestZ (map f P)) z ≡ false
-  unfolding vertexAt
-  one-beyond z j k b = go (leZ (largestZ (map f P)) z) refl
-    where
-      go : (t : Bool) → leZ (largestZ (map f P)) z ≡ t → leZ (largestZ (map f P)) z ≡ false
-      go false e = e
-      go true e =
-          absurd (clash (leZ-true (f (getD P j origin)) z (all-at (λ v. leZ (f v) z) P origin (all-below-bound f P (omega arith) z ∙ e) j k)) b)
-
   -- no vertex exceeds the largest
   pub one-within : (j : ℕ) → j < length P → f (vertexAt P j) ≤ℤ largestZ (map f P)
   unfolding vertexAt
@@ -86,23 +79,35 @@ module _ (f : Vertex → ℤ) (P : Part) where
       let z : ℤ = largestZ (map f P) in
       leZ-true (f (getD P j origin)) z (all-at (λ v. leZ (f v) z) P origin (all-below-bound f P (omega arith) z ∙ le-leZ z z (≤ℤ-refl z)) j k)
 
--- of no vertex the least is 0
-pub least-of-none : (f : Vertex → ℤ) (P : Part) (z : ℤ) → length P ≡ 0 → leZ z (pos 0) ≡ leZ z (smallestZ (map f P))
-unfolding smallestZ
-least-of-none f [] z h = refl
-least-of-none f (v ∷ P) z h = let never : ⊥ = omega arith in absurd never
-
--- the most along a direction is the opposite of the least along the opposite one
-pub opposite-least : (a b : ℤ) (P : Part) → pos 0 -ℤ smallestZ (map (along (direction (pos 0 -ℤ a) (pos 0 -ℤ b))) P) ≡ largestZ (map (along (direction a b)) P)
-unfolding negated
-opposite-least a b P =
-    ap (λ (d : Direction). pos 0 -ℤ smallestZ (map (along d) P)) (λ i. direction (+ℤ-idl (negℤ a) i) (+ℤ-idl (negℤ b) i))
-    ∙ ap (λ z. pos 0 -ℤ z) (smallest-opposite (direction a b) P)
-    ∙ +ℤ-idl (negℤ (negℤ (largestZ (map (along (direction a b)) P))))
-    ∙ negℤ-negℤ (largestZ (map (along (direction a b)) P))
-
 -- a vertex that is too near already refutes the direction, since the furthest is no nearer
 pub refuted : (near far way low : ℤ) → near ≤ℤ far → leZ (near -ℤ way) low ≡ false → leZ far (low +ℤ way) ≡ false
 refuted near far way low h e =
     lt-leZ far (low +ℤ way)
     (order 4 (λ n f w l. (n ≲ f) ∷ (l ≺ n ⊟ w) ∷ [] ⊢ l ⊞ w ≺ f by hyp 0 ⊕ hyp 1) tt near far way low h (leZ-false (near -ℤ way) low e))
+
+-- and where the furthest is no further, it is all that is asked
+pub confirmed : (near far way low : ℤ) → far ≡ near → leZ (near -ℤ way) low ≡ true → leZ far (low +ℤ way) ≡ true
+confirmed near far way low h e =
+    ap (λ z. leZ z (low +ℤ way)) h
+    ∙ le-leZ near (low +ℤ way) (order 3 (λ n w l. (n ⊟ w ≲ l) ∷ [] ⊢ n ≲ l ⊞ w by hyp 0) tt near way low (leZ-true (near -ℤ way) low e))
+
+-- ---- the edges of a sound part
+
+-- the normal of edge k
+module _ (P : Part) (isSound : SoundPart P) (k : ℕ) (h : k < length P) where
+  no-further : (j : ℕ) → j < length P → along (normalOf P k) (vertexAt P j) ≤ℤ along (normalOf P k) (vertexAt P k)
+  unfolding along normalOf outwardNormal
+  no-further j l =
+      order 6 (λ px py qx qy rx ry. (# (pos 0) ≲ areaE px py qx qy rx ry) ∷ [] ⊢ (qy ⊟ py) ⊠ rx ⊞ (px ⊟ qx) ⊠ ry ≲ (qy ⊟ py) ⊠ px ⊞ (px ⊟ qx) ⊠ py by hyp 0) tt
+      (vertexAt P k .x) (vertexAt P k .y) (vertexAt P (following P k) .x) (vertexAt P (following P k) .y) (vertexAt P j .x) (vertexAt P j .y)
+      (good isSound .weak (edgeAt P k) (vertexAt P j) (in-edges P k h) (in-part P j l))
+
+  -- no vertex lies further along it than the edge's own
+  pub own-furthest : largestZ (map (along (normalOf P k)) P) ≡ along (normalOf P k) (vertexAt P k)
+  own-furthest =
+      ≤ℤ-antisym (leZ-true _ _ (all-within (along (normalOf P k)) P (along (normalOf P k) (vertexAt P k)) (omega arith) no-further)) (one-within (along (normalOf P k)) P k h)
+
+  -- it is not (0, 0)
+  pub normal-some : normalOf P k ≡ direction (pos 0) (pos 0) → ⊥
+  unfolding normalOf outwardNormal
+  normal-some e = clash (≤ℤ-refl (pos 0)) (subst (λ (d : Direction). pos 0 <ℤ (d .a *ℤ d .a +ℤ d .b *ℤ d .b)) e (out-nz P (good isSound) (edgeAt P k) (in-edges P k h)))

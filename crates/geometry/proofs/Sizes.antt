@@ -5,7 +5,7 @@ use Prim.Native.Nat.{ℕ, suc, _+_, _≤_, _<_, _^_}
 use native.Mathlib.Nat.{le-trans, le-suc, le-of-eq, le-of-lt, lt-of-le-of-lt, lt-of-lt-of-le, zero-add, pow-succ'}
 use native.Mathlib.Omega.{arith}
 use lib.Dec.{T, leb, leb→le, lit<, lit≤}
-use lib.IntN.{ℤ, pos, negsuc, negℤ, natAbs, _+ℤ_, _-ℤ_, _*ℤ_, +ℤ-idl}
+use lib.IntN.{ℤ, pos, negsuc, negℤ, natAbs, _+ℤ_, _-ℤ_, _*ℤ_}
 use lib.Pow.{pow-mono}
 use lib.Signed.{natAbs-le, _≤ℤ_, _<ℤ_}
 use mir.Syntax.{Width, w16, w32, w64}
@@ -62,11 +62,6 @@ module _ {u v : ℤ} {k : ℕ} {x y : ℤ} (h : Small u k x) (g : Small v k y) w
   small-difference =
       record { value = λ i. h .value i -ℤ g .value i; size = both (natAbs (x -ℤ y)) (le-trans (natAbs-+ℤ x (negℤ y)) (le-of-eq (ap (λ n. natAbs x + n) (natAbs-negℤ y)))) }
 
--- the opposite of one
-pub small-opposite : {v : ℤ} {k : ℕ} {r : ℤ} → Small v k r → Small (pos 0 -ℤ v) k (pos 0 -ℤ r)
-small-opposite {v} {k} {r} h =
-    record { value = ap (λ z. pos 0 -ℤ z) (h .value); size = subst (λ n. n ≤ 2 ^ k) (sym (ap natAbs (+ℤ-idl (negℤ r)) ∙ natAbs-negℤ r)) (h .size) }
-
 -- ---- a × x + b × y
 
 pub dot-small : {a b x y r : ℤ} → SFits w32 a → SFits w32 b → SFits w16 x → SFits w16 y
@@ -117,13 +112,6 @@ module _ {N M n m : ℤ} (hn : Small N 47 n) (hm : Small M 47 m) where
 
   pub less-gives : read (read n -ℤ read m) ≡ N -ℤ M
   less-gives = op-gives (small-read hn tt) (small-read hm tt) _-ℤ_ (small-fits (small-difference hn hm) tt) ∙ small-difference hn hm .value
-
-  -- and a place with a move
-  pub more-fits : SFits w64 (read n +ℤ read m)
-  more-fits = op-fits (small-read hn tt) (small-read hm tt) _+ℤ_ (small-fits (small-sum hn hm) tt)
-
-  pub more-gives : read (read n +ℤ read m) ≡ N +ℤ M
-  more-gives = op-gives (small-read hn tt) (small-read hm tt) _+ℤ_ (small-fits (small-sum hn hm) tt) ∙ small-sum hn hm .value
 
 -- a number as it stands in a local
 module _ {k : ℕ} {N n : ℤ} (t : T (leb k 62)) (h : Small N k n) where

@@ -4,16 +4,14 @@ ghost use mathlib.Core.Path.{_≡_};
 ghost use Prim.Native.Nat.{_+_, _*_, _<_};
 ghost use lib.IntN.{natAbs, pos};
 ghost use lib.ListN.{length};
-ghost use lib.Signed.{leZ};
 ghost use Rattle.integers.specs.Extrema.{minZ};
 ghost use Rattle.model.specs.Content.{vertex};
 ghost use Rattle.model.specs.Geometry;
 ghost use Rattle.model.specs.Geometry.{direction, vertexAt};
-ghost use Rattle.model.specs.Lists.{largestZ, smallestZ};
+ghost use Rattle.model.specs.Lists.{smallestZ};
 ghost use Rattle.convexity.specs.Square.{clearance};
 ghost use Rattle.polygons.specs.Flat.{partOf};
 ghost use Rattle.geometry.specs.Directions.{Small};
-ghost use Rattle.geometry.specs.Compact.{Short};
 use integers::dot;
 use polygons::vertices::coordinate;
 
@@ -68,30 +66,4 @@ pub fn lowest(p: &[i16], a: i32, b: i32) -> i64
         k += 1;
     }
     least
-}
-
-// Whether no vertex of the part lies less far along (a, b) than `limit`. The first that does ends the test. (Of no vertex the least is 0.)
-pub fn lies_beyond(p: &[i16], a: i32, b: i32, limit: i64) -> bool
-    ensures { λ r. ⌜ r ≡ leZ limit (smallestZ (map (Geometry.along (direction a b)) (partOf (now (p .entry))))) ⌝ }
-{
-    let n = p.len() / 2;
-    if n == 0 {
-        return limit <= 0;
-    }
-    let mut k: usize = 0;
-    while k < n {
-        if vertex_along(p, k, a, b) < limit {
-            return false;
-        }
-        k += 1;
-    }
-    true
-}
-
-// The most that a vertex of the part lies along (a, b); 0 if it has none.
-pub fn highest(p: &[i16], a: i32, b: i32) -> i64
-    requires { ⌜ Short 65536 a b ⌝ }
-    ensures { λ r. ⌜ Small (largestZ (map (Geometry.along (direction a b)) (partOf (now (p .entry))))) 47 r ⌝ }
-{
-    0 - lowest(p, 0 - a, 0 - b)
 }

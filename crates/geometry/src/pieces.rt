@@ -6,6 +6,7 @@ ghost use Prim.Native.Nat.{_+_, _*_, _≤_, _<_};
 ghost use lib.ListN.{length, getD};
 ghost use Rattle.model.specs.Geometry;
 ghost use Rattle.model.specs.Geometry.{piecesConflict};
+ghost use Rattle.convexity.specs.Parts.{SoundPart};
 ghost use Rattle.polygons.specs.Flat.{shifted};
 ghost use Rattle.geometry.specs.Compact.{Compact, Short};
 ghost use Rattle.geometry.specs.Pieces.{Fitting, Standing, partIn, boxIn, partsIn, partConflicts};
@@ -64,6 +65,7 @@ fn not_separated(
     gap: u16,
 ) -> bool
     requires { ⌜ ((Fitting p × (i < p .count)) × (Fitting q × (m < q .count))) × (length (now table) ≡ 4096) ⌝ }
+    requires { ⌜ SoundPart (partIn (now table) p i) × SoundPart (partIn (now table) q m) ⌝ }
     requires { ⌜ Short 4096 dx dy × (Compact (partIn (now table) p i) × Compact (partIn (now table) q m)) ⌝ }
     ensures { λ r. ⌜ r ≡ not (Geometry.separated gap (partIn (now (table .entry)) p i) (map (shifted dx dy) (partIn (now (table .entry)) q m))) ⌝ }
 {

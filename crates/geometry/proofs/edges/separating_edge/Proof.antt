@@ -1,9 +1,7 @@
--- `geometry::edges::separating_edge` meets its contract: the outer loop has tried the edges before k, and none of their normals separates. The edge's own vertex refutes a normal if q does not lie
--- beyond it; otherwise the inner loop has found no vertex before i beyond the limit. A vertex beyond it gives the direction up; when there is none, the direction separates and the label is
--- left. Assumes nothing.
+-- `geometry::edges::separating_edge` meets its contract: the outer loop has tried the edges before k, and none of their normals separates. The inner loop has found no vertex of q before i that lies
+-- before the limit. A vertex that does gives the direction up; when there is none, the direction separates and the label is left. Assumes nothing.
 use mathlib.Core.Bool.{Bool, true, false}
 use mathlib.Core.List.{map}
-use mathlib.Core.Logic.{⊎-elim}
 use mathlib.Core.Path.{_≡_, refl, sym, _∙_, ap, subst}
 use Prim.Native.Nat.{ℕ, _+_, _-_, _/_, _≤_, _<_, zero-le}
 use native.Mathlib.Omega.{arith}
@@ -23,23 +21,23 @@ use Rattle.model.specs.Lists.{largestZ, smallestZ}
 use Rattle.polygons.specs.Flat.{partOf, normalOf}
 use Rattle.polygons.proofs.Flat.{part-length}
 use Rattle.geometry.specs.Directions.{separatesMoved, Separating}
-use Rattle.geometry.proofs.EdgeLaws.{normal-at, all-within, one-beyond, one-within, refuted}
-use Rattle.geometry.proofs.Sizes.{less-fits, less-gives, more-fits, more-gives}
+use Rattle.geometry.proofs.EdgeLaws.{normal-at, all-beyond, one-before, one-within, own-furthest, refuted, confirmed}
+use Rattle.geometry.proofs.Sizes.{less-fits, less-gives}
 use Rattle.geometry.proofs.edges.separating_edge.Statement.{statement}
 use Rattle.geometry.proofs.edges.separating_edge.Tie as tie
 
 abbrev Inv-loop : tie.InvT-loop
-Inv-loop p q dx dy n k m a b way limit i₀ i = (i < n) × ((j : ℕ) → j < i → along (direction (toZ w32 a) (toZ w32 b)) (vertexAt (partOf p) j) ≤ℤ toZ w64 limit)
+Inv-loop p q dx dy n count k m a b limit i₀ i = (i < count) × ((j : ℕ) → j < i → toZ w64 limit ≤ℤ along (direction (toZ w32 a) (toZ w32 b)) (vertexAt (partOf q) j))
 
 abbrev μ-loop : tie.MeasureT-loop
-μ-loop p q dx dy n k m a b way limit i₀ i = n - i
+μ-loop p q dx dy n count k m a b limit i₀ i = count - i
 
 abbrev Inv-directions : tie.InvT-directions
-Inv-directions p q dx dy n k₀ k =
-    (n ≡ length p / 2) × (k ≤ n) × ((j : ℕ) → j < k → separatesMoved (partOf p) (partOf q) (vertex (toZ w16 dx) (toZ w16 dy)) (normalOf (partOf p) j) ≡ false)
+Inv-directions p q dx dy n count k₀ k =
+    (n ≡ length p / 2) × (count ≡ length q / 2) × (k ≤ n) × ((j : ℕ) → j < k → separatesMoved (partOf p) (partOf q) (vertex (toZ w16 dx) (toZ w16 dy)) (normalOf (partOf p) j) ≡ false)
 
 abbrev μ-directions : tie.MeasureT-directions
-μ-directions p q dx dy n k₀ k = n - k
+μ-directions p q dx dy n count k₀ k = n - k
 
 -- ---- what is known of one direction
 
@@ -75,6 +73,10 @@ way c = along (bearing c) (offset (c .before .before .before .before .before))
 abbrev low : (c : tie.After-difference2 Inv-loop μ-loop Inv-directions μ-directions) → ℤ
 low c = smallestZ (map (along (bearing c)) (second (c .before .before .before .before .before)))
 
+-- the edge is one of p
+inside : (c : tie.After-difference2 Inv-loop μ-loop Inv-directions μ-directions) → edge (c .before .before .before .before) < length (first (c .before .before .before .before .before))
+inside c = omega (arith, c .before .before .before .before .directions .inv .0, c .before .before .before .directions-test .taken, part-length (now (c .before .before .before .before .before .args .p)))
+
 -- the direction is the edge's normal
 is-normal : (c : tie.After-difference2 Inv-loop μ-loop Inv-directions μ-directions) → bearing c ≡ normalOf (first (c .before .before .before .before .before)) (edge (c .before .before .before .before))
 unfolding outwardNormal
@@ -92,34 +94,32 @@ verdict c b e = ap (test (c .before .before .before .before .before)) (sym (is-n
 is-offset : (c : tie.Start Inv-loop μ-loop Inv-directions μ-directions) → offset c ≡ vertex (c .args .dx) (c .args .dy)
 is-offset c = λ i. vertex (toZ-ofZ w16 (c .args .dx) (c .fits .dx) i) (toZ-ofZ w16 (c .args .dy) (c .fits .dy) i)
 
--- q against vertex k, which lies no further than the furthest
-nearby : (c : tie.After-lies-beyond Inv-loop μ-loop Inv-directions μ-directions) → c .lies-beyond .result ≡ leZ (near (c .before .before .before) -ℤ way (c .before .before .before)) (low (c .before .before .before))
-nearby c = c .lies-beyond .ensures ∙ ap (λ z. leZ z (low (c .before .before .before))) (less-gives (c .before .vertex-along .ensures) (c .before .before .move-along .ensures))
-
+-- vertex k lies no further than the furthest, and as far, since p is sound
 within : (c : tie.After-difference2 Inv-loop μ-loop Inv-directions μ-directions) → near c ≤ℤ far c
-within c =
-    let n = part-length (now (c .before .before .before .before .before .args .p)) in
-    one-within (along (bearing c)) (first (c .before .before .before .before .before)) (edge (c .before .before .before .before)) (omega (arith, c .before .before .before .before .directions .inv .0, c .before .before .before .directions-test .taken))
+within c = one-within (along (bearing c)) (first (c .before .before .before .before .before)) (edge (c .before .before .before .before)) (inside c)
+
+as-far : (c : tie.After-difference2 Inv-loop μ-loop Inv-directions μ-directions) → far c ≡ near c
+as-far c = subst (λ (d : Direction). largestZ (map (along d) (first (c .before .before .before .before .before))) ≡ along d (vertexAt (first (c .before .before .before .before .before)) (edge (c .before .before .before .before)))) (sym (is-normal c)) (own-furthest (first (c .before .before .before .before .before)) (c .before .before .before .before .before .pre .0) (edge (c .before .before .before .before)) (inside c))
 
 -- the limit
-abbrev bound : (c : tie.After-lowest Inv-loop μ-loop Inv-directions μ-directions) → ℤ
-bound c = toZ w64 (ofZ w64 (toZ w64 (ofZ w64 (c .lowest .result)) +ℤ toZ w64 (ofZ w64 (c .before .before .before .before .move-along .result))))
+abbrev bound : (c : tie.After-move-along Inv-loop μ-loop Inv-directions μ-directions) → ℤ
+bound c = toZ w64 (ofZ w64 (toZ w64 (ofZ w64 (c .before .vertex-along .result)) -ℤ toZ w64 (ofZ w64 (c .move-along .result))))
 
-is-bound : (c : tie.After-lowest Inv-loop μ-loop Inv-directions μ-directions) → bound c ≡ low (c .before .before .before .before .before) +ℤ way (c .before .before .before .before .before)
-is-bound c = more-gives (c .lowest .ensures) (c .before .before .before .before .move-along .ensures)
+is-bound : (c : tie.After-move-along Inv-loop μ-loop Inv-directions μ-directions) → bound c ≡ near (c .before .before) -ℤ way (c .before .before)
+is-bound c = less-gives (c .before .vertex-along .ensures) (c .move-along .ensures)
 
 -- where the vertex lies along it
-reached : (c : tie.After-vertex-along2 Inv-loop μ-loop Inv-directions μ-directions) → toZ w64 (ofZ w64 (c .vertex-along2 .result)) ≡ along (bearing (c .before .before .before .before .before .before .before)) (vertexAt (first (c .before .before .before .before .before .before .before .before .before .before .before .before)) (c .before .loop .i))
+reached : (c : tie.After-vertex-along2 Inv-loop μ-loop Inv-directions μ-directions) → toZ w64 (ofZ w64 (c .vertex-along2 .result)) ≡ along (bearing (c .before .before .before .before)) (vertexAt (second (c .before .before .before .before .before .before .before .before .before)) (c .before .loop .i))
 reached c = toZ-ofZ w64 (c .vertex-along2 .result) (sfits-of (c .vertex-along2 .ok)) ∙ c .vertex-along2 .ensures .value
 
--- the vertex stays within the limit, and so do all up to it
-kept : (c : tie.Then2 Inv-loop μ-loop Inv-directions μ-directions) (j : ℕ) → j < c .before .before .loop .i + 1 → along (bearing (c .before .before .before .before .before .before .before .before)) (vertexAt (first (c .before .before .before .before .before .before .before .before .before .before .before .before .before)) j) ≤ℤ bound (c .before .before .before)
-kept c = below-more _ _ (c .before .before .loop .inv .1) (leZ-true _ _ (ap (λ s. leZ s (bound (c .before .before .before))) (sym (reached (c .before))) ∙ c .if2 .taken))
+-- the vertex lies beyond the limit, and so do all up to it
+kept : (c : tie.Then1 Inv-loop μ-loop Inv-directions μ-directions) (j : ℕ) → j < c .before .before .loop .i + 1 → bound (c .before .before .before) ≤ℤ along (bearing (c .before .before .before .before .before)) (vertexAt (second (c .before .before .before .before .before .before .before .before .before .before)) j)
+kept c = below-more _ _ (c .before .before .loop .inv .1) (leZ-true _ _ (ap (leZ (bound (c .before .before .before))) (sym (reached (c .before))) ∙ c .if1 .taken))
 
 -- ---- the needs
 
 directions-holds : tie.Need-directions-holds Inv-loop μ-loop Inv-directions μ-directions
-directions-holds c = (refl, zero-le, below-none _)
+directions-holds c = (refl, refl, zero-le, below-none _)
 
 next-vertex-requires : tie.Need-next-vertex-requires Inv-loop μ-loop Inv-directions μ-directions
 next-vertex-requires c κs = omega arith
@@ -130,29 +130,20 @@ difference-requires c κs = (c .next-vertex .ensures .1, omega arith, omega arit
 difference-requires-2 : tie.Need-difference-requires-2 Inv-loop μ-loop Inv-directions μ-directions
 difference-requires-2 c κs = (omega arith, c .before .next-vertex .ensures .1, omega arith)
 
-move-along-requires : tie.Need-move-along-requires Inv-loop μ-loop Inv-directions μ-directions
-move-along-requires c κs = tt
-
 vertex-along-requires : tie.Need-vertex-along-requires Inv-loop μ-loop Inv-directions μ-directions
 vertex-along-requires c κs = omega arith
 
-sub-lies-beyond : tie.Need-sub-lies-beyond Inv-loop μ-loop Inv-directions μ-directions
-sub-lies-beyond c = less-fits (c .vertex-along .ensures) (c .before .move-along .ensures)
+move-along-requires : tie.Need-move-along-requires Inv-loop μ-loop Inv-directions μ-directions
+move-along-requires c κs = tt
 
-lies-beyond-requires : tie.Need-lies-beyond-requires Inv-loop μ-loop Inv-directions μ-directions
-lies-beyond-requires c κs = tt
-
-lowest-requires : tie.Need-lowest-requires Inv-loop μ-loop Inv-directions μ-directions
-lowest-requires c κs = tt
-
-add-limit : tie.Need-add-limit Inv-loop μ-loop Inv-directions μ-directions
-add-limit c = more-fits (c .lowest .ensures) (c .before .before .before .before .move-along .ensures)
+sub-limit : tie.Need-sub-limit Inv-loop μ-loop Inv-directions μ-directions
+sub-limit c = less-fits (c .before .vertex-along .ensures) (c .move-along .ensures)
 
 loop-holds : tie.Need-loop-holds Inv-loop μ-loop Inv-directions μ-directions
-loop-holds c = (omega arith, below-none _)
+loop-holds c = (omega (arith, c .before .before .before .before .before .before .directions .inv .1, c .before .before .before .before .before .before .before .pre .1), below-none _)
 
 vertex-along-requires-2 : tie.Need-vertex-along-requires-2 Inv-loop μ-loop Inv-directions μ-directions
-vertex-along-requires-2 c κs = omega arith
+vertex-along-requires-2 c κs = omega (arith, c .loop .inv .0, c .before .before .before .before .before .before .before .directions .inv .1)
 
 add-i : tie.Need-add-i Inv-loop μ-loop Inv-directions μ-directions
 add-i c = omega arith
@@ -171,27 +162,18 @@ directions-less c = omega arith
 
 -- the direction does not separate
 next : (c : tie.After-difference2 Inv-loop μ-loop Inv-directions μ-directions) → leZ (far c) (low c +ℤ way c) ≡ false → (j : ℕ) → j < edge (c .before .before .before .before) + 1 → test (c .before .before .before .before .before) (normalOf (first (c .before .before .before .before .before)) j) ≡ false
-next c e = below-more _ _ (c .before .before .before .before .directions .inv .2) (verdict c false e)
+next c e = below-more _ _ (c .before .before .before .before .directions .inv .3) (verdict c false e)
 
 directions-again : tie.Need-directions-again Inv-loop μ-loop Inv-directions μ-directions
-directions-again c =
-    let more = c .before .before .before .before .before .before .before .directions-test .taken in
-    ⊎-elim
-    (λ w.
-    let l : tie.After-lowest Inv-loop μ-loop Inv-directions μ-directions = record { before = record { before = c .before; if1 = w .0 }; lowest = w .1 } in
-    let r : tie.After-vertex-along2 Inv-loop μ-loop Inv-directions μ-directions = record { before = record { before = l; loop = w .2 }; vertex-along2 = w .3 } in
-    let n = part-length (now (c .before .before .before .before .before .before .before .before .before .args .p)) in
-    let beyond = leZ-false _ _ (ap (λ s. leZ s (bound l)) (sym (reached r)) ∙ w .4 .left) in (
-      refl,
-      omega (arith, more, c .before .before .before .before .before .before .before .before .directions .inv .0),
-      next (c .before .before .before .before) (ap (leZ (far (c .before .before .before .before))) (sym (is-bound l)) ∙ one-beyond (along (bearing (c .before .before .before .before))) (first (c .before .before .before .before .before .before .before .before .before)) (bound l) (w .2 .i) (omega (arith, w .2 .inv .0)) beyond),
-    ))
-    (λ w. (
-      refl,
-      omega (arith, more, c .before .before .before .before .before .before .before .before .directions .inv .0),
-      next (c .before .before .before .before) (refuted (near (c .before .before .before .before)) (far (c .before .before .before .before)) (way (c .before .before .before .before)) (low (c .before .before .before .before)) (within (c .before .before .before .before)) (sym (nearby (c .before)) ∙ w .left)),
-    ))
-    (c .if1 .came)
+directions-again c = (
+  refl,
+  refl,
+  omega (arith, c .before .before .before .before .before .before .before .before .directions-test .taken, c .before .before .before .before .before .before .before .before .before .directions .inv .0),
+  next (c .before .before .before .before .before) (refuted (near (c .before .before .before .before .before)) (far (c .before .before .before .before .before)) (way (c .before .before .before .before .before)) (low (c .before .before .before .before .before)) (within (c .before .before .before .before .before))
+      (ap (λ z. leZ z (low (c .before .before .before .before .before))) (sym (is-bound (c .before .before .before)))
+      ∙ one-before (along (bearing (c .before .before .before .before .before))) (second (c .before .before .before .before .before .before .before .before .before .before)) (bound (c .before .before .before)) (c .before .before .loop .i) (omega (arith, c .before .before .loop .inv .0, c .before .before .before .before .before .before .before .before .before .directions .inv .1, part-length (now (c .before .before .before .before .before .before .before .before .before .before .args .q))))
+      (leZ-false _ _ (ap (leZ (bound (c .before .before .before))) (sym (reached (c .before))) ∙ c .if1 .left)))),
+)
 
 -- the answer, free of the bits of the parameters
 answer : (c : tie.Start Inv-loop μ-loop Inv-directions μ-directions) (k : ℕ) → Separating (first c) (second c) (offset c) k → Separating (first c) (second c) (vertex (c .args .dx) (c .args .dy)) k
@@ -201,18 +183,21 @@ returns : tie.Need-returns Inv-loop μ-loop Inv-directions μ-directions
 returns c =
     let n = part-length (now (c .before .before .args .p)) in
     answer (c .before .before) (c .before .directions .k) (record {
-      most = omega (arith, c .before .directions .inv .0, c .before .directions .inv .1);
-      earlier = c .before .directions .inv .2;
+      most = omega (arith, c .before .directions .inv .0, c .before .directions .inv .2);
+      earlier = c .before .directions .inv .3;
       found = λ h. absurd (omega arith);
     })
 
 returns-2 : tie.Need-returns-2 Inv-loop μ-loop Inv-directions μ-directions
 returns-2 c =
-    let n = part-length (now (c .before .before .before .before .before .before .before .before .before .before .before .before .before .before .args .p)) in
-    answer (c .before .before .before .before .before .before .before .before .before .before .before .before .before .before) (c .before .before .before .before .before .before .before .before .before .before .before .before .before .directions .k) (record {
-      most = omega (arith, c .before .before .before .before .before .before .before .before .before .before .before .before .before .directions .inv .0, c .before .before .before .before .before .before .before .before .before .before .before .before .before .directions .inv .1);
-      earlier = c .before .before .before .before .before .before .before .before .before .before .before .before .before .directions .inv .2;
-      found = λ h. verdict (c .before .before .before .before .before .before .before .before .before) true (ap (leZ (far (c .before .before .before .before .before .before .before .before .before))) (sym (is-bound (c .before .before .before .before))) ∙ all-within (along (bearing (c .before .before .before .before .before .before .before .before .before))) (first (c .before .before .before .before .before .before .before .before .before .before .before .before .before .before)) (bound (c .before .before .before .before)) (omega arith) (λ j g. kept (c .before) j (omega arith)));
+    let n = part-length (now (c .before .before .before .before .before .before .before .before .before .before .before .args .p)) in
+    let m = part-length (now (c .before .before .before .before .before .before .before .before .before .before .before .args .q)) in
+    answer (c .before .before .before .before .before .before .before .before .before .before .before) (c .before .before .before .before .before .before .before .before .before .before .directions .k) (record {
+      most = omega (arith, c .before .before .before .before .before .before .before .before .before .before .directions .inv .0, c .before .before .before .before .before .before .before .before .before .before .directions .inv .2);
+      earlier = c .before .before .before .before .before .before .before .before .before .before .directions .inv .3;
+      found = λ h. verdict (c .before .before .before .before .before .before) true
+          (confirmed (near (c .before .before .before .before .before .before)) (far (c .before .before .before .before .before .before)) (way (c .before .before .before .before .before .before)) (low (c .before .before .before .before .before .before)) (as-far (c .before .before .before .before .before .before))
+          (ap (λ z. leZ z (low (c .before .before .before .before .before .before))) (sym (is-bound (c .before .before .before .before))) ∙ all-beyond (along (bearing (c .before .before .before .before .before .before))) (second (c .before .before .before .before .before .before .before .before .before .before .before)) (bound (c .before .before .before .before)) (omega (arith, c .before .before .before .before .before .before .before .before .before .before .before .pre .1)) (λ j g. kept (c .before) j (omega (arith, c .before .before .before .before .before .before .before .before .before .before .directions .inv .1)))));
     })
 
 pub separating-edge-spec : {M : Type 1} → statement M
@@ -227,12 +212,9 @@ separating-edge-spec =
     next-vertex-requires
     difference-requires
     difference-requires-2
-    move-along-requires
     vertex-along-requires
-    sub-lies-beyond
-    lies-beyond-requires
-    lowest-requires
-    add-limit
+    move-along-requires
+    sub-limit
     loop-holds
     vertex-along-requires-2
     add-i

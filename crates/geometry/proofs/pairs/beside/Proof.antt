@@ -39,7 +39,7 @@ distances c =
     ∙ read₂ w16 (c .before .before .before .args .dx) (c .before .before .before .args .dy) (c .before .before .before .fits .dx) (c .before .before .before .fits .dy) (λ x y. bothClear (c .before .before .before .args .gap) (first (c .before .before .before)) (map (shifted x y) (second (c .before .before .before))))
 
 separating-edge-requires : tie.Need-separating-edge-requires
-separating-edge-requires c κs = tt
+separating-edge-requires c κs = c .pre .0
 
 returns : tie.Need-returns
 returns c =
@@ -48,7 +48,7 @@ returns c =
 
 clear-beside-requires : tie.Need-clear-beside-requires
 clear-beside-requires c κs = let n = part-length (now (c .before .before .args .p)) in (
-  (omega (arith, c .before .separating-edge .ensures .most, c .if1 .left), c .before .before .pre .0 .1),
+  (c .before .before .pre .0, omega (arith, c .before .separating-edge .ensures .most, c .if1 .left)),
   ((rw (toZ-ofZ w16 (c .before .before .args .dx) (c .before .before .fits .dx)) (c .before .before .pre .1 .0 .0), rw (toZ-ofZ w16 (c .before .before .args .dy) (c .before .before .fits .dy)) (c .before .before .pre .1 .0 .1)), c .before .before .pre .1 .1),
 )
 

@@ -1,6 +1,6 @@
 -- `geometry::pairs::clear_along` meets its contract: what the direction keeps apart is clear, and so are the corners that are spared; the others' distances decide. Assumes nothing.
 use mathlib.Core.List.{map}
-use mathlib.Core.Path.{_≡_, refl, sym, _∙_, ap₂}
+use mathlib.Core.Path.{_≡_, refl, sym, _∙_, ap₂, subst}
 use Prim.Native.Nat.{_<_}
 use native.Mathlib.Omega.{arith}
 use borrow.Author.Tests.{not-true, not-false}
@@ -13,13 +13,14 @@ use mir.Val.{toZ, ofZ}
 use mir.ValLaws.{toZ-ofZ}
 use Rattle.integers.proofs.Machine.{read₂, op-fits, op-gives}
 use Rattle.model.specs.Content.{vertex, Part}
-use Rattle.model.specs.Geometry.{Direction, direction, along, cornersClear}
+use Rattle.model.specs.Geometry.{Direction, direction, vertexAt, along, cornersClear}
 use Rattle.model.specs.Lists.{largestZ, smallestZ}
 use Rattle.convexity.specs.Square.{clearance}
 use Rattle.polygons.specs.Flat.{partOf, shifted}
 use Rattle.polygons.proofs.Flat.{part-length}
 use Rattle.geometry.specs.Directions.{Small}
 use Rattle.geometry.proofs.DistanceLaws.{opposite-size, opposite-fits, opposite-32}
+use Rattle.geometry.proofs.EdgeLaws.{own-furthest, normal-some}
 use Rattle.geometry.proofs.PairLaws.{kept-clear, spared-first, spared-second, both-second, both-first, clear-back}
 use Rattle.geometry.proofs.Sizes.{small-as, small-more, small-sum, small-difference, small-fits, small-read}
 use Rattle.geometry.proofs.pairs.clear_along.Statement.{statement}
@@ -40,10 +41,21 @@ abbrev bearing : (c : tie.Start) → Direction
 bearing c = direction (c .args .a) (c .args .b)
 
 some-first : (c : tie.Start) → 0 < length (first c)
-some-first c = omega (arith, c .pre .0 .0, part-length (now (c .args .p)))
+some-first c = omega (arith, c .pre .0 .0 .0 .corners)
 
 some-second : (c : tie.Start) → 0 < length (second c)
-some-second c = omega (arith, c .pre .0 .1, part-length (now (c .args .q)))
+some-second c = omega (arith, c .pre .0 .0 .1, part-length (now (c .args .q)))
+
+-- the direction is the normal of edge k: not (0, 0), and no vertex of p lies further along it than that edge's
+inside : (c : tie.Start) → c .args .k < length (first c)
+inside c = omega (arith, c .pre .0 .1 .0, part-length (now (c .args .p)))
+
+bearing-some : (c : tie.Start) → bearing c ≡ direction (pos 0) (pos 0) → ⊥
+bearing-some c e = normal-some (first c) (c .pre .0 .0 .0) (c .args .k) (inside c) (sym (c .pre .0 .1 .1) ∙ e)
+
+furthest : (c : tie.Start) → largestZ (map (along (bearing c)) (first c)) ≡ along (bearing c) (vertexAt (first c) (c .args .k))
+furthest c =
+    subst (λ (d : Direction). largestZ (map (along d) (first c)) ≡ along d (vertexAt (first c) (c .args .k))) (sym (c .pre .0 .1 .1)) (own-furthest (first c) (c .pre .0 .0 .0) (c .args .k) (inside c))
 
 is-dx : (c : tie.Start) → toZ w16 (ofZ w16 (c .args .dx)) ≡ c .args .dx
 is-dx c = toZ-ofZ w16 (c .args .dx) (c .fits .dx)
@@ -64,10 +76,10 @@ is-back-y : (c : tie.Start) → toZ w16 (ofZ w16 (pos 0 -ℤ toZ w16 (ofZ w16 (c
 is-back-y c = op-gives {x = pos 0} refl (is-dy c) _-ℤ_ (opposite-fits (c .args .dy) (c .pre .1 .0 .0 .1))
 
 is-back-a : (c : tie.Start) → toZ w32 (ofZ w32 (pos 0 -ℤ toZ w32 (ofZ w32 (c .args .a)))) ≡ pos 0 -ℤ c .args .a
-is-back-a c = op-gives {x = pos 0} refl (is-a c) _-ℤ_ (opposite-32 (c .args .a) (c .pre .1 .1 .0 .0))
+is-back-a c = op-gives {x = pos 0} refl (is-a c) _-ℤ_ (opposite-32 (c .args .a) (c .pre .1 .1 .0))
 
 is-back-b : (c : tie.Start) → toZ w32 (ofZ w32 (pos 0 -ℤ toZ w32 (ofZ w32 (c .args .b)))) ≡ pos 0 -ℤ c .args .b
-is-back-b c = op-gives {x = pos 0} refl (is-b c) _-ℤ_ (opposite-32 (c .args .b) (c .pre .1 .1 .0 .1))
+is-back-b c = op-gives {x = pos 0} refl (is-b c) _-ℤ_ (opposite-32 (c .args .b) (c .pre .1 .1 .1))
 
 -- ---- the numbers along it
 
@@ -84,8 +96,8 @@ way c = small-as (λ i. along (direction (is-a (c .before .before) i) (is-b (c .
 least : (c : tie.After-lowest) → Small (smallestZ (map (along (bearing (c .before .before .before))) (second (c .before .before .before)))) 47 (c .lowest .result)
 least c = small-as (λ i. smallestZ (map (along (direction (is-a (c .before .before .before) i) (is-b (c .before .before .before) i))) (second (c .before .before .before)))) (c .lowest .ensures)
 
-most : (c : tie.After-highest) → Small (largestZ (map (along (bearing (c .before .before .before .before))) (first (c .before .before .before .before)))) 47 (c .highest .result)
-most c = small-as (λ i. largestZ (map (along (direction (is-a (c .before .before .before .before) i) (is-b (c .before .before .before .before) i))) (first (c .before .before .before .before)))) (c .highest .ensures)
+most : (c : tie.After-vertex-along) → Small (largestZ (map (along (bearing (c .before .before .before .before))) (first (c .before .before .before .before)))) 47 (c .vertex-along .result)
+most c = small-as ((λ i. along (direction (is-a (c .before .before .before .before) i) (is-b (c .before .before .before .before) i)) (vertexAt (first (c .before .before .before .before)) (c .before .before .before .before .args .k))) ∙ sym (furthest (c .before .before .before .before))) (c .vertex-along .ensures)
 
 -- where q begins, and how far p reaches with the gap
 abbrev low : (c : tie.Start) → ℤ
@@ -97,20 +109,20 @@ top c = largestZ (map (along (bearing c)) (first c)) +ℤ clearance (c .args .ga
 low-small : (c : tie.After-lowest) → Small (low (c .before .before .before)) 48 (c .lowest .result +ℤ c .before .move-along .result)
 low-small c = small-sum (least c) (way (c .before))
 
-top-small : (c : tie.After-highest) → Small (top (c .before .before .before .before)) 49 (c .highest .result +ℤ c .before .before .before .gap-along .result)
+top-small : (c : tie.After-vertex-along) → Small (top (c .before .before .before .before)) 49 (c .vertex-along .result +ℤ c .before .before .before .gap-along .result)
 top-small c = small-sum (small-more (most c)) (reach (c .before .before .before))
 
 low-read : (c : tie.After-lowest) → read (read (c .lowest .result) +ℤ read (c .before .move-along .result)) ≡ c .lowest .result +ℤ c .before .move-along .result
 low-read c = op-gives (small-read (least c) tt) (small-read (way (c .before)) tt) _+ℤ_ (small-fits (low-small c) tt)
 
-top-read : (c : tie.After-highest) → read (read (c .highest .result) +ℤ read (c .before .before .before .gap-along .result)) ≡ c .highest .result +ℤ c .before .before .before .gap-along .result
+top-read : (c : tie.After-vertex-along) → read (read (c .vertex-along .result) +ℤ read (c .before .before .before .gap-along .result)) ≡ c .vertex-along .result +ℤ c .before .before .before .gap-along .result
 top-read c = op-gives (small-read (most c) tt) (small-read (reach (c .before .before .before)) tt) _+ℤ_ (small-fits (top-small c) tt)
 
 -- the two limits
-first-limit : (c : tie.After-highest) → Small (top (c .before .before .before .before) -ℤ along (bearing (c .before .before .before .before)) (vertex (c .before .before .before .before .args .dx) (c .before .before .before .before .args .dy))) 50 (c .highest .result +ℤ c .before .before .before .gap-along .result -ℤ c .before .before .move-along .result)
+first-limit : (c : tie.After-vertex-along) → Small (top (c .before .before .before .before) -ℤ along (bearing (c .before .before .before .before)) (vertex (c .before .before .before .before .args .dx) (c .before .before .before .before .args .dy))) 50 (c .vertex-along .result +ℤ c .before .before .before .gap-along .result -ℤ c .before .before .move-along .result)
 first-limit c = small-difference (top-small c) (small-more (small-more (way (c .before .before))))
 
-first-gives : (c : tie.After-highest) → read (read (read (c .highest .result) +ℤ read (c .before .before .before .gap-along .result)) -ℤ read (c .before .before .move-along .result)) ≡ top (c .before .before .before .before) -ℤ along (bearing (c .before .before .before .before)) (vertex (c .before .before .before .before .args .dx) (c .before .before .before .before .args .dy))
+first-gives : (c : tie.After-vertex-along) → read (read (read (c .vertex-along .result) +ℤ read (c .before .before .before .gap-along .result)) -ℤ read (c .before .before .move-along .result)) ≡ top (c .before .before .before .before) -ℤ along (bearing (c .before .before .before .before)) (vertex (c .before .before .before .before .args .dx) (c .before .before .before .before .args .dy))
 first-gives c = op-gives (top-read c) (small-read (way (c .before .before)) tt) _-ℤ_ (small-fits (first-limit c) tt) ∙ first-limit c .value
 
 second-limit : (c : tie.After-lowest) → Small (clearance (c .before .before .before .args .gap) (bearing (c .before .before .before)) -ℤ low (c .before .before .before)) 49 (c .before .before .gap-along .result -ℤ (c .lowest .result +ℤ c .before .move-along .result))
@@ -146,15 +158,15 @@ lowest-requires c κs = tt
 add-low : tie.Need-add-low
 add-low c = op-fits (small-read (least c) tt) (small-read (way (c .before)) tt) _+ℤ_ (small-fits (low-small c) tt)
 
-highest-requires : tie.Need-highest-requires
-highest-requires c κs = (rw (is-a (c .before .before .before)) (c .before .before .before .pre .1 .1 .0 .0), rw (is-b (c .before .before .before)) (c .before .before .before .pre .1 .1 .0 .1))
+vertex-along-requires : tie.Need-vertex-along-requires
+vertex-along-requires c κs = c .before .before .before .pre .0 .1 .0
 
 add-top : tie.Need-add-top
 add-top c = op-fits (small-read (most c) tt) (small-read (reach (c .before .before .before)) tt) _+ℤ_ (small-fits (top-small c) tt)
 
 returns : tie.Need-returns
 returns c =
-    kept-clear (c .before .before .before .before .before .args .gap) (first (c .before .before .before .before .before)) (second (c .before .before .before .before .before)) (c .before .before .before .before .before .args .dx) (c .before .before .before .before .before .args .dy) (some-first (c .before .before .before .before .before)) (some-second (c .before .before .before .before .before)) (c .before .before .before .before .before .args .a) (c .before .before .before .before .before .args .b) (c .before .before .before .before .before .pre .1 .1 .1)
+    kept-clear (c .before .before .before .before .before .args .gap) (first (c .before .before .before .before .before)) (second (c .before .before .before .before .before)) (c .before .before .before .before .before .args .dx) (c .before .before .before .before .before .args .dy) (some-first (c .before .before .before .before .before)) (some-second (c .before .before .before .before .before)) (c .before .before .before .before .before .args .a) (c .before .before .before .before .before .args .b) (bearing-some (c .before .before .before .before .before))
     (ap₂ leZ (sym (top-read (c .before) ∙ top-small (c .before) .value)) (sym (low-read (c .before .before) ∙ low-small (c .before .before) .value)) ∙ c .if1 .taken)
 
 sub-corners-clear : tie.Need-sub-corners-clear
@@ -163,7 +175,7 @@ sub-corners-clear c = op-fits (top-read (c .before)) (small-read (way (c .before
 corners-clear-requires : tie.Need-corners-clear-requires
 corners-clear-requires c κs = (
   ((rw (is-dx (c .before .before .before .before .before)) (c .before .before .before .before .before .pre .1 .0 .0 .0), rw (is-dy (c .before .before .before .before .before)) (c .before .before .before .before .before .pre .1 .0 .0 .1)), (c .before .before .before .before .before .pre .1 .0 .1 .1, c .before .before .before .before .before .pre .1 .0 .1 .0)),
-  rw (is-dx (c .before .before .before .before .before), is-dy (c .before .before .before .before .before), is-a (c .before .before .before .before .before), is-b (c .before .before .before .before .before), first-gives (c .before)) (spared-first (c .before .before .before .before .before .args .gap) (first (c .before .before .before .before .before)) (second (c .before .before .before .before .before)) (c .before .before .before .before .before .args .dx) (c .before .before .before .before .before .args .dy) (some-first (c .before .before .before .before .before)) (some-second (c .before .before .before .before .before)) (c .before .before .before .before .before .args .a) (c .before .before .before .before .before .args .b) (c .before .before .before .before .before .pre .1 .1 .1)),
+  rw (is-dx (c .before .before .before .before .before), is-dy (c .before .before .before .before .before), is-a (c .before .before .before .before .before), is-b (c .before .before .before .before .before), first-gives (c .before)) (spared-first (c .before .before .before .before .before .args .gap) (first (c .before .before .before .before .before)) (second (c .before .before .before .before .before)) (c .before .before .before .before .before .args .dx) (c .before .before .before .before .before .args .dy) (some-first (c .before .before .before .before .before)) (some-second (c .before .before .before .before .before)) (c .before .before .before .before .before .args .a) (c .before .before .before .before .before .args .b) (bearing-some (c .before .before .before .before .before))),
 )
 
 returns-2 : tie.Need-returns-2
@@ -176,10 +188,10 @@ sub-corners-clear-3 : tie.Need-sub-corners-clear-3
 sub-corners-clear-3 c = op-fits {x = pos 0} refl (is-dy (c .before .before .before .before .before .before .before)) _-ℤ_ (opposite-fits (c .before .before .before .before .before .before .before .args .dy) (c .before .before .before .before .before .before .before .pre .1 .0 .0 .1))
 
 sub-corners-clear-4 : tie.Need-sub-corners-clear-4
-sub-corners-clear-4 c = op-fits {x = pos 0} refl (is-a (c .before .before .before .before .before .before .before)) _-ℤ_ (opposite-32 (c .before .before .before .before .before .before .before .args .a) (c .before .before .before .before .before .before .before .pre .1 .1 .0 .0))
+sub-corners-clear-4 c = op-fits {x = pos 0} refl (is-a (c .before .before .before .before .before .before .before)) _-ℤ_ (opposite-32 (c .before .before .before .before .before .before .before .args .a) (c .before .before .before .before .before .before .before .pre .1 .1 .0))
 
 sub-corners-clear-5 : tie.Need-sub-corners-clear-5
-sub-corners-clear-5 c = op-fits {x = pos 0} refl (is-b (c .before .before .before .before .before .before .before)) _-ℤ_ (opposite-32 (c .before .before .before .before .before .before .before .args .b) (c .before .before .before .before .before .before .before .pre .1 .1 .0 .1))
+sub-corners-clear-5 c = op-fits {x = pos 0} refl (is-b (c .before .before .before .before .before .before .before)) _-ℤ_ (opposite-32 (c .before .before .before .before .before .before .before .args .b) (c .before .before .before .before .before .before .before .pre .1 .1 .1))
 
 sub-corners-clear-6 : tie.Need-sub-corners-clear-6
 sub-corners-clear-6 c = op-fits (small-read (reach (c .before .before .before .before .before .before)) tt) (low-read (c .before .before .before .before)) _-ℤ_ (small-fits (second-limit (c .before .before .before .before)) tt)
@@ -187,7 +199,7 @@ sub-corners-clear-6 c = op-fits (small-read (reach (c .before .before .before .b
 corners-clear-requires-2 : tie.Need-corners-clear-requires-2
 corners-clear-requires-2 c κs = (
   ((rw (is-back-x (c .before .before .before .before .before .before .before)) (opposite-size (c .before .before .before .before .before .before .before .args .dx) (c .before .before .before .before .before .before .before .pre .1 .0 .0 .0)), rw (is-back-y (c .before .before .before .before .before .before .before)) (opposite-size (c .before .before .before .before .before .before .before .args .dy) (c .before .before .before .before .before .before .before .pre .1 .0 .0 .1))), c .before .before .before .before .before .before .before .pre .1 .0 .1),
-  rw (is-back-x (c .before .before .before .before .before .before .before), is-back-y (c .before .before .before .before .before .before .before), is-back-a (c .before .before .before .before .before .before .before), is-back-b (c .before .before .before .before .before .before .before), second-gives (c .before .before .before .before)) (spared-second (c .before .before .before .before .before .before .before .args .gap) (first (c .before .before .before .before .before .before .before)) (second (c .before .before .before .before .before .before .before)) (c .before .before .before .before .before .before .before .args .dx) (c .before .before .before .before .before .before .before .args .dy) (some-first (c .before .before .before .before .before .before .before)) (some-second (c .before .before .before .before .before .before .before)) (c .before .before .before .before .before .before .before .args .a) (c .before .before .before .before .before .before .before .args .b) (c .before .before .before .before .before .before .before .pre .1 .1 .1)),
+  rw (is-back-x (c .before .before .before .before .before .before .before), is-back-y (c .before .before .before .before .before .before .before), is-back-a (c .before .before .before .before .before .before .before), is-back-b (c .before .before .before .before .before .before .before), second-gives (c .before .before .before .before)) (spared-second (c .before .before .before .before .before .before .before .args .gap) (first (c .before .before .before .before .before .before .before)) (second (c .before .before .before .before .before .before .before)) (c .before .before .before .before .before .before .before .args .dx) (c .before .before .before .before .before .before .before .args .dy) (some-first (c .before .before .before .before .before .before .before)) (some-second (c .before .before .before .before .before .before .before)) (c .before .before .before .before .before .before .before .args .a) (c .before .before .before .before .before .before .before .args .b) (bearing-some (c .before .before .before .before .before .before .before))),
 )
 
 returns-3 : tie.Need-returns-3
@@ -201,7 +213,7 @@ clear-along-spec =
     move-along-requires
     lowest-requires
     add-low
-    highest-requires
+    vertex-along-requires
     add-top
     returns
     sub-corners-clear

@@ -1,14 +1,13 @@
--- `geometry::pairs::clear_beside` meets its contract: at gap 0 nothing is asked, and otherwise any direction but (0, 0) will do. Assumes nothing.
+-- `geometry::pairs::clear_beside` meets its contract: at gap 0 nothing is asked, and otherwise what is tried is the normal of the edge. Assumes nothing.
 use mathlib.Core.List.{[], _∷_, map}
-use mathlib.Core.Logic.{⊎-elim}
-use mathlib.Core.Path.{_≡_, sym, _∙_, ap}
-use Prim.Native.Nat.{ℕ, _≤_}
+use mathlib.Core.Path.{_≡_, _∙_}
+use Prim.Native.Nat.{_≤_}
 use native.Mathlib.Nat.{le-trans}
 use native.Mathlib.Omega.{arith}
 use borrow.Author.Needs.{sfits-of}
 use denote.Ref.{now}
 use lib.Dec.{lit≤}
-use lib.IntN.{ℤ, pos, natAbs, _-ℤ_}
+use lib.IntN.{ℤ, natAbs, _-ℤ_}
 use mir.Syntax.{w16, w32}
 use mir.Val.{toZ, ofZ}
 use mir.ValLaws.{toZ-ofZ}
@@ -16,11 +15,12 @@ use Rattle.integers.proofs.Machine.{read₂}
 use Rattle.integers.proofs.Sizes.{bounded}
 use Rattle.integers.proofs.Solver.{_⊟_}
 use Rattle.model.specs.Content.{Part}
-use Rattle.model.specs.Geometry.{Direction, direction, vertexAt}
-use Rattle.polygons.specs.Flat.{partOf, shifted}
+use Rattle.model.specs.Geometry.{direction, vertexAt, outwardNormal}
+use Rattle.polygons.specs.Flat.{partOf, shifted, normalOf}
 use Rattle.polygons.proofs.Flat.{part-length}
 use Rattle.geometry.specs.Apart.{bothClear}
 use Rattle.geometry.specs.Compact.{Short}
+use Rattle.geometry.proofs.EdgeLaws.{normal-at}
 use Rattle.geometry.proofs.PairLaws.{both-none}
 use Rattle.geometry.proofs.pairs.clear_beside.Statement.{statement}
 use Rattle.geometry.proofs.pairs.clear_beside.Tie as tie
@@ -44,7 +44,7 @@ difference-size : (u w : ℤ) → natAbs u ≤ 4096 → natAbs w ≤ 4096 → na
 difference-size u w h k = le-trans (bounded (4096 ∷ 4096 ∷ []) 2 (λ u w. u ⊟ w) u w h k) (lit≤ tt)
 
 from-small : (c : tie.Start) → Short 4096 (vertexAt (first c) (c .args .k) .x) (vertexAt (first c) (c .args .k) .y)
-from-small c = c .pre .1 .1 .0 (c .args .k) (omega (arith, c .pre .0 .0, part-length (now (c .args .p))))
+from-small c = c .pre .1 .1 .0 (c .args .k) (omega (arith, c .pre .0 .1, part-length (now (c .args .p))))
 
 to-small : (c : tie.After-next-vertex) → Short 4096 (vertexAt (first (c .before .before)) (c .next-vertex .result) .x) (vertexAt (first (c .before .before)) (c .next-vertex .result) .y)
 to-small c = c .before .before .pre .1 .1 .0 (c .next-vertex .result) (omega (arith, c .next-vertex .ensures .1, part-length (now (c .before .before .args .p))))
@@ -67,46 +67,26 @@ returns : tie.Need-returns
 returns c = both-none (c .before .args .gap) (first (c .before)) (map (shifted (c .before .args .dx) (c .before .args .dy)) (second (c .before))) (c .if1 .taken)
 
 next-vertex-requires : tie.Need-next-vertex-requires
-next-vertex-requires c κs = c .before .pre .0 .0
+next-vertex-requires c κs = c .before .pre .0 .1
 
 difference-requires : tie.Need-difference-requires
-difference-requires c κs = (c .next-vertex .ensures .1, c .before .before .pre .0 .0, omega arith)
+difference-requires c κs = (c .next-vertex .ensures .1, c .before .before .pre .0 .1, omega arith)
 
 difference-requires-2 : tie.Need-difference-requires-2
-difference-requires-2 c κs = (c .before .before .before .pre .0 .0, c .before .next-vertex .ensures .1, omega arith)
+difference-requires-2 c κs = (c .before .before .before .pre .0 .1, c .before .next-vertex .ensures .1, omega arith)
+
+-- it is the normal of edge k
+is-normal : (c : tie.After-difference2) → direction (toZ w32 (ofZ w32 (c .before .difference .result))) (toZ w32 (ofZ w32 (c .difference2 .result))) ≡ normalOf (first (c .before .before .before .before)) (c .before .before .before .before .args .k)
+unfolding outwardNormal
+is-normal c =
+    (λ i. direction ((is-a (c .before) ∙ c .before .difference .ensures) i) ((is-b c ∙ c .difference2 .ensures) i))
+    ∙ normal-at (first (c .before .before .before .before)) (c .before .before .before .before .args .k) (c .before .before .next-vertex .result) (c .before .before .next-vertex .ensures .0)
 
 clear-along-requires : tie.Need-clear-along-requires
-clear-along-requires c κs = (
-  (omega (arith, c .before .before .before .before .before .before .pre .0 .0), c .before .before .before .before .before .before .pre .0 .1),
-  ((short (c .before .before .before .before .before .before), c .before .before .before .before .before .before .pre .1 .1), ((lit≤ tt, lit≤ tt), λ e. let n : _≡_ {A = ℕ} 1 0 = ap (λ (d : Direction). natAbs (d .b)) e in omega arith)),
-)
+clear-along-requires c κs = ((c .before .before .before .before .pre .0 .0, (c .before .before .before .before .pre .0 .1, is-normal c)), ((short (c .before .before .before .before), c .before .before .before .before .pre .1 .1), small c))
 
 returns-2 : tie.Need-returns-2
-returns-2 c = c .clear-along .ensures ∙ answer (c .before .before .before .before .before .before .before)
-
--- the normal is not (0, 0)
-some : (c : tie.Joined2) → direction (toZ w32 (ofZ w32 (c .before .before .difference .result))) (toZ w32 (ofZ w32 (c .before .difference2 .result))) ≡ direction (pos 0) (pos 0) → ⊥
-some c e =
-    ⊎-elim (λ w. w .1 .left (ap (ofZ w32) (sym (is-b (c .before))) ∙ ap (λ (d : Direction). ofZ w32 (d .b)) e)) (λ w. w .left (ap (ofZ w32) (sym (is-a (c .before .before))) ∙ ap (λ (d : Direction). ofZ w32 (d .a)) e)) (c .if2 .came)
-
-clear-along-requires-2 : tie.Need-clear-along-requires-2
-clear-along-requires-2 c κs = (
-  (omega (arith, c .before .before .before .before .before .pre .0 .0), c .before .before .before .before .before .pre .0 .1),
-  ((short (c .before .before .before .before .before), c .before .before .before .before .before .pre .1 .1), (small (c .before), some c)),
-)
-
-returns-3 : tie.Need-returns-3
-returns-3 c = c .clear-along2 .ensures ∙ answer (c .before .before .before .before .before .before)
+returns-2 c = c .clear-along .ensures ∙ answer (c .before .before .before .before .before)
 
 pub clear-beside-spec : {M : Type 1} → statement M
-clear-beside-spec =
-    tie.close
-    (tie.spec
-    returns
-    next-vertex-requires
-    difference-requires
-    difference-requires-2
-    clear-along-requires
-    returns-2
-    clear-along-requires-2
-    returns-3)
+clear-beside-spec = tie.close (tie.spec returns next-vertex-requires difference-requires difference-requires-2 clear-along-requires returns-2)

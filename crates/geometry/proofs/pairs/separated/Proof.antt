@@ -1,16 +1,18 @@
 -- `geometry::pairs::separated` meets its contract: the edges of the first part decide, and where they say nothing those of the second. Assumes nothing.
+use mathlib.Core.List.{List}
 use mathlib.Core.Path.{_≡_, refl, sym, _∙_, ap}
-use Prim.Native.Nat.{_<_}
+use Prim.Native.Nat.{_≤_, _<_}
 use native.Mathlib.Omega.{arith}
 use denote.Ref.{now}
 use lib.Dec.{eqb}
-use lib.IntN.{pos, _-ℤ_}
+use lib.IntN.{ℤ, pos, _-ℤ_}
 use lib.ListN.{length}
 use mir.Syntax.{w16}
 use mir.Val.{toZ, ofZ}
 use mir.ValLaws.{toZ-ofZ}
 use Rattle.integers.proofs.Machine.{read₂, op-fits, op-gives}
 use Rattle.model.specs.Content.{Part}
+use Rattle.convexity.specs.Parts.{SoundPart}
 use Rattle.polygons.specs.Flat.{partOf}
 use Rattle.polygons.proofs.Flat.{part-length}
 use Rattle.geometry.specs.Apart.{besideOf}
@@ -28,7 +30,11 @@ abbrev second : (c : tie.Start) → Part
 second c = partOf (now (c .args .q))
 
 some : (c : tie.Start) → 0 < length (second c)
-some c = omega (arith, c .pre .0 .1, part-length (now (c .args .q)))
+some c = omega (arith, c .pre .0 .1 .corners)
+
+-- a sound part has two numbers at least
+numbers : (l : List ℤ) → SoundPart (partOf l) → 2 ≤ length l
+numbers l s = omega (arith, s .corners, part-length l)
 
 is-dx : (c : tie.Start) → toZ w16 (ofZ w16 (c .args .dx)) ≡ c .args .dx
 is-dx c = toZ-ofZ w16 (c .args .dx) (c .fits .dx)
@@ -51,7 +57,7 @@ back c = c .beside2 .ensures ∙ (λ i. besideOf (c .before .before .before .arg
 -- ---- the needs
 
 beside-requires : tie.Need-beside-requires
-beside-requires c κs = (c .pre .0, ((rw (is-dx c) (c .pre .1 .0 .0), rw (is-dy c) (c .pre .1 .0 .1)), c .pre .1 .1))
+beside-requires c κs = ((c .pre .0 .0, numbers (now (c .args .q)) (c .pre .0 .1)), ((rw (is-dx c) (c .pre .1 .0 .0), rw (is-dy c) (c .pre .1 .0 .1)), c .pre .1 .1))
 
 returns : tie.Need-returns
 returns c =
@@ -66,7 +72,7 @@ sub-beside-2 c = op-fits {x = pos 0} refl (is-dy (c .before .before)) _-ℤ_ (op
 
 beside-requires-2 : tie.Need-beside-requires-2
 beside-requires-2 c κs = (
-  (c .before .before .pre .0 .1, c .before .before .pre .0 .0),
+  (c .before .before .pre .0 .1, numbers (now (c .before .before .args .p)) (c .before .before .pre .0 .0)),
   ((rw (is-back-x (c .before .before)) (opposite-size (c .before .before .args .dx) (c .before .before .pre .1 .0 .0)), rw (is-back-y (c .before .before)) (opposite-size (c .before .before .args .dy) (c .before .before .pre .1 .0 .1))), (c .before .before .pre .1 .1 .1, c .before .before .pre .1 .1 .0)),
 )
 

@@ -1,24 +1,22 @@
 -- `geometry::pieces::not_separated` meets its contract. Assumes nothing.
 use mathlib.Core.Bool.{not}
-use mathlib.Core.List.{List, map}
+use mathlib.Core.List.{map}
 use mathlib.Core.Path.{_≡_, sym, ap, ap₂, subst, _∙_}
-use Prim.Native.Nat.{_+_, _-_, _≤_, _<_}
-use native.Mathlib.Omega.{arith}
+use Prim.Native.Nat.{_+_, _-_}
 use borrow.Author.Needs.{needs}
 use denote.Ref.{now}
 use mir.Syntax.{w16}
-use lib.IntN.{ℤ}
-use lib.ListN.{length, take, drop}
+use lib.ListN.{take, drop}
 use mir.Val.{toZ, ofZ}
 use mir.ValLaws.{toZ-ofZ}
 use Rattle.integers.proofs.Machine.{read₂}
 use Rattle.model.specs.Content.{Part}
 use Rattle.model.specs.Geometry.{separated}
+use Rattle.convexity.specs.Parts.{SoundPart}
 use Rattle.polygons.specs.Flat.{partOf, shifted}
-use Rattle.polygons.proofs.Flat.{part-length}
 use Rattle.geometry.specs.Compact.{Compact}
 use Rattle.geometry.specs.Pieces.{partIn}
-use Rattle.geometry.proofs.PieceLaws.{part-window, part-some}
+use Rattle.geometry.proofs.PieceLaws.{part-window}
 use Rattle.geometry.proofs.pieces.not_separated.Statement.{statement}
 use Rattle.geometry.proofs.pieces.not_separated.Tie as tie
 
@@ -77,19 +75,12 @@ first-part c = part-window (now (c .before .before .before .before .args .table)
 second-part : (c : tie.After-part-length2) → partOf (take (c .before .part-start2 .result + 4 + c .part-length2 .result - (c .before .part-start2 .result + 4)) (drop (c .before .part-start2 .result + 4) (now (c .before .before .before .before .args .table)))) ≡ partIn (now (c .before .before .before .before .args .table)) (c .before .before .before .before .args .q) (c .before .before .before .before .args .m)
 second-part c = part-window (now (c .before .before .before .before .args .table)) (c .before .before .before .before .args .q) (c .before .before .before .before .args .m) _ _ (c .before .part-start2 .ensures .0) (c .part-length2 .ensures .0)
 
--- and a slice that is a part with a vertex has two numbers
-some-numbers : (l : List ℤ) (P : Part) → partOf l ≡ P → 0 < length P → 2 ≤ length l
-some-numbers l P e h = omega (arith, part-length l, ap length e, h)
-
 separated-requires : tie.Need-separated-requires
 separated-requires c κs = (
+  (subst SoundPart (sym (first-part (c .before .before))) (c .before .before .before .before .before .before .pre .1 .0 .0), subst SoundPart (sym (second-part (c .before .before))) (c .before .before .before .before .before .before .pre .1 .0 .1)),
   (
-    some-numbers _ _ (first-part (c .before .before)) (part-some (now (c .before .before .before .before .before .before .args .table)) (c .before .before .before .before .before .before .args .p) (c .before .before .before .before .before .before .pre .0 .0 .0 .0) (c .before .before .before .before .before .before .pre .0 .1) (c .before .before .before .before .before .before .args .i) (c .before .before .before .before .before .before .pre .0 .0 .0 .1)),
-    some-numbers _ _ (second-part (c .before .before)) (part-some (now (c .before .before .before .before .before .before .args .table)) (c .before .before .before .before .before .before .args .q) (c .before .before .before .before .before .before .pre .0 .0 .1 .0) (c .before .before .before .before .before .before .pre .0 .1) (c .before .before .before .before .before .before .args .m) (c .before .before .before .before .before .before .pre .0 .0 .1 .1)),
-  ),
-  (
-    (rw (toZ-ofZ w16 (c .before .before .before .before .before .before .args .dx) (c .before .before .before .before .before .before .fits .dx)) (c .before .before .before .before .before .before .pre .1 .0 .0), rw (toZ-ofZ w16 (c .before .before .before .before .before .before .args .dy) (c .before .before .before .before .before .before .fits .dy)) (c .before .before .before .before .before .before .pre .1 .0 .1)),
-    (subst Compact (sym (first-part (c .before .before))) (c .before .before .before .before .before .before .pre .1 .1 .0), subst Compact (sym (second-part (c .before .before))) (c .before .before .before .before .before .before .pre .1 .1 .1)),
+    (rw (toZ-ofZ w16 (c .before .before .before .before .before .before .args .dx) (c .before .before .before .before .before .before .fits .dx)) (c .before .before .before .before .before .before .pre .1 .1 .0 .0), rw (toZ-ofZ w16 (c .before .before .before .before .before .before .args .dy) (c .before .before .before .before .before .before .fits .dy)) (c .before .before .before .before .before .before .pre .1 .1 .0 .1)),
+    (subst Compact (sym (first-part (c .before .before))) (c .before .before .before .before .before .before .pre .1 .1 .1 .0), subst Compact (sym (second-part (c .before .before))) (c .before .before .before .before .before .before .pre .1 .1 .1 .1)),
   ),
 )
 

@@ -38,8 +38,11 @@ not-separated-requires : tie.Need-not-separated-requires
 not-separated-requires c κs = (
   (((c .before .before .before .before .pre .0 .0 .0 .fitting, c .before .before .before .before .pre .0 .0 .1), (c .before .before .before .before .pre .0 .1 .0 .fitting, c .before .before .before .before .pre .0 .1 .1)), c .before .before .before .before .pre .0 .0 .0 .size),
   (
-    (rw (toZ-ofZ w16 (c .before .before .before .before .args .dx) (c .before .before .before .before .fits .dx)) (c .before .before .before .before .pre .1 .0), rw (toZ-ofZ w16 (c .before .before .before .before .args .dy) (c .before .before .before .before .fits .dy)) (c .before .before .before .before .pre .1 .1)),
-    (c .before .before .before .before .pre .0 .0 .0 .compact (c .before .before .before .before .args .i) (c .before .before .before .before .pre .0 .0 .1), c .before .before .before .before .pre .0 .1 .0 .compact (c .before .before .before .before .args .m) (c .before .before .before .before .pre .0 .1 .1)),
+    (c .before .before .before .before .pre .0 .0 .0 .sound (c .before .before .before .before .args .i) (c .before .before .before .before .pre .0 .0 .1), c .before .before .before .before .pre .0 .1 .0 .sound (c .before .before .before .before .args .m) (c .before .before .before .before .pre .0 .1 .1)),
+    (
+      (rw (toZ-ofZ w16 (c .before .before .before .before .args .dx) (c .before .before .before .before .fits .dx)) (c .before .before .before .before .pre .1 .0), rw (toZ-ofZ w16 (c .before .before .before .before .args .dy) (c .before .before .before .before .fits .dy)) (c .before .before .before .before .pre .1 .1)),
+      (c .before .before .before .before .pre .0 .0 .0 .compact (c .before .before .before .before .args .i) (c .before .before .before .before .pre .0 .0 .1), c .before .before .before .before .pre .0 .1 .0 .compact (c .before .before .before .before .args .m) (c .before .before .before .before .pre .0 .1 .1)),
+    ),
   ),
 )
 
