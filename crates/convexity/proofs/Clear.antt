@@ -8,24 +8,25 @@ use native.Mathlib.Omega.{arith}
 use borrow.Author.Tests.{not-true}
 use lib.IntN.{ℤ, pos, _+ℤ_, _-ℤ_, _*ℤ_}
 use lib.ListN.{length}
-use lib.Signed.{_≤ℤ_, _<ℤ_}
-use Rattle.integers.proofs.Solver.{#, _⊞_, _⊠_, _≲_, _≺_}
+use lib.Signed.{_≤ℤ_, _<ℤ_, ≤ℤ-refl}
+use Rattle.integers.proofs.Solver.{#, _⊞_, _⊟_, _⊠_, _≲_, _≺_, never}
 use Rattle.integers.proofs.Slack.{nonneg-pos}
 use Rattle.integers.proofs.Certificates.{order, _⊢_by_, hyp, sqr, num, _⊕_, _⊗_}
 use Rattle.integers.proofs.Order.{≤ℤ-trans, <ℤ-≤ℤ, *ℤ-mono, pos-≤ℤ}
-use Rattle.model.specs.Content.{Vertex, Part}
+use Rattle.model.specs.Content.{Vertex, vertex, Part}
 use Rattle.model.specs.Geometry.{vertexAt, following, Direction, direction, normals, negated, directions, disjoint, nearEdge, cornersClear, separated}
 use Rattle.model.specs.Lists.{all}
 use Rattle.model.proofs.Lists.{all-below, below-all, and-left, and-right, and-both}
-use Rattle.convexity.specs.Parts.{SoundPart}
+use Rattle.convexity.specs.Parts.{SoundPart, width}
+use Rattle.convexity.specs.Points.{reachSquared}
 use Rattle.convexity.specs.Square.{axes, separatesBy, squareDirections}
 use Rattle.convexity.proofs.Members.{In, not-in, cons, in-either, all-in, in-all, map-in}
-use Rattle.convexity.proofs.HalfPlanes.{suc-pos, zero-or}
+use Rattle.convexity.proofs.HalfPlanes.{O, I, suc-pos, zero-or}
 use Rattle.convexity.proofs.Edges.{Edge, edges, area, Good}
-use Rattle.convexity.proofs.Separation.{out-nz, into-nz}
-use Rattle.convexity.proofs.Distances.{d2, Far, sep-apart, sep-edge}
-use Rattle.convexity.proofs.Places.{edgeAt, in-edges, edges-in, normals-in, separates-corners, edge-separated, sound-good}
-use Rattle.convexity.proofs.Near.{far-not-near, not-near-far}
+use Rattle.convexity.proofs.Separation.{dot, Wide, out-nz, into-nz}
+use Rattle.convexity.proofs.Distances.{d2, Far, wide-apart, wide-edge, sep-apart, sep-edge}
+use Rattle.convexity.proofs.Places.{edgeAt, in-edges, edges-in, in-part, normals-in, separates-corners, width-corners, edge-separated, sound-good}
+use Rattle.convexity.proofs.Near.{far-not-near, not-near-far, far-points}
 
 pub good : {P : Part} → SoundPart P → Good P
 good {P} s = sound-good P (s .isSound) (s .corners)
@@ -135,3 +136,36 @@ module _ (P Q : Part) (soundP : SoundPart P) (soundQ : SoundPart Q) where
   direction-round h d n s =
       let r = direction-clear P Q (some soundP) (some soundQ) h d n s in
       round-of h P Q (edge-separated P Q (some soundP) (some soundQ) (sep-edge P Q (pos h) (d .a) (d .b) (good soundP) (good soundQ) (nonneg-pos h) n (separates-corners h P Q (some soundP) (some soundQ) d s))) (r .0) (r .1)
+
+  -- So is what lies as far apart along it as the gap, or further.
+  pub width-round : (h : ℕ) (d : Direction) → Some d → pos 0 ≤ℤ width P Q d → ((d .a *ℤ d .a +ℤ d .b *ℤ d .b) *ℤ (pos h *ℤ pos h)) ≤ℤ (width P Q d *ℤ width P Q d) → separated h P Q ≡ true
+  width-round h d n w s =
+      let c = width-corners h P Q (some soundP) (some soundQ) d in
+      let r = wide-apart (pos h) (width P Q d) (d .a) (d .b) P Q w n s c in
+      round-of h P Q (edge-separated P Q (some soundP) (some soundQ) (wide-edge P Q (width P Q d) (d .a) (d .b) (good soundP) (good soundQ) w n c)) (far-clear h P Q (r .first)) (far-clear h Q P (r .second))
+
+  -- Parts that lie apart along a direction do so along one that is not (0, 0).
+  pub width-some : (d : Direction) → pos 0 <ℤ width P Q d → Some d
+  width-some d w = nonzero d (λ e.
+      none (width P Q d) (vertexAt P 0) (vertexAt Q 0) w
+      (subst (λ (f : Direction). Wide (width P Q d) (f .a) (f .b) P Q) e (width-corners 0 P Q (some soundP) (some soundQ) d) (vertexAt P 0) (vertexAt Q 0) (in-part P 0 (some soundP)) (in-part Q 0 (some soundQ))))
+    where
+      none : (w : ℤ) (p q : Vertex) → pos 0 <ℤ w → (dot (pos 0) (pos 0) p +ℤ w) ≤ℤ dot (pos 0) (pos 0) q → ⊥
+      none w p q = order 5 (λ w px py qx qy. (O ≺ w) ∷ (O ⊠ px ⊞ O ⊠ py ⊞ w ≲ O ⊠ qx ⊞ O ⊠ qy) ∷ [] ⊢ never by hyp 0 ⊕ hyp 1) tt w (p .x) (p .y) (q .x) (q .y)
+
+-- Parts with two corners nearer than the gap are not separated at it.
+pub corners-round : (h : ℕ) (P Q : Part) (i j : ℕ) → i < length P → j < length Q → d2 (vertexAt P i) (vertexAt Q j) <ℤ (pos h *ℤ pos h) → separated h P Q ≡ true → ⊥
+corners-round h P Q i j hi hj l r =
+    let s : Vertex = vertexAt P i in
+    let t : Vertex = vertexAt P (following P i) in
+    let v : Vertex = vertexAt Q j in
+    at-start (pos h) (s .x) (s .y) (t .x) (t .y) (v .x) (v .y) l
+    (far-points (pos h) v (edgeAt P i) (clear-far h Q P (round-says h P Q r .2) v (edgeAt P i) (in-part Q j hj) (in-edges P i hi)) (pos 1) (pos 0) (<ℤ-≤ℤ (suc-pos 0)) (≤ℤ-refl (pos 0)) (suc-pos 0))
+  where
+    -- the point of the edge is its start
+    at-start : (h sx sy tx ty vx vy : ℤ) → ((vx -ℤ sx) *ℤ (vx -ℤ sx) +ℤ (vy -ℤ sy) *ℤ (vy -ℤ sy)) <ℤ (h *ℤ h)
+        → (h *ℤ h *ℤ ((pos 1 +ℤ pos 0) *ℤ (pos 1 +ℤ pos 0))) ≤ℤ reachSquared (vertex sx sy) (vertex tx ty) (vertex vx vy) (pos 1) (pos 0) → ⊥
+    at-start = order 7 (λ h sx sy tx ty vx vy.
+        ((vx ⊟ sx) ⊠ (vx ⊟ sx) ⊞ (vy ⊟ sy) ⊠ (vy ⊟ sy) ≺ h ⊠ h)
+        ∷ (h ⊠ h ⊠ ((I ⊞ O) ⊠ (I ⊞ O)) ≲ (I ⊠ (sx ⊟ vx) ⊞ O ⊠ (tx ⊟ vx)) ⊠ (I ⊠ (sx ⊟ vx) ⊞ O ⊠ (tx ⊟ vx)) ⊞ (I ⊠ (sy ⊟ vy) ⊞ O ⊠ (ty ⊟ vy)) ⊠ (I ⊠ (sy ⊟ vy) ⊞ O ⊠ (ty ⊟ vy))) ∷ []
+        ⊢ never by hyp 0 ⊕ hyp 1) tt

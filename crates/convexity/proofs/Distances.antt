@@ -1,4 +1,4 @@
--- A direction that separates at gap g keeps each corner g away from each edge of the other part. Assumes nothing.
+-- Parts that lie as far apart along a direction as a gap have each corner so far from each edge of the other part. Assumes nothing.
 use mathlib.Core.Path.{_≡_, refl}
 use mathlib.Core.List.{List, [], _∷_}
 use lib.IntN.{ℤ, pos, negsuc, negℤ, natAbs, _+ℤ_, _-ℤ_, _*ℤ_}
@@ -12,7 +12,7 @@ use Rattle.model.specs.Content.{Vertex, Part}
 use Rattle.convexity.proofs.Members.{In, here, there, not-in}
 use Rattle.convexity.proofs.HalfPlanes.{O}
 use Rattle.convexity.proofs.Edges.{Edge, chain, edges, area, Good, areaE}
-use Rattle.convexity.proofs.Separation.{dot, Sep, ByEdge, some-edge, start, neg-nz}
+use Rattle.convexity.proofs.Separation.{dot, Wide, Sep, ByEdge, some-edge, start, neg-nz}
 
 -- ---- distances, squared
 
@@ -34,18 +34,18 @@ pub record Far (g : ℤ) (c : Vertex) (e : Edge) : Type 0 where
 pub cancel : (n u v : ℤ) → pos 0 <ℤ n → (n *ℤ u) ≤ℤ (n *ℤ v) → u ≤ℤ v
 cancel n u v h k = *ℤ-cancel-≤ u v n h (order 3 (λ n u v. (n ⊠ u ≲ n ⊠ v) ∷ [] ⊢ u ⊠ n ≲ v ⊠ n by hyp 0) tt n u v k)
 
--- ---- the direction (a, b) goes g · m or more from a corner to each end of an edge, m being |a| + |b|
+-- ---- the direction (a, b) goes w or more from a corner to each end of an edge, and (a² + b²) · g² is at most w²
 
--- so to an end the squared distance is at least g²: (a² + b²) · g² ≤ (g · m)² ≤ (a · x + b · y)² ≤ (a² + b²) · (x² + y²)
-near-corner : (a b m g x y : ℤ) → pos 0 ≤ℤ g → pos 0 ≤ℤ m → (a *ℤ a +ℤ b *ℤ b) ≤ℤ (m *ℤ m) → (g *ℤ m) ≤ℤ (a *ℤ x +ℤ b *ℤ y) → ((a *ℤ a +ℤ b *ℤ b) *ℤ (g *ℤ g)) ≤ℤ ((a *ℤ a +ℤ b *ℤ b) *ℤ (x *ℤ x +ℤ y *ℤ y))
-near-corner = order 6 (λ a b m g x y. (O ≲ g) ∷ (O ≲ m) ∷ (a ⊠ a ⊞ b ⊠ b ≲ m ⊠ m) ∷ (g ⊠ m ≲ a ⊠ x ⊞ b ⊠ y) ∷ []
-    ⊢ (a ⊠ a ⊞ b ⊠ b) ⊠ (g ⊠ g) ≲ (a ⊠ a ⊞ b ⊠ b) ⊠ (x ⊠ x ⊞ y ⊠ y) by sqr (a ⊠ y ⊟ b ⊠ x) ⊕ hyp 3 ⊗ (hyp 3 ⊕ num 2 ⊗ hyp 0 ⊗ hyp 1) ⊕ sqr g ⊗ hyp 2) tt
+-- so to an end the squared distance is at least g²: (a² + b²) · g² ≤ w² ≤ (a · x + b · y)² ≤ (a² + b²) · (x² + y²)
+near-corner : (a b w g x y : ℤ) → pos 0 ≤ℤ w → ((a *ℤ a +ℤ b *ℤ b) *ℤ (g *ℤ g)) ≤ℤ (w *ℤ w) → w ≤ℤ (a *ℤ x +ℤ b *ℤ y) → ((a *ℤ a +ℤ b *ℤ b) *ℤ (g *ℤ g)) ≤ℤ ((a *ℤ a +ℤ b *ℤ b) *ℤ (x *ℤ x +ℤ y *ℤ y))
+near-corner = order 6 (λ a b w g x y. (O ≲ w) ∷ ((a ⊠ a ⊞ b ⊠ b) ⊠ (g ⊠ g) ≲ w ⊠ w) ∷ (w ≲ a ⊠ x ⊞ b ⊠ y) ∷ []
+    ⊢ (a ⊠ a ⊞ b ⊠ b) ⊠ (g ⊠ g) ≲ (a ⊠ a ⊞ b ⊠ b) ⊠ (x ⊠ x ⊞ y ⊠ y) by sqr (a ⊠ y ⊟ b ⊠ x) ⊕ hyp 2 ⊗ (hyp 2 ⊕ num 2 ⊗ hyp 0) ⊕ hyp 1) tt
 
 -- and so to the foot on the edge, of which (l − u) · p + u · q is the way times l: n is a² + b², l the squared length, u how far along, p and q the way to the ends
-near-edge : (n m g l u p q c k : ℤ) → pos 0 ≤ℤ g → pos 0 ≤ℤ m → n ≤ℤ (m *ℤ m) → pos 0 ≤ℤ u → u ≤ℤ l → (g *ℤ m) ≤ℤ p → (g *ℤ m) ≤ℤ q → (l -ℤ u) *ℤ p +ℤ u *ℤ q ≡ c *ℤ k → (k *ℤ k) ≤ℤ (n *ℤ l) → (n *ℤ l *ℤ (g *ℤ g *ℤ l)) ≤ℤ (n *ℤ l *ℤ (c *ℤ c))
-near-edge = order 9 (λ n m g l u p q c k. (O ≲ g) ∷ (O ≲ m) ∷ (n ≲ m ⊠ m) ∷ (O ≲ u) ∷ (u ≲ l) ∷ (g ⊠ m ≲ p) ∷ (g ⊠ m ≲ q) ∷ ((l ⊟ u) ⊠ p ⊞ u ⊠ q ≈ c ⊠ k) ∷ (k ⊠ k ≲ n ⊠ l) ∷ []
+near-edge : (n w g l u p q c k : ℤ) → pos 0 ≤ℤ w → (n *ℤ (g *ℤ g)) ≤ℤ (w *ℤ w) → pos 0 ≤ℤ u → u ≤ℤ l → w ≤ℤ p → w ≤ℤ q → (l -ℤ u) *ℤ p +ℤ u *ℤ q ≡ c *ℤ k → (k *ℤ k) ≤ℤ (n *ℤ l) → (n *ℤ l *ℤ (g *ℤ g *ℤ l)) ≤ℤ (n *ℤ l *ℤ (c *ℤ c))
+near-edge = order 9 (λ n w g l u p q c k. (O ≲ w) ∷ (n ⊠ (g ⊠ g) ≲ w ⊠ w) ∷ (O ≲ u) ∷ (u ≲ l) ∷ (w ≲ p) ∷ (w ≲ q) ∷ ((l ⊟ u) ⊠ p ⊞ u ⊠ q ≈ c ⊠ k) ∷ (k ⊠ k ≲ n ⊠ l) ∷ []
     ⊢ n ⊠ l ⊠ (g ⊠ g ⊠ l) ≲ n ⊠ l ⊠ (c ⊠ c)
-    by sqr c ⊗ hyp 8 ⊕ times 7 (c ⊠ k ⊞ (l ⊟ u) ⊠ p ⊞ u ⊠ q) ⊕ (hyp 4 ⊗ hyp 5 ⊕ hyp 3 ⊗ hyp 6) ⊗ (hyp 4 ⊗ hyp 5 ⊕ hyp 3 ⊗ hyp 6 ⊕ num 2 ⊗ (hyp 3 ⊕ hyp 4) ⊗ hyp 0 ⊗ hyp 1) ⊕ sqr (g ⊠ l) ⊗ hyp 2) tt
+    by sqr c ⊗ hyp 7 ⊕ times 6 (c ⊠ k ⊞ (l ⊟ u) ⊠ p ⊞ u ⊠ q) ⊕ (hyp 3 ⊗ hyp 4 ⊕ hyp 2 ⊗ hyp 5) ⊗ (hyp 3 ⊗ hyp 4 ⊕ hyp 2 ⊗ hyp 5 ⊕ num 2 ⊗ (hyp 2 ⊕ hyp 3) ⊗ hyp 0) ⊕ sqr l ⊗ hyp 1) tt
 
 -- how far the direction (a, b) goes from c to s
 abbrev toward : ℤ → ℤ → Vertex → Vertex → ℤ
@@ -65,12 +65,12 @@ cauchy = order 4 (λ a b x y. [] ⊢ (a ⊠ y ⊟ b ⊠ x) ⊠ (a ⊠ y ⊟ b �
 square-flip : (g x y u v : ℤ) → g ≤ℤ ((x -ℤ u) *ℤ (x -ℤ u) +ℤ (y -ℤ v) *ℤ (y -ℤ v)) → g ≤ℤ ((u -ℤ x) *ℤ (u -ℤ x) +ℤ (v -ℤ y) *ℤ (v -ℤ y))
 square-flip = order 5 (λ g x y u v. (g ≲ (x ⊟ u) ⊠ (x ⊟ u) ⊞ (y ⊟ v) ⊠ (y ⊟ v)) ∷ [] ⊢ g ≲ (u ⊟ x) ⊠ (u ⊟ x) ⊞ (v ⊟ y) ⊠ (v ⊟ y) by hyp 0) tt
 
-module _ (a b m g : ℤ) (nz : pos 0 <ℤ (a *ℤ a +ℤ b *ℤ b)) (hg : pos 0 ≤ℤ g) (hm : pos 0 ≤ℤ m) (hn : (a *ℤ a +ℤ b *ℤ b) ≤ℤ (m *ℤ m)) where
-  far-corner : (c s : Vertex) → (g *ℤ m) ≤ℤ toward a b c s → (g *ℤ g) ≤ℤ d2 s c
-  far-corner c s h = square-flip (g *ℤ g) (s .x) (s .y) (c .x) (c .y) (cancel (a *ℤ a +ℤ b *ℤ b) (g *ℤ g) (d2 c s) nz (near-corner a b m g (s .x -ℤ c .x) (s .y -ℤ c .y) hg hm hn h))
+module _ (a b w g : ℤ) (nz : pos 0 <ℤ (a *ℤ a +ℤ b *ℤ b)) (hw : pos 0 ≤ℤ w) (hn : ((a *ℤ a +ℤ b *ℤ b) *ℤ (g *ℤ g)) ≤ℤ (w *ℤ w)) where
+  far-corner : (c s : Vertex) → w ≤ℤ toward a b c s → (g *ℤ g) ≤ℤ d2 s c
+  far-corner c s h = square-flip (g *ℤ g) (s .x) (s .y) (c .x) (c .y) (cancel (a *ℤ a +ℤ b *ℤ b) (g *ℤ g) (d2 c s) nz (near-corner a b w g (s .x -ℤ c .x) (s .y -ℤ c .y) hw hn h))
 
-  far : (c : Vertex) (e : Edge) → (g *ℤ m) ≤ℤ toward a b c (e .s) → (g *ℤ m) ≤ℤ toward a b c (e .t) → Far g c e
-  far c e h k = record { before = λ w. far-corner c (e .s) h; after = λ u w. far-corner c (e .t) k; beside = λ u v. full (<ℤ-trans u v) (<ℤ-≤ℤ u) (<ℤ-≤ℤ v) }
+  far : (c : Vertex) (e : Edge) → w ≤ℤ toward a b c (e .s) → w ≤ℤ toward a b c (e .t) → Far g c e
+  far c e h k = record { before = λ z. far-corner c (e .s) h; after = λ u z. far-corner c (e .t) k; beside = λ u v. full (<ℤ-trans u v) (<ℤ-≤ℤ u) (<ℤ-≤ℤ v) }
     where
       l : ℤ
       l = d2 (e .s) (e .t)
@@ -83,7 +83,7 @@ module _ (a b m g : ℤ) (nz : pos 0 <ℤ (a *ℤ a +ℤ b *ℤ b)) (hg : pos 0 
 
       full : pos 0 <ℤ l → pos 0 ≤ℤ along c e → along c e ≤ℤ l → (g *ℤ g *ℤ l) ≤ℤ (x *ℤ x)
       full p u v = cancel (n *ℤ l) (g *ℤ g *ℤ l) (x *ℤ x) (order 2 (λ n l. (O ≺ n) ∷ (O ≺ l) ∷ [] ⊢ O ≺ n ⊠ l by hyp 0 ⊗ hyp 1 ⊕ hyp 0 ⊕ hyp 1) tt n l nz p)
-          (near-edge n m g l (along c e) (toward a b c (e .s)) (toward a b c (e .t)) x (a *ℤ (e .t .y -ℤ e .s .y) -ℤ b *ℤ (e .t .x -ℤ e .s .x)) hg hm hn u v h k (foot a b c e) (cauchy a b (e .t .x -ℤ e .s .x) (e .t .y -ℤ e .s .y)))
+          (near-edge n w g l (along c e) (toward a b c (e .s)) (toward a b c (e .t)) x (a *ℤ (e .t .y -ℤ e .s .y) -ℤ b *ℤ (e .t .x -ℤ e .s .x)) hw hn u v h k (foot a b c e) (cauchy a b (e .t .x -ℤ e .s .x) (e .t .y -ℤ e .s .y)))
 
 -- ---- parts separated by a direction
 
@@ -107,52 +107,56 @@ pub record Apart (g : ℤ) (ps qs : Part) : Type 0 where
   pub first : (p : Vertex) (e : Edge) → In p ps → In e (edges qs) → Far g p e
   pub second : (q : Vertex) (e : Edge) → In q qs → In e (edges ps) → Far g q e
 
+-- the opposite direction
+neg-norm : (a b g w : ℤ) → ((a *ℤ a +ℤ b *ℤ b) *ℤ (g *ℤ g)) ≤ℤ w → ((negℤ a *ℤ negℤ a +ℤ negℤ b *ℤ negℤ b) *ℤ (g *ℤ g)) ≤ℤ w
+neg-norm = order 4 (λ a b g w. ((a ⊠ a ⊞ b ⊠ b) ⊠ (g ⊠ g) ≲ w) ∷ [] ⊢ (⊖ a ⊠ ⊖ a ⊞ ⊖ b ⊠ ⊖ b) ⊠ (g ⊠ g) ≲ w by hyp 0) tt
+
+-- the way from a corner of the first part to one of the second, and back
+ahead : (a b w px py qx qy : ℤ) → (a *ℤ px +ℤ b *ℤ py +ℤ w) ≤ℤ (a *ℤ qx +ℤ b *ℤ qy) → w ≤ℤ (a *ℤ (qx -ℤ px) +ℤ b *ℤ (qy -ℤ py))
+ahead = order 7 (λ a b w px py qx qy. (a ⊠ px ⊞ b ⊠ py ⊞ w ≲ a ⊠ qx ⊞ b ⊠ qy) ∷ [] ⊢ w ≲ a ⊠ (qx ⊟ px) ⊞ b ⊠ (qy ⊟ py) by hyp 0) tt
+
+back : (a b w px py qx qy : ℤ) → (a *ℤ px +ℤ b *ℤ py +ℤ w) ≤ℤ (a *ℤ qx +ℤ b *ℤ qy) → w ≤ℤ (negℤ a *ℤ (px -ℤ qx) +ℤ negℤ b *ℤ (py -ℤ qy))
+back = order 7 (λ a b w px py qx qy. (a ⊠ px ⊞ b ⊠ py ⊞ w ≲ a ⊠ qx ⊞ b ⊠ qy) ∷ [] ⊢ w ≲ ⊖ a ⊠ (px ⊟ qx) ⊞ ⊖ b ⊠ (py ⊟ qy) by hyp 0) tt
+
+-- parts that lie w apart along a direction are g apart, if w is at least g times the direction's length
+pub wide-apart : (g w a b : ℤ) (ps qs : Part) → pos 0 ≤ℤ w → pos 0 <ℤ (a *ℤ a +ℤ b *ℤ b) → ((a *ℤ a +ℤ b *ℤ b) *ℤ (g *ℤ g)) ≤ℤ (w *ℤ w) → Wide w a b ps qs → Apart g ps qs
+wide-apart g w a b ps qs hw nz hn s = record {
+  first = λ p e i j. far a b w g nz hw hn p e (to p (e .s) i (start qs e j)) (to p (e .t) i (end qs e j));
+  second = λ q e i j. far (negℤ a) (negℤ b) w g (neg-nz a b nz) hw (neg-norm a b g (w *ℤ w) hn) q e (from (e .s) q (start ps e j) i) (from (e .t) q (end ps e j) i);
+}
+  where
+    to : (p q : Vertex) → In p ps → In q qs → w ≤ℤ toward a b p q
+    to p q i j = ahead a b w (p .x) (p .y) (q .x) (q .y) (s p q i j)
+
+    from : (p q : Vertex) → In p ps → In q qs → w ≤ℤ toward (negℤ a) (negℤ b) q p
+    from p q i j = back a b w (p .x) (p .y) (q .x) (q .y) (s p q i j)
+
+-- and separated at gap 0, by an edge
+wide-zero : (w a b : ℤ) (ps qs : Part) → pos 0 ≤ℤ w → Wide w a b ps qs → Sep (pos 0) a b ps qs
+wide-zero w a b ps qs hw s p q i j = order 4 (λ u v w m. (O ≲ w) ∷ (u ⊞ w ≲ v) ∷ [] ⊢ u ⊞ O ⊠ m ≲ v by hyp 0 ⊕ hyp 1) tt (dot a b p) (dot a b q) w (absZ a +ℤ absZ b) hw (s p q i j)
+
+pub wide-edge : (ps qs : Part) (w a b : ℤ) → Good ps → Good qs → pos 0 ≤ℤ w → pos 0 <ℤ (a *ℤ a +ℤ b *ℤ b) → Wide w a b ps qs → ByEdge ps qs
+wide-edge ps qs w a b k h hw nz s = some-edge ps qs k h a b nz (wide-zero w a b ps qs hw s)
+
+-- ---- the gap measured as a square
+
 -- a² + b² is at most (|a| + |b|)²
 absZ-sq : (a : ℤ) → absZ a *ℤ absZ a ≡ a *ℤ a
 absZ-sq (pos n) = refl
 absZ-sq (negsuc n) = refl
 
-absZ-norm : (a b : ℤ) → (a *ℤ a +ℤ b *ℤ b) ≤ℤ ((absZ a +ℤ absZ b) *ℤ (absZ a +ℤ absZ b))
-absZ-norm a b = order 4 (λ a b c d. (c ⊠ c ≈ a ⊠ a) ∷ (d ⊠ d ≈ b ⊠ b) ∷ (O ≲ c) ∷ (O ≲ d) ∷ [] ⊢ a ⊠ a ⊞ b ⊠ b ≲ (c ⊞ d) ⊠ (c ⊞ d) by times 0 (# (negsuc 0)) ⊕ times 1 (# (negsuc 0)) ⊕ num 2 ⊗ hyp 2 ⊗ hyp 3) tt
-    a b (absZ a) (absZ b) (absZ-sq a) (absZ-sq b) (nonneg-pos (natAbs a)) (nonneg-pos (natAbs b))
+absZ-norm : (g a b : ℤ) → ((a *ℤ a +ℤ b *ℤ b) *ℤ (g *ℤ g)) ≤ℤ (g *ℤ (absZ a +ℤ absZ b) *ℤ (g *ℤ (absZ a +ℤ absZ b)))
+absZ-norm g a b = order 5 (λ g a b c d. (c ⊠ c ≈ a ⊠ a) ∷ (d ⊠ d ≈ b ⊠ b) ∷ (O ≲ c) ∷ (O ≲ d) ∷ []
+    ⊢ (a ⊠ a ⊞ b ⊠ b) ⊠ (g ⊠ g) ≲ g ⊠ (c ⊞ d) ⊠ (g ⊠ (c ⊞ d)) by times 0 (⊖ (g ⊠ g)) ⊕ times 1 (⊖ (g ⊠ g)) ⊕ sqr g ⊗ num 2 ⊗ hyp 2 ⊗ hyp 3) tt
+    g a b (absZ a) (absZ b) (absZ-sq a) (absZ-sq b) (nonneg-pos (natAbs a)) (nonneg-pos (natAbs b))
 
--- the opposite direction
-neg-norm : (a b m : ℤ) → (a *ℤ a +ℤ b *ℤ b) ≤ℤ m → (negℤ a *ℤ negℤ a +ℤ negℤ b *ℤ negℤ b) ≤ℤ m
-neg-norm = order 3 (λ a b m. (a ⊠ a ⊞ b ⊠ b ≲ m) ∷ [] ⊢ ⊖ a ⊠ ⊖ a ⊞ ⊖ b ⊠ ⊖ b ≲ m by hyp 0) tt
+reach-some : (g a b : ℤ) → pos 0 ≤ℤ g → pos 0 ≤ℤ (g *ℤ (absZ a +ℤ absZ b))
+reach-some g a b hg = order 2 (λ g m. (O ≲ g) ∷ (O ≲ m) ∷ [] ⊢ O ≲ g ⊠ m by hyp 0 ⊗ hyp 1) tt g (absZ a +ℤ absZ b) hg (nonneg-pos _)
 
--- the way from a corner of the first part to one of the second, and back
-ahead : (a b g m px py qx qy : ℤ) → (a *ℤ px +ℤ b *ℤ py +ℤ g *ℤ m) ≤ℤ (a *ℤ qx +ℤ b *ℤ qy) → (g *ℤ m) ≤ℤ (a *ℤ (qx -ℤ px) +ℤ b *ℤ (qy -ℤ py))
-ahead = order 8 (λ a b g m px py qx qy. (a ⊠ px ⊞ b ⊠ py ⊞ g ⊠ m ≲ a ⊠ qx ⊞ b ⊠ qy) ∷ [] ⊢ g ⊠ m ≲ a ⊠ (qx ⊟ px) ⊞ b ⊠ (qy ⊟ py) by hyp 0) tt
-
-back : (a b g m px py qx qy : ℤ) → (a *ℤ px +ℤ b *ℤ py +ℤ g *ℤ m) ≤ℤ (a *ℤ qx +ℤ b *ℤ qy) → (g *ℤ m) ≤ℤ (negℤ a *ℤ (px -ℤ qx) +ℤ negℤ b *ℤ (py -ℤ qy))
-back = order 8 (λ a b g m px py qx qy. (a ⊠ px ⊞ b ⊠ py ⊞ g ⊠ m ≲ a ⊠ qx ⊞ b ⊠ qy) ∷ [] ⊢ g ⊠ m ≲ ⊖ a ⊠ (px ⊟ qx) ⊞ ⊖ b ⊠ (py ⊟ qy) by hyp 0) tt
-
--- what a direction separates at gap g is that far apart
+-- so what a direction separates at gap g is that far apart,
 pub sep-apart : (g a b : ℤ) (ps qs : Part) → pos 0 ≤ℤ g → pos 0 <ℤ (a *ℤ a +ℤ b *ℤ b) → Sep g a b ps qs → Apart g ps qs
-sep-apart g a b ps qs hg nz s = record {
-  first = λ p e i j. far a b m g nz hg hm hn p e (to p (e .s) i (start qs e j)) (to p (e .t) i (end qs e j));
-  second = λ q e i j. far (negℤ a) (negℤ b) m g (neg-nz a b nz) hg hm (neg-norm a b (m *ℤ m) hn) q e (from (e .s) q (start ps e j) i) (from (e .t) q (end ps e j) i);
-}
-  where
-    m : ℤ
-    m = absZ a +ℤ absZ b
-
-    hm : pos 0 ≤ℤ m
-    hm = nonneg-pos _
-
-    hn : (a *ℤ a +ℤ b *ℤ b) ≤ℤ (m *ℤ m)
-    hn = absZ-norm a b
-
-    to : (p q : Vertex) → In p ps → In q qs → (g *ℤ m) ≤ℤ toward a b p q
-    to p q i j = ahead a b g m (p .x) (p .y) (q .x) (q .y) (s p q i j)
-
-    from : (p q : Vertex) → In p ps → In q qs → (g *ℤ m) ≤ℤ toward (negℤ a) (negℤ b) q p
-    from p q i j = back a b g m (p .x) (p .y) (q .x) (q .y) (s p q i j)
+sep-apart g a b ps qs hg nz s = wide-apart g (g *ℤ (absZ a +ℤ absZ b)) a b ps qs (reach-some g a b hg) nz (absZ-norm g a b) s
 
 -- and separated at gap 0
-sep-zero : (g a b : ℤ) (ps qs : Part) → pos 0 ≤ℤ g → Sep g a b ps qs → Sep (pos 0) a b ps qs
-sep-zero g a b ps qs hg s p q i j = order 4 (λ u v g m. (O ≲ g) ∷ (O ≲ m) ∷ (u ⊞ g ⊠ m ≲ v) ∷ [] ⊢ u ⊞ O ⊠ m ≲ v by hyp 2 ⊕ hyp 0 ⊗ hyp 1) tt (dot a b p) (dot a b q) g (absZ a +ℤ absZ b) hg (nonneg-pos _) (s p q i j)
-
--- by an edge
 pub sep-edge : (ps qs : Part) (g a b : ℤ) → Good ps → Good qs → pos 0 ≤ℤ g → pos 0 <ℤ (a *ℤ a +ℤ b *ℤ b) → Sep g a b ps qs → ByEdge ps qs
-sep-edge ps qs g a b k h hg nz s = some-edge ps qs k h a b nz (sep-zero g a b ps qs hg s)
+sep-edge ps qs g a b k h hg nz s = wide-edge ps qs (g *ℤ (absZ a +ℤ absZ b)) a b k h (reach-some g a b hg) nz s

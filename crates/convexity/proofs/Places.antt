@@ -20,11 +20,12 @@ use Rattle.model.specs.Geometry.{vertexAt, following, cross, strictlyLeft, edge
 use Rattle.model.specs.Lists.{any, below, largestZ, smallestZ}
 use Rattle.model.proofs.Lists.{all-below}
 use Rattle.model.proofs.Extremes.{largest-test, smallest-test}
+use Rattle.convexity.specs.Parts.{width}
 use Rattle.convexity.specs.Square.{clearance, separatesBy}
 use Rattle.convexity.proofs.Members.{In, here, there, not-in, in-left, in-right, all-in, in-all, in-any, in-map, map-in, in-at, at-in, in-below, below-in}
 use Rattle.convexity.proofs.HalfPlanes.{O}
 use Rattle.convexity.proofs.Edges.{Edge, chain, edges, area, areaE, Good}
-use Rattle.convexity.proofs.Separation.{Sep, nx, ny, ByEdge}
+use Rattle.convexity.proofs.Separation.{Wide, Sep, nx, ny, ByEdge}
 
 -- ---- the edge at a place
 
@@ -153,6 +154,15 @@ module _ (gap : ℕ) (P Q : Part) (someP : 0 < length P) (someQ : 0 < length Q) 
 
       back : (l k v : ℤ) → l ≤ℤ (v -ℤ k) → (l +ℤ k) ≤ℤ v
       back = order 3 (λ l k v. (l ≲ v ⊟ k) ∷ [] ⊢ l ⊞ k ≲ v by hyp 0) tt
+
+  -- each corner of Q lies at least the width beyond each of P
+  pub width-corners : Wide (width P Q d) (d .a) (d .b) P Q
+  unfolding along
+  width-corners p q i j =
+      order 4 (λ u l s v. (u ≲ l) ∷ (s ≲ v) ∷ [] ⊢ u ⊞ (s ⊟ l) ≲ v by hyp 0 ⊕ hyp 1) tt
+      (along d p) (largestZ (map (along d) P)) (smallestZ (map (along d) Q)) (along d q)
+      (largest-upper (map (along d) P) firstSome (along d p) (in-map (along d) i))
+      (smallest-lower (map (along d) Q) secondSome (along d q) (in-map (along d) j))
 
 -- at gap 0
 pub zero-gap : (P Q : Part) (d : Direction) → separatesBy 0 P Q d ≡ separates P Q d

@@ -17,9 +17,13 @@ use Rattle.convexity.proofs.Edges.{Edge, chain, edges, area, side, poin
 abbrev pub dot : ℤ → ℤ → Vertex → ℤ
 dot a b p = a *ℤ p .x +ℤ b *ℤ p .y
 
--- the direction (a, b) separates at gap g
+-- the parts lie w apart along the direction (a, b)
+abbrev pub Wide : ℤ → ℤ → ℤ → Part → Part → Type 0
+Wide w a b ps qs = (p q : Vertex) → In p ps → In q qs → (dot a b p +ℤ w) ≤ℤ dot a b q
+
+-- it separates them at gap g
 abbrev pub Sep : ℤ → ℤ → ℤ → Part → Part → Type 0
-Sep g a b ps qs = (p q : Vertex) → In p ps → In q qs → (dot a b p +ℤ g *ℤ (absZ a +ℤ absZ b)) ≤ℤ dot a b q
+Sep g a b ps qs = Wide (g *ℤ (absZ a +ℤ absZ b)) a b ps qs
 
 -- the outward normal of an edge
 abbrev pub nx : Edge → ℤ

@@ -9,17 +9,18 @@ use Prim.Native.Nat.{ℕ, _≤_, _<_, zero-le}
 use lib.IntN.{ℤ, pos, _+ℤ_, _*ℤ_}
 use lib.ListN.{length}
 use lib.Signed.{_≤ℤ_, _<ℤ_}
+use Rattle.integers.proofs.Order.{<ℤ-≤ℤ}
 use Rattle.model.specs.Content.{Vertex, Part}
-use Rattle.model.specs.Geometry.{Direction, direction, separates, disjoint, nearEdge, cornersClear, separated}
+use Rattle.model.specs.Geometry.{vertexAt, Direction, direction, separates, disjoint, distanceSquared, nearEdge, cornersClear, separated}
 use Rattle.model.specs.Lists.{any}
 use Rattle.model.proofs.Lists.{not-both}
-use Rattle.convexity.specs.Parts.{SoundPart}
+use Rattle.convexity.specs.Parts.{SoundPart, width}
 use Rattle.convexity.specs.Points.{reachSquared}
 use Rattle.convexity.specs.Square.{axes, separatesBy, squareDirections, squareSeparated}
 use Rattle.convexity.proofs.Members.{any-in, is-false}
 use Rattle.convexity.proofs.Near.{far-points, points-far, far-not-near, not-near-far}
 use Rattle.convexity.proofs.Places.{zero-gap}
-use Rattle.convexity.proofs.Clear.{nonzero, axis-some, direction-some, direction-clear, direction-round, clear-zero, clear-less, round-says, round-of}
+use Rattle.convexity.proofs.Clear.{nonzero, axis-some, direction-some, direction-clear, direction-round, width-round, width-some, corners-round, clear-zero, clear-less, round-says, round-of}
 
 -- ---- Sound parts
 
@@ -36,6 +37,10 @@ module _ (P Q : Part) (soundP : SoundPart P) (soundQ : SoundPart Q) where
   pub axes-separated : (h : ℕ) → any (separatesBy h P Q) axes ≡ true → separated h P Q ≡ true
   axes-separated h s = let r = any-in (separatesBy h P Q) axes s in direction-round P Q soundP soundQ h (r .0) (axis-some (r .0) (r .1)) (r .2)
 
+  -- And so are parts that lie as far apart along any direction as the gap, or further: code may look along the one that it likes.
+  pub width-separated : (h : ℕ) (d : Direction) → pos 0 <ℤ width P Q d → ((d .a *ℤ d .a +ℤ d .b *ℤ d .b) *ℤ (pos h *ℤ pos h)) ≤ℤ (width P Q d *ℤ width P Q d) → separated h P Q ≡ true
+  width-separated h d w s = width-round P Q soundP soundQ h d (width-some P Q soundP soundQ d w) (<ℤ-≤ℤ w) s
+
   -- And so are all parts that document 01 separated.
   pub square-separated : (h : ℕ) → squareSeparated h P Q ≡ true → separated h P Q ≡ true
   unfolding squareSeparated
@@ -49,6 +54,11 @@ module _ (P Q : Part) (soundP : SoundPart P) (soundQ : SoundPart Q) where
 pub kept-apart : (P Q : Part) → 0 < length P → 0 < length Q → (h : ℕ) (d : Direction) → (d ≡ direction (pos 0) (pos 0) → ⊥) → separatesBy h P Q d ≡ true
     → (cornersClear h P Q ≡ true) × (cornersClear h Q P ≡ true)
 kept-apart P Q p q h d n s = direction-clear P Q p q h d (nonzero d n) s
+
+-- Parts with two corners nearer to each other than the gap are not separated at it: code may look at two corners first.
+pub corners-near : (h : ℕ) (P Q : Part) (i j : ℕ) → i < length P → j < length Q → distanceSquared (vertexAt P i) (vertexAt Q j) <ℤ (pos h *ℤ pos h) → separated h P Q ≡ false
+unfolding distanceSquared
+corners-near h P Q i j hi hj l = is-false (separated h P Q) (corners-round h P Q i j hi hj l)
 
 -- At gap 0 a direction that separates is all that is asked.
 pub separated-zero : (P Q : Part) → separated 0 P Q ≡ disjoint P Q

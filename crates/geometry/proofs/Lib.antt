@@ -3,6 +3,7 @@ pub mod Sizes
 pub mod Lowest
 pub mod EdgeLaws
 pub mod PairLaws
+pub mod MiddleLaws
 pub mod DistanceLaws
 pub mod BoxesApart
 pub mod PieceLaws

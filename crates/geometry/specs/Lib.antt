@@ -2,4 +2,5 @@
 pub mod Directions
 pub mod Compact
 pub mod Apart
+pub mod Middles
 pub mod Pieces

@@ -1,7 +1,7 @@
 // How far the vertices of a part, a move and a gap reach along a direction (a, b).
 ghost use mathlib.Core.List.{map};
 ghost use mathlib.Core.Path.{_≡_};
-ghost use Prim.Native.Nat.{_+_, _*_, _<_};
+ghost use Prim.Native.Nat.{_+_, _*_, _≤_, _<_};
 ghost use lib.IntN.{natAbs, pos};
 ghost use lib.ListN.{length};
 ghost use Rattle.integers.specs.Extrema.{minZ};
@@ -12,6 +12,7 @@ ghost use Rattle.model.specs.Lists.{smallestZ};
 ghost use Rattle.convexity.specs.Square.{clearance};
 ghost use Rattle.polygons.specs.Flat.{partOf};
 ghost use Rattle.geometry.specs.Directions.{Small};
+ghost use Rattle.geometry.specs.Middles.{Furthest};
 use integers::dot;
 use polygons::vertices::coordinate;
 
@@ -66,4 +67,24 @@ pub fn lowest(p: &[i16], a: i32, b: i32) -> i64
         k += 1;
     }
     least
+}
+
+// A vertex of the part that lies furthest along (a, b).
+pub fn furthest(p: &[i16], a: i32, b: i32) -> usize
+    requires { ⌜ 2 ≤ length (now p) ⌝ }
+    ensures { λ r. ⌜ Furthest (partOf (now (p .entry))) (direction a b) r ⌝ }
+{
+    let n = p.len() / 2;
+    let mut best: usize = 0;
+    let mut most = vertex_along(p, 0, a, b);
+    let mut k: usize = 1;
+    while k < n {
+        let here = vertex_along(p, k, a, b);
+        if most < here {
+            best = k;
+            most = here;
+        }
+        k += 1;
+    }
+    best
 }

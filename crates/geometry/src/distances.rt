@@ -16,14 +16,14 @@ use integers::dot;
 use polygons::vertices::coordinate;
 
 // The square of a gap.
-fn squared(gap: u16) -> i64
+pub fn squared(gap: u16) -> i64
     ensures { λ r. ⌜ r ≡ pos gap *ℤ pos gap ⌝ }
 {
     (gap as i64) * (gap as i64)
 }
 
 // How far (x, y) lies along (a, b), times the length of (a, b).
-fn way_along(a: i16, b: i16, x: i16, y: i16) -> i64
+pub fn way_along(a: i16, b: i16, x: i16, y: i16) -> i64
     ensures { λ r. ⌜ Small (a *ℤ x +ℤ b *ℤ y) 31 r ⌝ }
 {
     dot(a as i32, b as i32, x, y)

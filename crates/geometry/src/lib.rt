@@ -2,5 +2,6 @@
 mod along;
 mod distances;
 mod edges;
+mod middles;
 pub mod pairs;
 pub mod pieces;

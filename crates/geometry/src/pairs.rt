@@ -17,6 +17,7 @@ use crate::distances::corners_clear;
 use crate::edges::difference;
 use crate::edges::next_vertex;
 use crate::edges::separating_edge;
+use crate::middles::look;
 use polygons::extents::Extents;
 
 // Whether what ends at `high` and is moved by `from` clears, by the gap, what begins at `low` and is moved by `to`.
@@ -96,6 +97,10 @@ pub fn separated(p: &[i16], q: &[i16], dx: i16, dy: i16, gap: u16) -> bool
     requires { ⌜ Short 4096 dx dy × (Compact (partOf (now p)) × Compact (partOf (now q))) ⌝ }
     ensures { λ r. ⌜ r ≡ Geometry.separated gap (partOf (now (p .entry))) (map (shifted dx dy) (partOf (now (q .entry)))) ⌝ }
 {
+    let seen = look(p, q, dx, dy, gap);
+    if seen != 0 {
+        return seen == 1;
+    }
     let first = beside(p, q, dx, dy, gap);
     if first != 0 {
         return first == 1;
