@@ -15,14 +15,13 @@ use mir.Val.{Fits, SFits, toZ, ofZ}
 use mir.ValLaws.{toZ-ofZ, toZ-pos}
 use Rattle.integers.proofs.Order.{ltZ-true, ltZ-false, <ℤ-pos}
 use Rattle.integers.proofs.Products.{widened}
-use Rattle.integers.proofs.Sizes.{bounded}
+use Rattle.integers.proofs.Sizes.{bounded, size-of, fits-64}
 use Rattle.integers.proofs.Solver.{_⊞_, _⊟_}
 use Rattle.words.specs.Bits.{testBit}
 use Rattle.words.proofs.Bit.{testBit-above}
 use Rattle.words.proofs.Cases.{le-or-lt}
 use Rattle.model.specs.Candidate.{natural}
 use Rattle.model.proofs.Lists.{not-both, or-left, or-right}
-use Rattle.geometry.proofs.Sizes.{size-of, fits-64}
 
 -- ---- a coordinate moved
 

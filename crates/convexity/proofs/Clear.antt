@@ -110,13 +110,6 @@ pub axis-some : (d : Direction) → In d axes → Some d
 unfolding axes
 axis-some = cons Some (suc-pos 0) (cons Some (suc-pos 0) (cons Some (suc-pos 0) (cons Some (suc-pos 0) (λ d i. absurd (not-in i)))))
 
--- What one direction separates at gap h keeps every corner so far from every edge of the other part.
-pub direction-clear : (P Q : Part) → 0 < length P → 0 < length Q → (h : ℕ) (d : Direction) → Some d → separatesBy h P Q d ≡ true
-    → (cornersClear h P Q ≡ true) × (cornersClear h Q P ≡ true)
-direction-clear P Q p q h d n s =
-    let r = sep-apart (pos h) (d .a) (d .b) P Q (nonneg-pos h) n (separates-corners h P Q p q d s) in
-    (far-clear h P Q (r .first), far-clear h Q P (r .second))
-
 module _ (P Q : Part) (soundP : SoundPart P) (soundQ : SoundPart Q) where
   pub edge-some : (d : Direction) → In d (directions P Q) → Some d
   unfolding directions negated
@@ -134,8 +127,9 @@ module _ (P Q : Part) (soundP : SoundPart P) (soundQ : SoundPart Q) where
   -- What one direction separates at gap h is separated by the round measure.
   pub direction-round : (h : ℕ) (d : Direction) → Some d → separatesBy h P Q d ≡ true → separated h P Q ≡ true
   direction-round h d n s =
-      let r = direction-clear P Q (some soundP) (some soundQ) h d n s in
-      round-of h P Q (edge-separated P Q (some soundP) (some soundQ) (sep-edge P Q (pos h) (d .a) (d .b) (good soundP) (good soundQ) (nonneg-pos h) n (separates-corners h P Q (some soundP) (some soundQ) d s))) (r .0) (r .1)
+      let c = separates-corners h P Q (some soundP) (some soundQ) d s in
+      let r = sep-apart (pos h) (d .a) (d .b) P Q (nonneg-pos h) n c in
+      round-of h P Q (edge-separated P Q (some soundP) (some soundQ) (sep-edge P Q (pos h) (d .a) (d .b) (good soundP) (good soundQ) (nonneg-pos h) n c)) (far-clear h P Q (r .first)) (far-clear h Q P (r .second))
 
   -- So is what lies as far apart along it as the gap, or further.
   pub width-round : (h : ℕ) (d : Direction) → Some d → pos 0 ≤ℤ width P Q d → ((d .a *ℤ d .a +ℤ d .b *ℤ d .b) *ℤ (pos h *ℤ pos h)) ≤ℤ (width P Q d *ℤ width P Q d) → separated h P Q ≡ true

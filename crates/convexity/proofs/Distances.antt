@@ -4,7 +4,7 @@ use mathlib.Core.List.{List, [], _∷_}
 use lib.IntN.{ℤ, pos, negsuc, negℤ, natAbs, _+ℤ_, _-ℤ_, _*ℤ_}
 use lib.Signed.{_≤ℤ_, _<ℤ_}
 use Rattle.integers.specs.Absolute.{absZ}
-use Rattle.integers.proofs.Solver.{ring, #, _⊞_, _⊟_, _⊠_, ⊖_, _≈_, _≲_, _≺_}
+use Rattle.integers.proofs.Solver.{ring, _⊞_, _⊟_, _⊠_, ⊖_, _≈_, _≲_, _≺_}
 use Rattle.integers.proofs.Slack.{nonneg-pos}
 use Rattle.integers.proofs.Certificates.{order, _⊢_by_, hyp, sqr, num, times, _⊕_, _⊗_}
 use Rattle.integers.proofs.Order.{<ℤ-trans, <ℤ-≤ℤ, *ℤ-cancel-≤}

@@ -11,7 +11,7 @@ use lib.ListN.{length}
 use lib.Signed.{_≤ℤ_, _<ℤ_}
 use Rattle.integers.proofs.Order.{<ℤ-≤ℤ}
 use Rattle.model.specs.Content.{Vertex, Part}
-use Rattle.model.specs.Geometry.{vertexAt, Direction, direction, separates, disjoint, distanceSquared, nearEdge, cornersClear, separated}
+use Rattle.model.specs.Geometry.{vertexAt, Direction, direction, separates, disjoint, distanceSquared, nearEdge, separated}
 use Rattle.model.specs.Lists.{any}
 use Rattle.model.proofs.Lists.{not-both}
 use Rattle.convexity.specs.Parts.{SoundPart, width}
@@ -20,7 +20,7 @@ use Rattle.convexity.specs.Square.{axes, separatesBy, squareDirections, 
 use Rattle.convexity.proofs.Members.{any-in, is-false}
 use Rattle.convexity.proofs.Near.{far-points, points-far, far-not-near, not-near-far}
 use Rattle.convexity.proofs.Places.{zero-gap}
-use Rattle.convexity.proofs.Clear.{nonzero, axis-some, direction-some, direction-clear, direction-round, width-round, width-some, corners-round, clear-zero, clear-less, round-says, round-of}
+use Rattle.convexity.proofs.Clear.{nonzero, axis-some, direction-some, direction-round, width-round, width-some, corners-round, clear-zero, clear-less, round-says, round-of}
 
 -- ---- Sound parts
 
@@ -49,11 +49,6 @@ module _ (P Q : Part) (soundP : SoundPart P) (soundQ : SoundPart Q) where
       direction-round P Q soundP soundQ h (r .0) (direction-some P Q soundP soundQ (r .0) (r .1)) (r .2)
 
 -- ---- All parts
-
--- Parts that a direction keeps a gap apart, measured as a square, have no corner nearer than that to an edge of the other: code may look at one direction first.
-pub kept-apart : (P Q : Part) → 0 < length P → 0 < length Q → (h : ℕ) (d : Direction) → (d ≡ direction (pos 0) (pos 0) → ⊥) → separatesBy h P Q d ≡ true
-    → (cornersClear h P Q ≡ true) × (cornersClear h Q P ≡ true)
-kept-apart P Q p q h d n s = direction-clear P Q p q h d (nonzero d n) s
 
 -- Parts with two corners nearer to each other than the gap are not separated at it: code may look at two corners first.
 pub corners-near : (h : ℕ) (P Q : Part) (i j : ℕ) → i < length P → j < length Q → distanceSquared (vertexAt P i) (vertexAt Q j) <ℤ (pos h *ℤ pos h) → separated h P Q ≡ false

@@ -1,33 +1,28 @@
--- The test of a pair by the normals of its parts is the model's, and what a direction keeps apart is clear. Assumes nothing.
-use mathlib.Core.Bool.{Bool, true, false, cond, _&&_, _||_, and-true, and-false, and-comm, and-assoc}
-use mathlib.Core.List.{[], _∷_, map}
-use mathlib.Core.Path.{_≡_, refl, sym, ap, ap₂, subst, _∙_}
-use Prim.Native.Nat.{ℕ, _≤_, _<_}
+-- The test of a pair by the normals of its parts and by distances is the model's. Assumes nothing.
+use mathlib.Core.Bool.{Bool, true, false, cond, _&&_, _||_, and-true, and-false, and-assoc}
+use mathlib.Core.List.{map}
+use mathlib.Core.Path.{_≡_, refl, sym, ap, ap₂, _∙_}
+use Prim.Native.Nat.{ℕ, zero, suc, _<_}
 use native.Mathlib.Omega.{arith}
 use lib.Dec.{eqb}
 use lib.IntN.{ℤ, pos, _+ℤ_, _-ℤ_, _*ℤ_}
-use lib.ListN.{length, length-map}
-use lib.Signed.{leZ, _≤ℤ_}
-use Rattle.integers.proofs.Certificates.{order, _⊢_by_, hyp}
-use Rattle.integers.proofs.Order.{le-leZ}
-use Rattle.integers.proofs.Solver.{ring, #, _⊞_, _⊟_, _⊠_, _≈_, _≲_}
-use Rattle.model.specs.Content.{Vertex, vertex, Part}
-use Rattle.model.specs.Geometry.{Direction, direction, vertexAt, normals, along, separates, disjoint, cornersClear, separated}
-use Rattle.model.specs.Lists.{any, largestFrom, smallestFrom, largestZ, smallestZ}
-use Rattle.model.proofs.Conflict.{disjoint-groups}
+use lib.ListN.{length}
+use lib.Signed.{leZ}
+use Rattle.integers.proofs.Solver.{ring, #, _⊞_, _⊟_, _⊠_, _≈_}
+use Rattle.model.specs.Content.{vertex, Part}
+use Rattle.model.specs.Geometry.{Direction, normals, along, separates, disjoint, cornersClear, separated}
+use Rattle.model.specs.Lists.{any, largestZ, smallestZ}
+use Rattle.model.proofs.Conflict.{disjoint-groups, separated-symmetric}
 use Rattle.model.proofs.Extremes.{leZ-same}
 use Rattle.model.proofs.Lists.{and-both}
-use Rattle.model.proofs.Moves.{along-shifted, largest-shifted, smallest-shifted, normals-shifted, clear-shifted, clear-shifted-corner, unmoved}
+use Rattle.model.proofs.Moves.{largest-shifted, smallest-shifted, normals-shifted, clear-shifted-corner, separated-shifted, unmoved}
 use Rattle.model.proofs.Tests.{any-same}
-use Rattle.convexity.specs.Square.{clearance, separatesBy}
 use Rattle.convexity.proofs.Clear.{clear-zero}
-use Rattle.convexity.proofs.Theorems.{kept-apart}
 use Rattle.polygons.specs.Flat.{shifted}
-use Rattle.geometry.specs.Apart.{bothClear, besideOf}
-use Rattle.geometry.specs.Directions.{separatesMoved, Separating}
-use Rattle.geometry.specs.Compact.{Spared}
-use Rattle.geometry.proofs.DistanceLaws.{one-corner}
-use Rattle.geometry.proofs.EdgeLaws.{no-normal, some-normal}
+use Rattle.geometry.specs.Apart.{bothClear, Beside}
+use Rattle.directions.specs.Directions.{separatesMoved}
+use Rattle.distances.specs.Middles.{Tells}
+use Rattle.distances.proofs.MiddleLaws.{told-nothing, tells-is}
 
 -- ---- the normals
 
@@ -75,112 +70,50 @@ module _ (gap : ℕ) (P Q : Part) (dx dy : ℤ) where
   pub clear-back : cornersClear gap (map (shifted (pos 0 -ℤ dx) (pos 0 -ℤ dy)) P) Q ≡ cornersClear gap P (map (shifted dx dy) Q)
   clear-back = sym (clear-shifted-corner gap Q P dx dy (pos 0) (pos 0)) ∙ ap (λ (R : Part). cornersClear gap R (map (shifted dx dy) Q)) (unmoved P)
 
-  clear-forth : cornersClear gap Q (map (shifted (pos 0 -ℤ dx) (pos 0 -ℤ dy)) P) ≡ cornersClear gap (map (shifted dx dy) Q) P
-  clear-forth = sym (clear-shifted gap Q P dx dy (pos 0) (pos 0)) ∙ ap (cornersClear gap (map (shifted dx dy) Q)) (unmoved P)
+-- ---- what is told without the edges of the second part
 
-  pub both-back : bothClear gap Q (map (shifted (pos 0 -ℤ dx) (pos 0 -ℤ dy)) P) ≡ bothClear gap P (map (shifted dx dy) Q)
-  both-back = ap₂ _&&_ clear-forth clear-back ∙ and-comm (cornersClear gap (map (shifted dx dy) Q) P) (cornersClear gap P (map (shifted dx dy) Q))
-
--- ---- what one direction says
-
--- a direction, not (0, 0), and the parts with a vertex each
-module _ (gap : ℕ) (P Q : Part) (dx dy : ℤ) (someP : 0 < length P) (someQ : 0 < length Q) (a b : ℤ) (nonzero : direction a b ≡ direction (pos 0) (pos 0) → ⊥) where
-  abbrev d : Direction
-  d = direction a b
-
-  -- how far P reaches with the gap, and where Q begins
-  abbrev top : ℤ
-  top = largestZ (map (along d) P) +ℤ clearance gap d
-
-  abbrev low : ℤ
-  low = smallestZ (map (along d) Q) +ℤ along d (vertex dx dy)
-
-  -- it keeps the parts the gap apart
-  pub kept-clear : leZ top low ≡ true → true ≡ bothClear gap P (map (shifted dx dy) Q)
-  unfolding separatesBy
-  kept-clear e =
-      let r = kept-apart P (map (shifted dx dy) Q) someP (rw (length-map Q (shifted dx dy)) someQ) gap d nonzero (ap (leZ top) (smallest-shifted d dx dy Q someQ) ∙ e) in
-      sym (and-both _ _ (r .0) (r .1))
-
-  -- or a corner of Q from P,
-  pub spared-first : Spared gap Q dx dy P d (top -ℤ along d (vertex dx dy))
-  unfolding separatesBy smallestZ smallestFrom
-  spared-first i h l =
-      let v : Vertex = shifted dx dy (vertexAt Q i) in
-      sym (one-corner gap P v)
-      ∙ kept-apart P (v ∷ []) someP (omega arith) gap d nonzero
-      (le-leZ top (along d v) (subst (λ z. top ≤ℤ z) (sym (along-shifted d dx dy (vertexAt Q i))) (across top (along d (vertex dx dy)) (along d (vertexAt Q i)) l))) .1
-    where
-      across : (t w z : ℤ) → (t -ℤ w) ≤ℤ z → t ≤ℤ (z +ℤ w)
-      across = order 3 (λ t w z. (t ⊟ w ≲ z) ∷ [] ⊢ t ≲ z ⊞ w by hyp 0) tt
-
-  -- or a corner of P from Q
-  pub spared-second : Spared gap P (pos 0 -ℤ dx) (pos 0 -ℤ dy) Q (direction (pos 0 -ℤ a) (pos 0 -ℤ b)) (clearance gap d -ℤ low)
-  unfolding separatesBy largestZ largestFrom along
-  spared-second i h l =
-      let v : Vertex = vertexAt P i in
-      sym (one-corner gap Q (shifted (pos 0 -ℤ dx) (pos 0 -ℤ dy) v))
-      ∙ clear-back gap (v ∷ []) Q dx dy
-      ∙ kept-apart (v ∷ []) (map (shifted dx dy) Q) (omega arith) (rw (length-map Q (shifted dx dy)) someQ) gap d nonzero
-      (ap (leZ (along d v +ℤ clearance gap d)) (smallest-shifted d dx dy Q someQ) ∙ le-leZ (along d v +ℤ clearance gap d) low (across (clearance gap d) low a b (v .x) (v .y) l)) .0
-    where
-      across : (c l a b x y : ℤ) → (c -ℤ l) ≤ℤ ((pos 0 -ℤ a) *ℤ x +ℤ (pos 0 -ℤ b) *ℤ y) → (a *ℤ x +ℤ b *ℤ y +ℤ c) ≤ℤ l
-      across = order 6 (λ c l a b x y. (c ⊟ l ≲ (# (pos 0) ⊟ a) ⊠ x ⊞ (# (pos 0) ⊟ b) ⊠ y) ∷ [] ⊢ a ⊠ x ⊞ b ⊠ y ⊞ c ≲ l by hyp 0) tt
-
--- ---- what the edges of one part say
-
-module _ (gap : ℕ) (P Q : Part) (dx dy : ℤ) where
-  -- none of them separates
-  pub beside-none : (k : ℕ) → Separating P Q (vertex dx dy) k → length P ≤ k → 0 ≡ besideOf gap P Q dx dy
-  unfolding besideOf
-  beside-none k s h =
-      let e : any (separatesMoved P Q (vertex dx dy)) (normals P) ≡ false = no-normal (separatesMoved P Q (vertex dx dy)) P (λ j g. s .earlier j (omega arith)) in
-      rw e
-
-  -- edge k does, and the distances decide
-  pub beside-some : (k : ℕ) → Separating P Q (vertex dx dy) k → k < length P → (b : Bool) → b ≡ bothClear gap P (map (shifted dx dy) Q) → cond b 1 2 ≡ besideOf gap P Q dx dy
-  unfolding besideOf
-  beside-some k s h b e = rw (some-normal (separatesMoved P Q (vertex dx dy)) P k h (s .found h), e)
-
--- Two parts are separated if the edges of the first say so, or say nothing and those of the second do.
-abbrev code : Bool → Bool → ℕ
-code a c = cond a (cond c 1 2) 0
-
-module _ (gap : ℕ) (P Q : Part) (dx dy : ℤ) (someQ : 0 < length Q) where
-  by-first : (a b c : Bool) → (code a c ≡ 0 → ⊥) → eqb (code a c) 1 ≡ ((a || b) && c)
-  by-first true b true h = refl
-  by-first true b false h = refl
-  by-first false b c h = absurd (h refl)
-
-  by-second : (a b c : Bool) → code a c ≡ 0 → eqb (code b c) 1 ≡ ((a || b) && c)
-  by-second true b true h = let never : ⊥ = omega arith in absurd never
-  by-second true b false h = let never : ⊥ = omega arith in absurd never
-  by-second false true true h = refl
-  by-second false true false h = refl
-  by-second false false c h = refl
-
+module _ (gap : ℕ) (P Q : Part) (dx dy : ℤ) (someP : 0 < length P) (someQ : 0 < length Q) where
   abbrev firstEdges : Bool
   firstEdges = any (separatesMoved P Q (vertex dx dy)) (normals P)
 
   abbrev secondEdges : Bool
   secondEdges = any (separatesMoved Q P (vertex (pos 0 -ℤ dx) (pos 0 -ℤ dy))) (normals Q)
 
-  abbrev clear : Bool
-  clear = bothClear gap P (map (shifted dx dy) Q)
+  abbrev apart : Bool
+  apart = separated gap P (map (shifted dx dy) Q)
 
-  -- the three tests in two groups
-  separated-is : separated gap P (map (shifted dx dy) Q) ≡ ((firstEdges || secondEdges) && clear)
+  -- the three tests of the model in two groups
+  separated-is : (a b : Bool) → firstEdges ≡ a → secondEdges ≡ b → apart ≡ ((a || b) && bothClear gap P (map (shifted dx dy) Q))
   unfolding separated
-  separated-is =
+  separated-is a b e f =
       and-assoc (disjoint P (map (shifted dx dy) Q)) (cornersClear gap P (map (shifted dx dy) Q)) (cornersClear gap (map (shifted dx dy) Q) P)
-      ∙ ap (λ t. t && clear) (disjoint-is P Q dx dy someQ)
+      ∙ ap (λ t. t && bothClear gap P (map (shifted dx dy) Q)) (disjoint-is P Q dx dy someQ ∙ ap₂ _||_ e f)
 
-  pub first-says : (besideOf gap P Q dx dy ≡ 0 → ⊥) → eqb (besideOf gap P Q dx dy) 1 ≡ separated gap P (map (shifted dx dy) Q)
-  unfolding besideOf
-  first-says h = by-first firstEdges secondEdges clear h ∙ sym separated-is
+  -- a first look tells enough
+  pub beside-seen : (r : ℕ) → (r ≡ 0 → ⊥) → Tells r apart → Beside gap P Q dx dy r
+  beside-seen r h t = record { tells = t; none = λ z. absurd (h z) }
 
-  pub second-says : besideOf gap P Q dx dy ≡ 0 → eqb (besideOf gap Q P (pos 0 -ℤ dx) (pos 0 -ℤ dy)) 1 ≡ separated gap P (map (shifted dx dy) Q)
-  unfolding besideOf
-  second-says h =
-      ap (λ c. eqb (code secondEdges c) 1) (both-back gap P Q dx dy)
-      ∙ by-second firstEdges secondEdges clear h ∙ sym separated-is
+  -- no edge of P separates
+  pub beside-none : firstEdges ≡ false → Beside gap P Q dx dy 0
+  beside-none e = record { tells = told-nothing _; none = λ z. e }
+
+  -- one does, and the distances decide
+  pub beside-some : firstEdges ≡ true → (b : Bool) → b ≡ bothClear gap P (map (shifted dx dy) Q) → Beside gap P Q dx dy (cond b 1 2)
+  beside-some h b e = go b (separated-is true secondEdges h refl ∙ sym e)
+    where
+      go : (b : Bool) → apart ≡ b → Beside gap P Q dx dy (cond b 1 2)
+      go true f = record { tells = record { holds = λ z. f; fails = λ g. absurd (omega arith) }; none = λ z. absurd (omega arith) }
+      go false f = record { tells = record { holds = λ z. absurd (omega arith); fails = λ g. f }; none = λ z. absurd (omega arith) }
+
+  -- told without the edges of Q,
+  pub first-says : (r : ℕ) → Beside gap P Q dx dy r → (r ≡ 0 → ⊥) → eqb r 1 ≡ apart
+  first-says r t h = tells-is r _ h (t .tells)
+
+  -- and otherwise without those of P, of which none separates
+  pub second-says : (r s : ℕ) → Beside gap P Q dx dy r → r ≡ 0 → Beside gap Q P (pos 0 -ℤ dx) (pos 0 -ℤ dy) s → eqb s 1 ≡ apart
+  second-says r zero t z u = sym (separated-is false false (t .none z) (u .none refl))
+  second-says r (suc s) t z u =
+      tells-is (suc s) _ (λ q. absurd (omega arith)) (u .tells)
+      ∙ sym (separated-shifted gap Q P someQ someP dx dy (pos 0) (pos 0))
+      ∙ ap (separated gap (map (shifted dx dy) Q)) (unmoved P)
+      ∙ separated-symmetric gap (map (shifted dx dy) Q) P

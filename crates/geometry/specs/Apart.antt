@@ -1,14 +1,16 @@
--- The tests of a pair of parts: of their boxes, of the distances of their corners, and of the edges of one of them.
-use mathlib.Core.Bool.{Bool, cond, _&&_, _||_}
+-- The tests of a pair of parts: of their boxes, of the distances of their corners, and what is told without the edges of the second.
+use mathlib.Core.Bool.{Bool, false, _&&_, _||_}
 use mathlib.Core.List.{map}
+use mathlib.Core.Path.{_≡_}
 use Prim.Native.Nat.{ℕ}
 use lib.IntN.{ℤ, pos, _+ℤ_}
 use lib.Signed.{leZ}
 use Rattle.model.specs.Content.{vertex, Part}
-use Rattle.model.specs.Geometry.{normals, cornersClear}
+use Rattle.model.specs.Geometry.{normals, cornersClear, separated}
 use Rattle.model.specs.Lists.{any}
 use Rattle.polygons.specs.Flat.{shifted}
-use Rattle.geometry.specs.Directions.{separatesMoved}
+use Rattle.directions.specs.Directions.{separatesMoved}
+use Rattle.distances.specs.Middles.{Tells}
 use Rattle.polygons.specs.declared.extents.Extents.{Extents}
 
 -- What ends at high and is moved by from clears, by the gap, what begins at low and is moved by to.
@@ -27,6 +29,7 @@ boxesApart gap e f dx dy =
 abbrev pub bothClear : ℕ → Part → Part → Bool
 bothClear gap P Q = cornersClear gap P Q && cornersClear gap Q P
 
--- What the edges of P say of it and Q moved by (dx, dy): 0 if no normal of them separates the two, 1 if one does and no corner is too near an edge, 2 if one does and a corner is.
-unfoldable pub besideOf : ℕ → Part → Part → ℤ → ℤ → ℕ
-besideOf gap P Q dx dy = cond (any (separatesMoved P Q (vertex dx dy)) (normals P)) (cond (bothClear gap P (map (shifted dx dy) Q)) 1 2) 0
+-- What the number r tells of P and Q moved by (dx, dy): whether they are separated at the gap, or, if it is 0, that no normal of P separates them.
+pub record Beside (gap : ℕ) (P Q : Part) (dx dy : ℤ) (r : ℕ) : Type 0 where
+  pub tells : Tells r (separated gap P (map (shifted dx dy) Q))
+  pub none : r ≡ 0 → any (separatesMoved P Q (vertex dx dy)) (normals P) ≡ false

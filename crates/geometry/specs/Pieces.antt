@@ -12,7 +12,7 @@ use Rattle.convexity.specs.Parts.{SoundPart}
 use Rattle.polygons.specs.Boxes.{box, extentsOf}
 use Rattle.polygons.specs.Flat.{partOf}
 use Rattle.polygons.specs.declared.extents.Extents.{Extents}
-use Rattle.geometry.specs.Compact.{Compact}
+use Rattle.distances.specs.Compact.{Compact}
 use Rattle.geometry.specs.declared.pieces.Piece.{Piece}
 
 -- Part i of the piece.

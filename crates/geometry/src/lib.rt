@@ -1,7 +1,3 @@
 // The test of a pair of parts, by their corners alone, and of a pair of pieces, part by part.
-mod along;
-mod distances;
-mod edges;
-mod middles;
 pub mod pairs;
 pub mod pieces;

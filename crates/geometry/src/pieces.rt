@@ -8,7 +8,7 @@ ghost use Rattle.model.specs.Geometry;
 ghost use Rattle.model.specs.Geometry.{piecesConflict};
 ghost use Rattle.convexity.specs.Parts.{SoundPart};
 ghost use Rattle.polygons.specs.Flat.{shifted};
-ghost use Rattle.geometry.specs.Compact.{Compact, Short};
+ghost use Rattle.distances.specs.Compact.{Compact, Short};
 ghost use Rattle.geometry.specs.Pieces.{Fitting, Standing, partIn, boxIn, partsIn, partConflicts};
 use crate::pairs::boxes_apart;
 use crate::pairs::separated;

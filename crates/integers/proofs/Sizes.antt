@@ -4,11 +4,11 @@
 use mathlib.Core.List.{List, [], _∷_}
 use Prim.Native.Nat.{ℕ, zero, suc, _+_, _*_, _^_, _≤_, _<_, zero-le}
 use native.Mathlib.Nat.{le-refl, le-trans, le-of-eq, lt-trans, lt-suc-self, lt-of-le-of-lt, add-le-add, mul-le-mul}
-use lib.Dec.{T, ltb, ltb→lt}
+use lib.Dec.{T, ltb, ltb→lt, lit<}
 use lib.ListN.{getD}
 use lib.IntN.{ℤ, pos, negsuc, negℤ, natAbs}
 use lib.Signed.{natAbs-le, _≤ℤ_, _<ℤ_}
-use mir.Syntax.{Width}
+use mir.Syntax.{Width, w64}
 use mir.Val.{SFits, hbits}
 use Rattle.integers.proofs.Solver.{Expr, v, #, _⊞_, _⊠_, ⊖_, Env, lookup, eval, _≲_, Fun, from, All, all-of}
 use Rattle.integers.proofs.Slack.{nonneg-pos}
@@ -64,6 +64,14 @@ bounded bs n f =
 pub fits-natAbs : (w : Width) (z : ℤ) → natAbs z < 2 ^ hbits w → SFits w z
 fits-natAbs w (pos n) h = record { sfits = h }
 fits-natAbs w (negsuc n) h = record { sfits = lt-trans (lt-suc-self n) h }
+
+-- a number of w bits is at most half the width's range
+pub size-of : (w : Width) (z : ℤ) → SFits w z → natAbs z ≤ 2 ^ hbits w
+size-of w z h = natAbs-le z (h .sfits)
+
+-- what is at most 2 ^ 62 fits 64 bits
+pub fits-64 : (z : ℤ) → natAbs z ≤ 2 ^ 62 → SFits w64 z
+fits-64 z h = fits-natAbs w64 z (lt-of-le-of-lt h (lit< tt))
 
 -- the width of each variable is W of its number
 pub sizes : (W : ℕ → Width) (w : Width) (n : ℕ) (f : Fun n Expr) → T (ltb (bound (λ i. 2 ^ hbits (W i)) (from n 0 f)) (2 ^ hbits w))

@@ -19,7 +19,7 @@ use Rattle.integers.proofs.Certificates.{order, _⊢_by_, hyp, _⊕_}
 use Rattle.integers.proofs.Extrema.{max-upper-left, max-upper-right, min-lower-left, min-lower-right}
 use Rattle.integers.proofs.Machine.{cast-gives, op-fits, op-gives}
 use Rattle.integers.proofs.Order.{≤ℤ-trans, <ℤ-≤ℤ, ltZ-true, le-leZ, pos-≤ℤ}
-use Rattle.integers.proofs.Sizes.{bounded}
+use Rattle.integers.proofs.Sizes.{bounded, size-of, fits-64}
 use Rattle.words.specs.Bits.{testBit}
 use Rattle.model.specs.Content.{kindAt, kindCount}
 use Rattle.model.specs.Format.{content}
@@ -34,7 +34,6 @@ use Rattle.model.proofs.Lists.{not-both}
 use Rattle.polygons.specs.Boxes.{extentsOf, joined}
 use Rattle.polygons.specs.declared.extents.Extents.{Extents}
 use Rattle.geometry.specs.Apart.{boxesApart}
-use Rattle.geometry.proofs.Sizes.{size-of, fits-64}
 use Rattle.job.specs.View.{Viewed}
 use Rattle.job.specs.declared.View.{View}
 use Rattle.shapes.specs.Boxes.{noBox, turnedVertices, BoxesOf}

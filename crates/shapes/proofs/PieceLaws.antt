@@ -22,7 +22,7 @@ use Rattle.convexity.proofs.Soundness.{rotated-sound}
 use Rattle.polygons.specs.Boxes.{extentsOf}
 use Rattle.polygons.specs.Flat.{partOf}
 use Rattle.polygons.proofs.BoxLaws.{same-box}
-use Rattle.geometry.specs.Compact.{Short, Compact}
+use Rattle.distances.specs.Compact.{Short, Compact}
 use Rattle.geometry.specs.Pieces.{Standing, partIn, partsIn, boxIn}
 use Rattle.geometry.specs.declared.pieces.Piece.{Piece}
 use Rattle.job.specs.View.{Viewed}

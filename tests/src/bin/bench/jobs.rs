@@ -89,6 +89,7 @@ pub fn bench_jobs() -> Vec<BenchJob> {
     jobs.extend([6, 8, 10, 12].map(|pieces| grid("pieces grow", 8, 48, 2, pieces)));
     // The middle and the largest again.
     jobs.extend([clamped(2, 16, 16, 4, 8), clamped(2, 32, 32, 8, 12)]);
-    jobs.extend([gapped(3, 1), gapped(20, 8), many_parts("gap 3: six parts of eight", &[[0, 0, 3]])]);
+    jobs.extend([gapped(3, 1), gapped(20, 8)]);
+    jobs.extend([3, 15].map(|gap| many_parts(&format!("gap {gap}: six parts of eight"), &[[0, 0, gap]])));
     jobs
 }

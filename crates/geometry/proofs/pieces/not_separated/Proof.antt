@@ -14,7 +14,7 @@ use Rattle.model.specs.Content.{Part}
 use Rattle.model.specs.Geometry.{separated}
 use Rattle.convexity.specs.Parts.{SoundPart}
 use Rattle.polygons.specs.Flat.{partOf, shifted}
-use Rattle.geometry.specs.Compact.{Compact}
+use Rattle.distances.specs.Compact.{Compact}
 use Rattle.geometry.specs.Pieces.{partIn}
 use Rattle.geometry.proofs.PieceLaws.{part-window}
 use Rattle.geometry.proofs.pieces.not_separated.Statement.{statement}

@@ -1,0 +1,2 @@
+-- The definitions that the contracts of this crate cite beside the model's.
+pub mod Directions

@@ -1,0 +1,3 @@
+-- The definitions that the contracts of this crate cite beside the model's.
+pub mod Compact
+pub mod Middles
