@@ -427,6 +427,9 @@ roundConflicts =
     -- The same with the edge's part second: both parts' corners are asked for.
     ∷ (conflicts 5 (squareAt 7 7) slanting ⇒ isConflict false)
     ∷ (conflicts 5 (squareAt 6 7) slanting ⇒ isConflict true)
+    -- (5,4) is 1.4 away, where the boxes overlap: of all directions only the negated normal of the slanting edge separates the square from the triangle.
+    ∷ (conflicts 1 (squareAt 5 4) slanting ⇒ isConflict false)
+    ∷ (conflicts 2 (squareAt 5 4) slanting ⇒ isConflict true)
     -- "An edge is a segment: beyond its ends the end corner counts." The line through the first square's upper edge, one end of which is (2,2), goes through (5,2), 3 away.
     ∷ (conflicts 3 square (squareAt 5 2) ⇒ isConflict false)
     ∷ (conflicts 4 square (squareAt 5 2) ⇒ isConflict true)

@@ -86,6 +86,13 @@ fn boards_of_slanting_edges() -> Vec<SmallBoard> {
             on(10, 10, 6),
             conflicts(&[((0, 0), (7, 7), true), ((0, 0), (8, 8), false)]),
         ),
+        // (5,4) and (4,4) lie within the half's box, so that no axis is between the two: 14 / 10 and 8 / 10.
+        board(
+            "a corner within the box, gap 1",
+            on(10, 10, 1),
+            conflicts(&[((0, 0), (5, 4), false), ((0, 0), (4, 4), true)]),
+        ),
+        board("a corner within the box, gap 2", on(10, 10, 2), conflicts(&[((0, 0), (5, 4), true)])),
         // (7,7) is the only place for the square, and there is none with the half on the three rows above.
         board("a half and a square, gap 5", on(9, 9, 5), vec![run(u32::MAX, "shortest 9 5\n0 0 0 0\n1 7 7 0\n")]),
         // The half is tried on four rows of two columns.
