@@ -14,6 +14,15 @@ use crate::corners::way_along;
 use directions::along::furthest;
 use polygons::vertices::coordinate;
 
+// What is told of two parts at a gap (a number, because an enum is handed back through memory): nothing,
+pub const OPEN: u8 = 0;
+
+// that they are separated at it,
+pub const APART: u8 = 1;
+
+// or that they are too near for it.
+pub const TOO_NEAR: u8 = 2;
+
 // Coordinate c of the first vertex and of the one half way round, added: twice that of a point about in the middle of the part. (Only the speed turns on which one it is.)
 fn twice_middle(p: &[i16], c: usize) -> i16
     requires { ⌜ ((2 ≤ length (now p)) × (c < 2)) × Compact (partOf (now p)) ⌝ }
@@ -40,33 +49,33 @@ fn apart(p: &[i16], i: usize, q: &[i16], j: usize, c: usize, moved: i16) -> i16
     coordinate(q, j, c) + moved - coordinate(p, i, c)
 }
 
-// What (x, y), the way between the two corners that come next to each other along (a, b), tells: 2 if it is shorter than the gap, 1 if it goes the gap or more along (a, b), 0 otherwise.
+// What (x, y), the way between the two corners that come next to each other along (a, b), tells: too near if it is shorter than the gap, apart if it goes the gap or more along (a, b).
 fn told(a: i16, b: i16, x: i16, y: i16, gap: u16) -> u8
     ensures { λ r. ⌜ r ≡ toldBy gap a b x y ⌝ }
 {
     let square = squared(gap);
     if way_along(x, y, x, y) < square {
-        return 2;
+        return TOO_NEAR;
     }
     let width = way_along(a, b, x, y);
     if width <= 0 {
-        return 0;
+        return OPEN;
     }
     if square * way_along(a, b, a, b) <= width * width {
-        1
+        APART
     } else {
-        0
+        OPEN
     }
 }
 
-// What the line through their middles tells of p and q, moved by (dx, dy): 1 that they are separated at this gap, 2 that they are not, 0 nothing. At gap 0 no distance is asked for.
+// What the line through their middles tells of p and q, moved by (dx, dy). At gap 0 no distance is asked for.
 pub fn look(p: &[i16], q: &[i16], dx: i16, dy: i16, gap: u16) -> u8
     requires { ⌜ SoundPart (partOf (now p)) × SoundPart (partOf (now q)) ⌝ }
     requires { ⌜ Short 4096 dx dy × (Compact (partOf (now p)) × Compact (partOf (now q))) ⌝ }
     ensures { λ r. ⌜ Tells r (separated gap (partOf (now (p .entry))) (map (shifted dx dy) (partOf (now (q .entry))))) ⌝ }
 {
     if gap == 0 {
-        return 0;
+        return OPEN;
     }
     let a = between(p, q, 0, dx);
     let b = between(p, q, 1, dy);

@@ -9,6 +9,9 @@ ghost use Rattle.convexity.specs.Parts.{SoundPart};
 ghost use Rattle.polygons.specs.Flat.{partOf, shifted};
 use directions::edges::edges_separate;
 use distances::corners::corners_clear;
+use distances::middles::APART;
+use distances::middles::OPEN;
+use distances::middles::TOO_NEAR;
 use distances::middles::look;
 use polygons::extents::Extents;
 
@@ -43,21 +46,24 @@ fn both_clear(p: &[i16], q: &[i16], dx: i16, dy: i16, gap: u16) -> bool
     corners_clear(p, 0 - dx, 0 - dy, q, gap)
 }
 
-// What is told of p and q, moved by (dx, dy), without asking the edges of q: 1 that they are separated at this gap, 2 that they are not, 0 that no normal of p separates them. The
-// line through their middles is asked first, and then the edges of p.
+// What is told of p and q, moved by (dx, dy), without asking the edges of q; nothing where no normal of p separates them. The line through their middles is asked first, and then the edges of p.
 fn beside(p: &[i16], q: &[i16], dx: i16, dy: i16, gap: u16) -> u8
     requires { ⌜ SoundPart (partOf (now p)) × SoundPart (partOf (now q)) ⌝ }
     requires { ⌜ Short 4096 dx dy × (Compact (partOf (now p)) × Compact (partOf (now q))) ⌝ }
     ensures { λ r. ⌜ Beside gap (partOf (now (p .entry))) (partOf (now (q .entry))) dx dy r ⌝ }
 {
     let seen = look(p, q, dx, dy, gap);
-    if seen != 0 {
+    if seen != OPEN {
         return seen;
     }
     if !edges_separate(p, q, dx, dy) {
-        return 0;
+        return OPEN;
     }
-    if both_clear(p, q, dx, dy, gap) { 1 } else { 2 }
+    if both_clear(p, q, dx, dy, gap) {
+        APART
+    } else {
+        TOO_NEAR
+    }
 }
 
 // Whether p and q, moved by (dx, dy), are separated at this gap: a normal of p or one of q separates them, tried in document 01's order, and no corner of the one is too near
@@ -68,8 +74,8 @@ pub fn separated(p: &[i16], q: &[i16], dx: i16, dy: i16, gap: u16) -> bool
     ensures { λ r. ⌜ r ≡ Geometry.separated gap (partOf (now (p .entry))) (map (shifted dx dy) (partOf (now (q .entry)))) ⌝ }
 {
     let first = beside(p, q, dx, dy, gap);
-    if first != 0 {
-        return first == 1;
+    if first != OPEN {
+        return first == APART;
     }
-    beside(q, p, 0 - dx, 0 - dy, gap) == 1
+    beside(q, p, 0 - dx, 0 - dy, gap) == APART
 }
