@@ -1,12 +1,11 @@
 -- The vertex furthest along a direction, one after the other. Assumes nothing.
-use mathlib.Core.Bool.{true}
 use mathlib.Core.Path.{_≡_, sym, subst}
 use Prim.Native.Nat.{ℕ, _+_, _≤_, _<_}
 use native.Mathlib.Omega.{arith}
 use borrow.Author.Count.{below-none, below-more}
 use lib.IntN.{ℤ}
 use lib.ListN.{length}
-use lib.Signed.{leZ, _≤ℤ_, _<ℤ_}
+use lib.Signed.{_≤ℤ_, _<ℤ_}
 use Rattle.integers.proofs.Order.{leZ-true, ≤ℤ-trans, ≤ℤ-antisym, ≡-≤ℤ, <ℤ-≤ℤ}
 use Rattle.model.specs.Content.{Vertex, Part}
 use Rattle.model.specs.Geometry.{Direction, vertexAt, along}

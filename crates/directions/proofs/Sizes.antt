@@ -2,16 +2,16 @@
 use mathlib.Core.List.{[], _∷_}
 use mathlib.Core.Path.{_≡_, refl, sym, _∙_, ap, subst}
 use Prim.Native.Nat.{ℕ, suc, _+_, _≤_, _^_}
-use native.Mathlib.Nat.{le-trans, le-suc, le-of-eq, le-of-lt, lt-of-lt-of-le, pow-succ'}
+use native.Mathlib.Nat.{le-trans, le-suc, le-of-eq, pow-succ'}
 use native.Mathlib.Omega.{arith}
-use lib.Dec.{T, leb, leb→le, lit≤}
-use lib.IntN.{ℤ, pos, negℤ, natAbs, _+ℤ_, _-ℤ_, _*ℤ_}
+use lib.Dec.{T, leb, leb→le}
+use lib.IntN.{ℤ, negℤ, natAbs, _+ℤ_, _-ℤ_, _*ℤ_}
 use lib.Pow.{pow-mono}
 use mir.Syntax.{w16, w32, w64}
-use mir.Val.{Fits, SFits, toZ, ofZ}
-use mir.ValLaws.{toZ-ofZ, toZ-pos}
+use mir.Val.{SFits, toZ, ofZ}
+use mir.ValLaws.{toZ-ofZ}
 use Rattle.integers.proofs.Absolute.{natAbs-+ℤ, natAbs-negℤ}
-use Rattle.integers.proofs.Machine.{cast-gives, op-fits, op-gives}
+use Rattle.integers.proofs.Machine.{op-fits, op-gives}
 use Rattle.integers.proofs.Sizes.{sized, bounded, size-of, fits-64}
 use Rattle.integers.proofs.Solver.{_⊞_, _⊟_, _⊠_}
 use Rattle.directions.specs.Directions.{Small}
@@ -62,16 +62,10 @@ dot-small {a} {b} {x} {y} {r} ha hb hx hy e = small-at is (record { value = refl
     size : natAbs (a *ℤ x +ℤ b *ℤ y) ≤ 2 ^ 47
     size = bounded (2 ^ 31 ∷ 2 ^ 31 ∷ 2 ^ 15 ∷ 2 ^ 15 ∷ []) 4 (λ a b x y. a ⊠ x ⊞ b ⊠ y) a b x y (size-of w32 a ha) (size-of w32 b hb) (size-of w16 x hx) (size-of w16 y hy)
 
--- ---- the gap
-
--- the gap as a number of 64 bits
-pub gap-read : {gap : ℕ} → Fits w16 gap → toZ w64 gap ≡ pos gap
-gap-read {gap} h = toZ-pos w64 gap (lt-of-lt-of-le (h .fits) (lit≤ tt))
-
 -- ---- places along a direction
 
 -- a number as it is read from the bits of a local
-abbrev read : ℤ → ℤ
+abbrev pub read : ℤ → ℤ
 read z = toZ w64 (ofZ w64 z)
 
 -- a place less a move
@@ -87,35 +81,7 @@ module _ {k : ℕ} {N n : ℤ} (t : T (leb k 62)) (h : Small N k n) where
   pub said : read n ≡ N
   said = small-read h t ∙ h .value
 
--- ---- differences and sums of coordinates
+-- ---- differences of coordinates
 
 pub difference-fits : (u w : ℤ) → SFits w16 u → SFits w16 w → SFits w32 (u -ℤ w)
 difference-fits = sized w16 w32 2 (λ u w. u ⊟ w) tt
-
--- a coordinate that was cast
-abbrev cast : ℤ → ℤ
-cast z = toZ w64 (ofZ w64 (toZ w16 (ofZ w16 z)))
-
--- an end and its move
-module _ {h f : ℤ} (hh : SFits w16 h) (hf : SFits w16 f) where
-  ends : SFits w64 (h +ℤ f)
-  ends = sized w16 w64 2 (λ h f. h ⊞ f) tt h f hh hf
-
-  pub end-fits : SFits w64 (cast h +ℤ cast f)
-  end-fits = op-fits (cast-gives w64 hh tt) (cast-gives w64 hf tt) _+ℤ_ ends
-
-  pub end-gives : read (cast h +ℤ cast f) ≡ h +ℤ f
-  end-gives = op-gives (cast-gives w64 hh tt) (cast-gives w64 hf tt) _+ℤ_ ends
-
-  -- and the gap
-  module _ {gap : ℕ} (hg : Fits w16 gap) where
-    padded : SFits w64 (h +ℤ f +ℤ pos gap)
-    padded =
-        fits-64 (h +ℤ f +ℤ pos gap)
-        (le-trans (bounded (2 ^ 15 ∷ 2 ^ 15 ∷ 2 ^ 16 ∷ []) 3 (λ h f g. h ⊞ f ⊞ g) h f (pos gap) (size-of w16 h hh) (size-of w16 f hf) (le-of-lt (hg .fits))) (lit≤ tt))
-
-    pub padded-fits : SFits w64 (read (cast h +ℤ cast f) +ℤ toZ w64 gap)
-    padded-fits = op-fits end-gives (gap-read hg) _+ℤ_ padded
-
-    pub padded-gives : read (read (cast h +ℤ cast f) +ℤ toZ w64 gap) ≡ h +ℤ f +ℤ pos gap
-    padded-gives = op-gives end-gives (gap-read hg) _+ℤ_ padded

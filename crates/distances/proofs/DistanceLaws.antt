@@ -3,7 +3,7 @@ use mathlib.Core.Bool.{Bool, true, false, not, cond, _&&_}
 use mathlib.Core.List.{List, [], _∷_, map}
 use mathlib.Core.Path.{_≡_, refl, ap, _∙_}
 use Prim.Native.Nat.{ℕ, _≤_, _<_, _^_}
-use native.Mathlib.Nat.{le-trans, lt-of-le-of-lt}
+use native.Mathlib.Nat.{le-trans, lt-of-le-of-lt, lt-of-lt-of-le}
 use native.Mathlib.Omega.{arith}
 use lib.Dec.{lit<, lit≤}
 use lib.IntN.{ℤ, pos, natAbs, _+ℤ_, _-ℤ_, _*ℤ_}
@@ -11,7 +11,8 @@ use lib.ListN.{length}
 use lib.Signed.{leZ, ltZ}
 use mir.Syntax.{w16, w64}
 use mir.Val.{Fits, SFits, toZ, ofZ}
-use mir.ValLaws.{toZ-ofZ}
+use mir.ValLaws.{toZ-ofZ, toZ-pos}
+use Rattle.integers.proofs.Machine.{op-fits, op-gives}
 use Rattle.integers.proofs.Sizes.{bounded, fits-natAbs, size-of, fits-64}
 use Rattle.integers.proofs.Solver.{ring, #, _⊞_, _⊟_, _⊠_, _≈_}
 use Rattle.model.specs.Content.{Vertex, vertex, Part, origin}
@@ -36,7 +37,10 @@ module _ (a b x y : ℤ) (ha : SFits w16 a) (hb : SFits w16 b) (hx : SFits w16 x
   pub aside-size : natAbs (a *ℤ y -ℤ b *ℤ x) ≤ 2 ^ 31
   aside-size = bounded (2 ^ 15 ∷ 2 ^ 15 ∷ 2 ^ 15 ∷ 2 ^ 15 ∷ []) 4 (λ a b x y. a ⊠ y ⊟ b ⊠ x) a b x y (size-of w16 a ha) (size-of w16 b hb) (size-of w16 x hx) (size-of w16 y hy)
 
--- a gap of 16 bits
+-- a gap of 16 bits: as a number of 64 bits, and how large it is
+pub gap-read : {gap : ℕ} → Fits w16 gap → toZ w64 gap ≡ pos gap
+gap-read {gap} h = toZ-pos w64 gap (lt-of-lt-of-le (h .fits) (lit≤ tt))
+
 gap-most : {gap : ℕ} → Fits w16 gap → natAbs (pos gap) ≤ 65535
 gap-most h = omega (arith, h .fits)
 
@@ -153,5 +157,13 @@ module _ (gap : ℕ) (P Q : Part) (dx dy : ℤ) where
 pub opposite-size : (z : ℤ) → natAbs z ≤ 4096 → natAbs (pos 0 -ℤ z) ≤ 4096
 opposite-size z h = bounded (4096 ∷ []) 1 (λ z. # (pos 0) ⊟ z) z h
 
-pub opposite-fits : (z : ℤ) → natAbs z ≤ 4096 → SFits w16 (pos 0 -ℤ z)
+opposite-fits : (z : ℤ) → natAbs z ≤ 4096 → SFits w16 (pos 0 -ℤ z)
 opposite-fits z h = fits-natAbs w16 _ (lt-of-le-of-lt (opposite-size z h) (lit< tt))
+
+-- as it is computed from the bits of the move
+module _ {z : ℤ} (f : SFits w16 z) (h : natAbs z ≤ 4096) where
+  pub opposite-held : SFits w16 (pos 0 -ℤ bits z)
+  opposite-held = op-fits {x = pos 0} refl (toZ-ofZ w16 z f) _-ℤ_ (opposite-fits z h)
+
+  pub opposite-gives : bits (pos 0 -ℤ bits z) ≡ pos 0 -ℤ z
+  opposite-gives = op-gives {x = pos 0} refl (toZ-ofZ w16 z f) _-ℤ_ (opposite-fits z h)

@@ -8,7 +8,7 @@ use native.Mathlib.Omega.{arith}
 use borrow.Author.Tests.{ne-eqb}
 use lib.Dec.{eqb, lit<}
 use lib.IntN.{ℤ, pos, natAbs, negℤ, _+ℤ_, _-ℤ_, _*ℤ_}
-use lib.ListN.{length, length-map}
+use lib.ListN.{length-map}
 use lib.Signed.{leZ, ltZ, _≤ℤ_, _<ℤ_}
 use mir.Syntax.{w16}
 use mir.Val.{SFits}

@@ -46,7 +46,7 @@ fn both_clear(p: &[i16], q: &[i16], dx: i16, dy: i16, gap: u16) -> bool
     corners_clear(p, 0 - dx, 0 - dy, q, gap)
 }
 
-// What is told of p and q, moved by (dx, dy), without asking the edges of q; nothing where no normal of p separates them. The line through their middles is asked first, and then the edges of p.
+// What is told of p and q, moved by (dx, dy), without asking the edges of q; nothing only where no normal of p separates them. The line through their middles is asked first, and then the edges of p.
 fn beside(p: &[i16], q: &[i16], dx: i16, dy: i16, gap: u16) -> u8
     requires { ⌜ SoundPart (partOf (now p)) × SoundPart (partOf (now q)) ⌝ }
     requires { ⌜ Short 4096 dx dy × (Compact (partOf (now p)) × Compact (partOf (now q))) ⌝ }

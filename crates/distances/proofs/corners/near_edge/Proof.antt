@@ -4,22 +4,17 @@ use lib.IntN.{ℤ, pos, _+ℤ_, _-ℤ_, _*ℤ_}
 use lib.Signed.{leZ, ltZ}
 use borrow.Author.Needs.{sfits-of}
 use mir.Syntax.{w64}
-use mir.Val.{toZ, ofZ}
 use mir.ValLaws.{toZ-ofZ}
 use Rattle.integers.proofs.Machine.{op-fits, op-gives}
 use Rattle.model.specs.Content.{vertex, origin}
 use Rattle.model.specs.Geometry.{nearEdge}
 use Rattle.directions.specs.Directions.{Small}
 use Rattle.distances.proofs.DistanceLaws.{limit-fits, aside-fits, along-of, aside-of, nearBy, near-before, near-beyond, near-beside, near-is}
-use Rattle.directions.proofs.Sizes.{said, small-fits, small-read, small-more, small-sum, small-difference}
+use Rattle.directions.proofs.Sizes.{read, said, small-fits, small-read, small-more, small-sum, small-difference}
 use Rattle.distances.proofs.corners.near_edge.Statement.{statement}
 use Rattle.distances.proofs.corners.near_edge.Tie as tie
 
 -- ---- the numbers, free of the bits of the parameters
-
--- a number as it is read from the bits of a local
-abbrev read : ℤ → ℤ
-read z = toZ w64 (ofZ w64 z)
 
 abbrev a : (c : tie.Start) → ℤ
 a c = c .args .a

@@ -3,7 +3,7 @@ use lib.IntN.{_*ℤ_}
 use borrow.Author.Needs.{needs}
 use Rattle.integers.proofs.Machine.{op-fits, op-gives}
 use Rattle.distances.proofs.DistanceLaws.{square-fits}
-use Rattle.directions.proofs.Sizes.{gap-read}
+use Rattle.distances.proofs.DistanceLaws.{gap-read}
 use Rattle.distances.proofs.corners.squared.Statement.{statement}
 use Rattle.distances.proofs.corners.squared.Tie as tie
 

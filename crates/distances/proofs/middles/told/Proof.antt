@@ -5,21 +5,17 @@ use lib.IntN.{ℤ, pos, _+ℤ_, _*ℤ_}
 use lib.Signed.{leZ, ltZ}
 use borrow.Author.Needs.{sfits-of}
 use mir.Syntax.{w64}
-use mir.Val.{SFits, toZ, ofZ}
+use mir.Val.{SFits}
 use mir.ValLaws.{toZ-ofZ}
 use Rattle.integers.proofs.Machine.{op-fits, op-gives}
 use Rattle.directions.specs.Directions.{Small}
 use Rattle.distances.proofs.DistanceLaws.{limit-fits, aside-fits, along-of}
 use Rattle.distances.proofs.MiddleLaws.{told-near, told-behind, told-along}
-use Rattle.directions.proofs.Sizes.{small-read, said}
+use Rattle.directions.proofs.Sizes.{read, small-read, said}
 use Rattle.distances.proofs.middles.told.Statement.{statement}
 use Rattle.distances.proofs.middles.told.Tie as tie
 
 -- ---- the numbers, free of the bits of the parameters
-
--- a number as it is read from the bits of a local
-abbrev read : ℤ → ℤ
-read z = toZ w64 (ofZ w64 z)
 
 abbrev a : (c : tie.Start) → ℤ
 a c = c .args .a

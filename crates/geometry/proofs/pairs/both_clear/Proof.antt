@@ -1,17 +1,17 @@
 -- `geometry::pairs::both_clear` meets its contract: at gap 0 nothing is asked, and otherwise the corners of each part are asked against the edges of the other. Assumes nothing.
 use mathlib.Core.List.{map}
-use mathlib.Core.Path.{_≡_, refl, sym, _∙_}
+use mathlib.Core.Path.{_≡_, sym, _∙_}
 use borrow.Author.Tests.{not-true, not-false}
 use denote.Ref.{now}
 use lib.IntN.{pos, _-ℤ_}
 use mir.Syntax.{w16}
 use mir.Val.{toZ, ofZ}
 use mir.ValLaws.{toZ-ofZ}
-use Rattle.integers.proofs.Machine.{read₂, op-fits, op-gives}
+use Rattle.integers.proofs.Machine.{read₂}
 use Rattle.model.specs.Content.{Part}
 use Rattle.model.specs.Geometry.{cornersClear}
 use Rattle.polygons.specs.Flat.{partOf, shifted}
-use Rattle.distances.proofs.DistanceLaws.{opposite-size, opposite-fits}
+use Rattle.distances.proofs.DistanceLaws.{opposite-size, opposite-held, opposite-gives}
 use Rattle.geometry.proofs.PairLaws.{both-none, both-second, both-first, clear-back}
 use Rattle.geometry.proofs.pairs.both_clear.Statement.{statement}
 use Rattle.geometry.proofs.pairs.both_clear.Tie as tie
@@ -34,10 +34,10 @@ is-dy : (c : tie.Start) → toZ w16 (ofZ w16 (c .args .dy)) ≡ c .args .dy
 is-dy c = toZ-ofZ w16 (c .args .dy) (c .fits .dy)
 
 is-back-x : (c : tie.Start) → toZ w16 (ofZ w16 (pos 0 -ℤ toZ w16 (ofZ w16 (c .args .dx)))) ≡ pos 0 -ℤ c .args .dx
-is-back-x c = op-gives {x = pos 0} refl (is-dx c) _-ℤ_ (opposite-fits (c .args .dx) (c .pre .0 .0))
+is-back-x c = opposite-gives (c .fits .dx) (c .pre .0 .0)
 
 is-back-y : (c : tie.Start) → toZ w16 (ofZ w16 (pos 0 -ℤ toZ w16 (ofZ w16 (c .args .dy)))) ≡ pos 0 -ℤ c .args .dy
-is-back-y c = op-gives {x = pos 0} refl (is-dy c) _-ℤ_ (opposite-fits (c .args .dy) (c .pre .0 .1))
+is-back-y c = opposite-gives (c .fits .dy) (c .pre .0 .1)
 
 -- ---- the two tests of distances
 
@@ -64,10 +64,10 @@ returns-2 : tie.Need-returns-2
 returns-2 c = both-second (c .before .before .before .args .gap) (first (c .before .before .before)) (moved (c .before .before .before)) (sym (there (c .before)) ∙ not-true _ (c .if2 .taken))
 
 sub-corners-clear : tie.Need-sub-corners-clear
-sub-corners-clear c = op-fits {x = pos 0} refl (is-dx (c .before .before .before)) _-ℤ_ (opposite-fits (c .before .before .before .args .dx) (c .before .before .before .pre .0 .0))
+sub-corners-clear c = opposite-held (c .before .before .before .fits .dx) (c .before .before .before .pre .0 .0)
 
 sub-corners-clear-2 : tie.Need-sub-corners-clear-2
-sub-corners-clear-2 c = op-fits {x = pos 0} refl (is-dy (c .before .before .before)) _-ℤ_ (opposite-fits (c .before .before .before .args .dy) (c .before .before .before .pre .0 .1))
+sub-corners-clear-2 c = opposite-held (c .before .before .before .fits .dy) (c .before .before .before .pre .0 .1)
 
 corners-clear-requires-2 : tie.Need-corners-clear-requires-2
 corners-clear-requires-2 c κs = (

@@ -2,7 +2,7 @@
 use borrow.Author.Needs.{needs}
 use lib.Signed.{leZ}
 use Rattle.integers.proofs.Machine.{cast-fits}
-use Rattle.directions.proofs.Sizes.{end-fits, end-gives, padded-fits, padded-gives}
+use Rattle.geometry.proofs.BoxSizes.{end-fits, end-gives, padded-fits, padded-gives}
 use Rattle.geometry.proofs.pairs.clear_of.Statement.{statement}
 use Rattle.geometry.proofs.pairs.clear_of.Tie as tie
 

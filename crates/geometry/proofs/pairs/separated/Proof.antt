@@ -1,19 +1,17 @@
 -- `geometry::pairs::separated` meets its contract: what is told without the edges of the second part decides, and where no normal of the first separates what is told without those of the first. Assumes nothing.
-use mathlib.Core.Path.{_≡_, refl, subst}
+use mathlib.Core.Path.{_≡_, subst}
 use Prim.Native.Nat.{_<_}
 use native.Mathlib.Omega.{arith}
 use denote.Ref.{now}
-use lib.IntN.{ℤ, pos, _-ℤ_}
+use lib.IntN.{pos, _-ℤ_}
 use lib.ListN.{length}
 use mir.Syntax.{w16}
 use mir.Val.{toZ, ofZ}
 use mir.ValLaws.{toZ-ofZ}
-use Rattle.integers.proofs.Machine.{op-fits, op-gives}
 use Rattle.model.specs.Content.{Part}
-use Rattle.model.specs.Geometry.{separated}
 use Rattle.polygons.specs.Flat.{partOf}
 use Rattle.geometry.specs.Apart.{Beside}
-use Rattle.distances.proofs.DistanceLaws.{opposite-size, opposite-fits}
+use Rattle.distances.proofs.DistanceLaws.{opposite-size, opposite-held, opposite-gives}
 use Rattle.geometry.proofs.PairLaws.{first-says, second-says}
 use Rattle.geometry.proofs.pairs.separated.Statement.{statement}
 use Rattle.geometry.proofs.pairs.separated.Tie as tie
@@ -36,10 +34,10 @@ is-dy : (c : tie.Start) → toZ w16 (ofZ w16 (c .args .dy)) ≡ c .args .dy
 is-dy c = toZ-ofZ w16 (c .args .dy) (c .fits .dy)
 
 is-back-x : (c : tie.Start) → toZ w16 (ofZ w16 (pos 0 -ℤ toZ w16 (ofZ w16 (c .args .dx)))) ≡ pos 0 -ℤ c .args .dx
-is-back-x c = op-gives {x = pos 0} refl (is-dx c) _-ℤ_ (opposite-fits (c .args .dx) (c .pre .1 .0 .0))
+is-back-x c = opposite-gives (c .fits .dx) (c .pre .1 .0 .0)
 
 is-back-y : (c : tie.Start) → toZ w16 (ofZ w16 (pos 0 -ℤ toZ w16 (ofZ w16 (c .args .dy)))) ≡ pos 0 -ℤ c .args .dy
-is-back-y c = op-gives {x = pos 0} refl (is-dy c) _-ℤ_ (opposite-fits (c .args .dy) (c .pre .1 .0 .1))
+is-back-y c = opposite-gives (c .fits .dy) (c .pre .1 .0 .1)
 
 forth : (c : tie.After-beside) → Beside (c .before .args .gap) (first (c .before)) (second (c .before)) (c .before .args .dx) (c .before .args .dy) (c .beside .result)
 forth c = subst (λ (X : Type 0). X) (λ i. Beside (c .before .args .gap) (first (c .before)) (second (c .before)) (is-dx (c .before) i) (is-dy (c .before) i) (c .beside .result)) (c .beside .ensures)
@@ -56,10 +54,10 @@ returns : tie.Need-returns
 returns c = first-says (c .before .before .args .gap) (first (c .before .before)) (second (c .before .before)) (c .before .before .args .dx) (c .before .before .args .dy) (corner (c .before .before) .0) (corner (c .before .before) .1) _ (forth (c .before)) (c .if1 .taken)
 
 sub-beside : tie.Need-sub-beside
-sub-beside c = op-fits {x = pos 0} refl (is-dx (c .before .before)) _-ℤ_ (opposite-fits (c .before .before .args .dx) (c .before .before .pre .1 .0 .0))
+sub-beside c = opposite-held (c .before .before .fits .dx) (c .before .before .pre .1 .0 .0)
 
 sub-beside-2 : tie.Need-sub-beside-2
-sub-beside-2 c = op-fits {x = pos 0} refl (is-dy (c .before .before)) _-ℤ_ (opposite-fits (c .before .before .args .dy) (c .before .before .pre .1 .0 .1))
+sub-beside-2 c = opposite-held (c .before .before .fits .dy) (c .before .before .pre .1 .0 .1)
 
 beside-requires-2 : tie.Need-beside-requires-2
 beside-requires-2 c κs = (
