@@ -1,4 +1,4 @@
--- What is proved, in Theorems; the way there, in the others.
+-- What is proved of parts, in Theorems, and of layouts, in Layouts; the way there, in the others.
 pub mod Theorems
 pub mod Members
 pub mod HalfPlanes
@@ -11,3 +11,4 @@ pub mod Near
 pub mod Clear
 pub mod Soundness
 pub mod Examples
+pub mod Layouts

@@ -1,21 +1,23 @@
--- Parts that are sound: those of an accepted job, and the same turned and moved. Assumes nothing.
-use mathlib.Core.Path.{_≡_, refl, _∙_, ap}
+-- Parts that are sound: those of an accepted job, and the same turned, moved and placed. Assumes nothing.
+use mathlib.Core.Path.{_≡_, refl, sym, ap, _∙_, subst}
 use mathlib.Core.Bool.{_||_}
 use mathlib.Core.List.{List, [], _∷_, map}
-use Prim.Native.Nat.{ℕ, zero, suc, _<_}
+use Prim.Native.Nat.{ℕ, zero, suc, _*_, _<_}
 use native.Mathlib.Omega.{arith}
 use lib.Dec.{eqb}
 use lib.IntN.{ℤ, pos}
 use lib.ListN.{length, getD, length-map}
 use lib.Signed.{ltZ}
 use Rattle.integers.proofs.Solver.{ring, _⊞_, _⊟_, _⊠_, ⊖_, _≈_}
-use Rattle.model.specs.Content.{Vertex, Part, kindAt, kindCount}
+use Rattle.model.specs.Candidate.{placedPart}
+use Rattle.model.specs.Content.{Vertex, Part, Board, kindAt, kindCount}
 use Rattle.model.specs.Format.{refusal, content}
-use Rattle.model.specs.Geometry.{quarterTurn, rotated, shifted, vertexAt, following, cross, strictlyLeft, edgeSound, sound}
+use Rattle.model.specs.Geometry.{quarterTurn, rotated, moved, shifted, vertexAt, following, cross, strictlyLeft, edgeSound, sound}
+use Rattle.model.specs.Grid.{Placement}
 use Rattle.model.specs.Lists.{all, below}
 use Rattle.model.proofs.AcceptedKinds.{kind-ranges, parts-sound}
 use Rattle.model.proofs.Folds.{all-same}
-use Rattle.model.proofs.Moves.{Vertexed, vertexAt-map, following-map, next-map}
+use Rattle.model.proofs.Moves.{Vertexed, vertexAt-map, following-map, next-map, placed-moved}
 use Rattle.convexity.specs.Parts.{SoundPart, SoundParts}
 
 -- ---- soundness: what keeps the turn of every three corners keeps it
@@ -63,6 +65,13 @@ shifted-sound a b P = mapped (shifted a b) (cross-shifted a b) P
 pub rotated-sound : (k : ℕ) (P : Part) → SoundPart P → SoundPart (map (rotated k) P)
 rotated-sound k P = mapped (rotated k) (cross-rotated k) P
 
+-- A placed part is the turned part, moved.
+placed-sound : (b : Board) (p : Placement) (P : Part) → SoundPart P → SoundPart (placedPart b p P)
+unfolding moved
+placed-sound b p P h =
+    subst SoundPart (sym (placed-moved b p P))
+    (shifted-sound (pos (p .column * b .g)) (pos (p .row * b .g)) (map (rotated (p .rotation)) P) (rotated-sound (p .rotation) P h))
+
 -- Every part of an accepted job is sound.
 pub accepted-sound : (s : List ℕ) → refusal s ≡ 0 → (t i : ℕ) → t < kindCount (content s .kinds) → i < length (kindAt (content s .kinds) t .parts)
     → SoundPart (getD (kindAt (content s .kinds) t .parts) i [])
@@ -80,9 +89,16 @@ pub vertexed-sound : (Ps : List Part) → SoundParts Ps → Vertexed Ps
 vertexed-sound [] h = tt
 vertexed-sound (P ∷ Ps) h = (omega (arith, h .0 .corners), vertexed-sound Ps (h .1))
 
+-- what keeps a part sound keeps a piece's parts so
+mapped-parts : (f : Part → Part) → ((P : Part) → SoundPart P → SoundPart (f P)) → (Ps : List Part) → SoundParts Ps → SoundParts (map f Ps)
+mapped-parts f keeps [] h = tt
+mapped-parts f keeps (P ∷ Ps) h = (keeps P (h .0), mapped-parts f keeps Ps (h .1))
+
 pub rotated-parts : (k : ℕ) (Ps : List Part) → SoundParts Ps → SoundParts (map (map (rotated k)) Ps)
-rotated-parts k [] h = tt
-rotated-parts k (P ∷ Ps) h = (rotated-sound k P (h .0), rotated-parts k Ps (h .1))
+rotated-parts k = mapped-parts (map (rotated k)) (rotated-sound k)
+
+pub placed-parts : (b : Board) (p : Placement) (Ps : List Part) → SoundParts Ps → SoundParts (map (placedPart b p) Ps)
+placed-parts b p = mapped-parts (placedPart b p) (placed-sound b p)
 
 -- The parts of a type of an accepted job.
 pub accepted-parts : (s : List ℕ) → refusal s ≡ 0 → (t : ℕ) → t < kindCount (content s .kinds) → SoundParts (kindAt (content s .kinds) t .parts)

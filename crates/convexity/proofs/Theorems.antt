@@ -1,7 +1,8 @@
 -- Document 02, "5/13 Gap for a round cutter": what is proved of the model's `separated`. That it is symmetric stands in the model (Conflict), and that it looks only at
 -- how far one part is moved against the other (Moves). The other files of this crate are the way to the separating axis theorem: HalfPlanes (Helly's theorem), Bodies,
 -- Edges, Separation; and from a direction that separates at a gap to distances: Distances (Cauchy and Schwarz), Near (what a distance is); Places and Clear go from
--- the model's words to theirs, and Members has the words of lists. Soundness says which parts are sound, Examples compares the two measures. Assumes nothing.
+-- the model's words to theirs, and Members has the words of lists. Soundness says which parts are sound, Layouts goes on from `square-separated` to the layouts that pass by
+-- document 01's measure (6/13), Examples compares the two measures. Assumes nothing.
 use mathlib.Core.Path.{_≡_, refl, _∙_}
 use mathlib.Core.Bool.{Bool, true, false, _&&_}
 use mathlib.Core.Logic.{_↔_}

@@ -1,5 +1,6 @@
 -- Document 01's measure of a gap: "The gap is thus measured as a square." Since document 02's "5/13 Gap for a round cutter" no service is defined by it.
--- It stays for the laws that what is a gap apart by it is so by the round one: boxes are looked at first by these, and layouts that were made under it will be taken over.
+-- It stays for the laws that what is a gap apart by it is so by the round one: boxes are looked at first by these, and layouts that were made under it (Layouts) still pass, so
+-- that they are taken over as they are (`square-passes`, proofs/Layouts).
 use mathlib.Core.Bool.{Bool}
 use mathlib.Core.List.{List, [], _∷_, _++_, map}
 use Prim.Native.Nat.{ℕ, _+_, _*_}
