@@ -4,9 +4,13 @@
  * layout follows, an entry a line: type, column, row, turn. A second argument is the margin that the clamps
  * need at each edge of the sheet; without it there are no clamps.
  *
+ * With --keep the bytes of that layout are written to a file too; where there is none, the file is neither created
+ * nor changed. With --from the run begins from the layout in such a file; an empty one gives none. So a run that
+ * stopped with a layout is carried across to the next one, also from an earlier version of the engine.
+ *
  * With --save it runs nothing, but writes the job to another file as the engine saves it, and prints `saved` and
  * the number of bytes; or `refused` and number, and then that file is neither created nor changed.
- * usage: nest JOB [MARGIN]
+ * usage: nest [--from LAYOUT] [--keep FILE] JOB [MARGIN]
  *        nest --save FILE JOB
  */
 #include <errno.h>
@@ -20,6 +24,8 @@
 
 /* One byte more than a job may have, so that a longer file is seen to be too long. */
 static uint8_t job[NEST_MAX_JOB_BYTES + 1];
+/* One number more than a layout may have, for the same reason: a single byte would not count. */
+static uint8_t layout[NEST_MAX_LAYOUT_BYTES + NEST_NUMBER_BYTES];
 static uint8_t work[NEST_MAX_WORK_BYTES];
 static uint8_t answer[NEST_MAX_LAYOUT_BYTES];
 static uint8_t content[NEST_MAX_READ_BYTES];
@@ -51,6 +57,12 @@ static void print_layout(unsigned pieces)
     }
 }
 
+/* Whether the answer numbers of a run hold a layout. */
+static int holds_layout(uint64_t result)
+{
+    return NEST_NUMBER(result) == NEST_OK && NEST_VERDICT(result) != NEST_STOPPED_WITH_NOTHING;
+}
+
 static void print_result(uint64_t result, size_t job_len)
 {
     uint32_t steps = NEST_STEPS(result);
@@ -59,7 +71,7 @@ static void print_result(uint64_t result, size_t job_len)
         printf("none %" PRIu32 "\n", steps);
     } else if (NEST_NUMBER(result) != NEST_OK) {
         printf("refused %u\n", NEST_NUMBER(result));
-    } else if (NEST_VERDICT(result) == NEST_STOPPED_WITH_NOTHING) {
+    } else if (!holds_layout(result)) {
         printf("stopped - %" PRIu32 "\n", steps);
     } else {
         const char *verdict = NEST_VERDICT(result) == NEST_ENDED ? "shortest" : "stopped";
@@ -69,14 +81,15 @@ static void print_result(uint64_t result, size_t job_len)
     }
 }
 
-static int read_file(const char *path, size_t *length)
+/* The file's bytes, or as many of them as there is room for. */
+static int read_file(const char *path, uint8_t *bytes, size_t room, size_t *length)
 {
     FILE *file = fopen(path, "rb");
     int failed;
 
     if (file == NULL)
         return 0;
-    *length = fread(job, 1, sizeof job, file);
+    *length = fread(bytes, 1, room, file);
     failed = ferror(file);
     fclose(file);
     return !failed;
@@ -116,19 +129,49 @@ static int file_failed(const char *path)
 
 static int usage(void)
 {
-    fprintf(stderr, "usage: nest JOB [MARGIN]\n       nest --save FILE JOB\n");
+    fprintf(stderr, "usage: nest [--from LAYOUT] [--keep FILE] JOB [MARGIN]\n       nest --save FILE JOB\n");
     return 2;
 }
 
-static int run_job(const char *path, uint64_t margin)
+/* What a run is asked for; without --from and --keep the first two are null. */
+struct request {
+    const char *from, *keep, *job;
+    uint64_t margin;
+};
+
+/* The words behind the program's name, up to the null pointer. */
+static int read_request(char **words, struct request *request)
 {
-    size_t job_len;
+    memset(request, 0, sizeof *request);
+    for (; words[0] != NULL && words[1] != NULL; words += 2) {
+        if (strcmp(words[0], "--from") == 0)
+            request->from = words[1];
+        else if (strcmp(words[0], "--keep") == 0)
+            request->keep = words[1];
+        else
+            break;
+    }
+    request->job = words[0];
+    if (words[0] == NULL || strncmp(words[0], "--", 2) == 0)
+        return 0;
+    return words[1] == NULL || (words[2] == NULL && read_margin(words[1], &request->margin));
+}
+
+static int run_job(const struct request *request)
+{
+    size_t job_len, layout_len = 0;
     uint64_t result;
 
-    if (!read_file(path, &job_len))
-        return file_failed(path);
-    result = nest_run(job, job_len, margin, BUDGET, work, sizeof work, answer, sizeof answer);
+    if (!read_file(request->job, job, sizeof job, &job_len))
+        return file_failed(request->job);
+    if (request->from != NULL && !read_file(request->from, layout, sizeof layout, &layout_len))
+        return file_failed(request->from);
+    result = nest_run(job, job_len, request->margin, BUDGET, layout, layout_len, work, sizeof work, answer,
+                      sizeof answer);
     print_result(result, job_len);
+    if (request->keep != NULL && holds_layout(result) &&
+        !write_file(request->keep, answer, NEST_LAYOUT_BYTES(pieces_of(job_len))))
+        return file_failed(request->keep);
     return 0;
 }
 
@@ -137,7 +180,7 @@ static int save_job(const char *target, const char *path)
     size_t job_len;
     uint64_t result;
 
-    if (!read_file(path, &job_len))
+    if (!read_file(path, job, sizeof job, &job_len))
         return file_failed(path);
     result = nest_save(job, job_len, saved, sizeof saved);
     if (NEST_NUMBER(result) != NEST_OK) {
@@ -152,11 +195,11 @@ static int save_job(const char *target, const char *path)
 
 int main(int argc, char **argv)
 {
-    uint64_t margin = 0;
+    struct request request;
 
     if (argc >= 2 && strcmp(argv[1], "--save") == 0)
         return argc == 4 ? save_job(argv[2], argv[3]) : usage();
-    if (argc < 2 || argc > 3 || (argc == 3 && !read_margin(argv[2], &margin)))
+    if (argc < 2 || !read_request(argv + 1, &request))
         return usage();
-    return run_job(argv[1], margin);
+    return run_job(&request);
 }

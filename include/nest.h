@@ -7,7 +7,7 @@
  *
  *   - each pointer names as many bytes as the length beside it says, at any alignment; a buffer of length 0
  *     may have any pointer, null too;
- *   - a buffer that a call may change shares no byte with another buffer of that call.
+ *   - a buffer that a call may change (answer, row, work) shares no byte with another buffer of that call.
  *
  * Words of this header: a piece TYPE ("kind" in the parameters) is one record of the job's type list, counted
  * from 0. T is the number of types, N the number of pieces (the sum of the demands), W the board's width,
@@ -117,7 +117,12 @@ extern "C" {
  *
  * A layout lists N entries of four numbers each: type, column, row, turn. Entries are ordered by type and
  * within a type by strictly rising candidate number. Its length is the largest x that a piece reaches, plus the
- * margin: the sheet that it takes, clamps included.
+ * margin: the sheet that it takes, clamps included. Of two layouts, at the first entry that differs, the one with
+ * the smaller candidate number comes first.
+ *
+ * A layout passes if it has the demanded copies of each type, each entry is a candidate under the margin, and no
+ * two are in conflict. A layout that passed under the square gap of earlier versions passes now, with the same
+ * margin and the same gap for every pair, and has the same length.
  * ------------------------------------------------------------------------------------------------------ */
 
 #define NEST_WORD_BYTES         8
@@ -176,7 +181,8 @@ enum nest_number {
     /* The host. */
     NEST_SHORT_WORK = 8,    /* run: work words too few */
     NEST_SHORT_ANSWER = 9,  /* read, run: answer numbers too few; save: answer bytes; row: row words */
-    NEST_BAD_LAYOUT = 11,   /* check: another count of numbers, out of order, or does not pass */
+    NEST_BAD_LAYOUT = 11,   /* check, run: the layout handed in has another count of numbers, is out of order, or
+                               does not pass */
     NEST_NO_CANDIDATE = 12, /* row: the candidate or one of the two types does not exist */
     NEST_BAD_MARGIN = 13,   /* row, check, run: a margin above 63 */
 
@@ -186,8 +192,8 @@ enum nest_number {
 
 enum nest_verdict {
     NEST_ENDED = 0,                /* shortest with NEST_OK, none with NEST_NONE */
-    NEST_STOPPED_WITH_LAYOUT = 1,  /* the budget was spent; the best layout of the steps taken is held */
-    NEST_STOPPED_WITH_NOTHING = 2  /* the budget was spent before a layout was complete */
+    NEST_STOPPED_WITH_LAYOUT = 1,  /* the budget was spent; the best layout completed or given is held */
+    NEST_STOPPED_WITH_NOTHING = 2  /* the budget was spent before a layout was complete, and none was given */
 };
 
 /* ------------------------------------------------------------------------------------------------------
@@ -240,12 +246,11 @@ uint64_t nest_row(const uint8_t *job, size_t job_len, uint64_t margin, uint64_t 
                   uint64_t other, uint8_t *row, size_t row_len);
 
 /*
- * Check a layout. It passes if it holds exactly 4 * N numbers in the order above, has the demanded copies of
- * each type, each entry is a candidate under the margin, and no two are in conflict. No buffer is changed, so
- * here the two may share bytes.
+ * Check whether a layout passes. No buffer is changed, so here the two may share bytes.
  *
  * Result: NEST_LENGTH is the layout's length, margin included.
- * Refusals: 1 to 7; 13; 11.
+ * Refusals: 1 to 7; 13; 11 if the buffer holds another count of numbers than 4 * N, they are out of order, or the
+ * layout does not pass.
  */
 uint64_t nest_check(const uint8_t *job, size_t job_len, uint64_t margin, const uint8_t *layout,
                     size_t layout_len);
@@ -254,25 +259,35 @@ uint64_t nest_check(const uint8_t *job, size_t job_len, uint64_t margin, const u
  * Run the search among the layouts that respect the margin, taking at most `budget` steps. Lengths include the
  * margin.
  *
+ * The search may begin from a layout, whoever made it: one that a stopped run held, of this version or an earlier
+ * one. With layout_len 0 none is given; any other buffer is checked as nest_check does under the same margin, and
+ * refused if it does not pass. The search then starts at step 0 with the given layout as the best so far, and looks
+ * only for shorter ones.
+ *
  *   NEST_OK, NEST_ENDED                  shortest: the first 4 * N answer numbers hold the first of the
- *                                        shortest layouts, NEST_LENGTH is its length
- *   NEST_NONE, NEST_ENDED                no layout passes; the answer numbers are unchanged
- *   NEST_OK, NEST_STOPPED_WITH_LAYOUT    the answer numbers hold the best layout of the steps taken,
- *                                        NEST_LENGTH is its length
- *   NEST_OK, NEST_STOPPED_WITH_NOTHING   no layout was complete; the answer numbers are unchanged, the length
- *                                        told is 0
+ *                                        shortest layouts, NEST_LENGTH is its length; but where no layout is
+ *                                        shorter than the given one they hold that, also if another of its
+ *                                        length comes first
+ *   NEST_NONE, NEST_ENDED                no layout passes, so none was given; the answer numbers are unchanged
+ *   NEST_OK, NEST_STOPPED_WITH_LAYOUT    the answer numbers hold the shortest layout that the steps taken
+ *                                        completed, or the given one if they completed none; NEST_LENGTH is its
+ *                                        length
+ *   NEST_OK, NEST_STOPPED_WITH_NOTHING   no layout was complete and none was given; the answer numbers are
+ *                                        unchanged, the length told is 0
  *
  * NEST_STEPS is the number of steps taken: all that the search needs, or the whole budget where it stopped. It
  * stops exactly when it needs more steps than the budget.
  *
  * The work words need no preparation. After every answer above, the needed T * N * NEST_SET_WORDS(dots) ones
- * are zero. Besides the buffers lent, nest_run takes up to 256 KiB of stack (measured, not proved).
+ * are zero. Job and layout are never changed, so the two may share bytes. Besides the buffers lent, nest_run takes
+ * up to 256 KiB of stack (measured, not proved).
  *
- * Refusals: 1 to 7; 13; 8 if the work buffer holds fewer words than that; 9 if the answer buffer holds fewer than
- * 4 * N numbers. NEST_MAX_WORK_BYTES and NEST_MAX_LAYOUT_BYTES are enough for every job.
+ * Refusals: 1 to 7; 13; 11 if a layout is given that nest_check refuses by 11 (one byte alone holds no number and
+ * is refused); 8 if the work buffer holds fewer words than those; 9 if the answer buffer holds fewer than 4 * N
+ * numbers. NEST_MAX_WORK_BYTES and NEST_MAX_LAYOUT_BYTES are enough for every job.
  */
-uint64_t nest_run(const uint8_t *job, size_t job_len, uint64_t margin, uint32_t budget, uint8_t *work,
-                  size_t work_len, uint8_t *answer, size_t answer_len);
+uint64_t nest_run(const uint8_t *job, size_t job_len, uint64_t margin, uint32_t budget, const uint8_t *layout,
+                  size_t layout_len, uint8_t *work, size_t work_len, uint8_t *answer, size_t answer_len);
 
 #ifdef __cplusplus
 }

@@ -1,11 +1,11 @@
 #!/usr/bin/env python3
-"""Writes the sample jobs of this folder from the descriptions below, what some of them are saved to, and their table,
-README.md.
+"""Writes the sample jobs of this folder from the descriptions below, what some of them are saved to, layouts to begin
+some of them from, and their tables, README.md.
 
 usage: jobs/make.py [EXPECT]
 
 EXPECT is the program `expect` of tests/ (the reference, which links nothing of the engine); with it the
-expected outputs, NAME.out, are written too.
+expected outputs, NAME.out and NAME.begun, are written too.
 """
 
 import pathlib
@@ -84,6 +84,37 @@ def brackets(classes):
     return Job(5, 14, 1, [piece(3, BRACKET, turns=5, classes=TWO_CLASSES)], classes)
 
 
+def cut_up(width, length, cuts):
+    """A job of all the rectangles, none turned, that a sheet was cut up into; a type for each size."""
+    return Job(width, length, 1, [piece(len(dots), [rectangle(0, 0, *size)]) for size, dots in cuts.items()])
+
+
+def where_cut(cuts):
+    """The layout that puts them back: an entry for each, by type, and within a type by column and row."""
+    return [(kind, *dot, 0) for kind, dots in enumerate(cuts.values()) for dot in sorted(dots)]
+
+
+# How sheets were cut up: by size, length and width, the columns and rows of their lower left corners.
+WITH_LONG_BARS = {
+    (1, 2): [(3, 4), (4, 4)],
+    (1, 4): [(8, 4)],
+    (2, 1): [(3, 6), (3, 7)],
+    (3, 2): [(5, 4), (5, 6)],
+    (3, 4): [(0, 4)],
+    (9, 2): [(0, 0), (0, 2)],
+}
+IN_COLUMNS = {
+    (1, 1): [(0, 3), (8, 0)],
+    (1, 2): [(0, 7)],
+    (1, 3): [(0, 0), (0, 4)],
+    (1, 8): [(8, 1)],
+    (2, 2): [(1, 7)],
+    (2, 7): [(1, 0)],
+    (2, 9): [(6, 0)],
+    (3, 9): [(3, 0)],
+}
+
+
 JOBS = {
     "printed": (
         "Document 01's first board, byte for byte: two squares side by side.",
@@ -120,6 +151,22 @@ JOBS = {
     "round-gap-slanting": (
         "Two halves of a sheet cut slantwise, with a gap of 5: moved apart by 3 along the board and 4 across, they keep it.",
         Job(10, 16, 1, [piece(1, [LOWER_HALF], classes=1), piece(1, [UPPER_HALF], classes=1)], [(0, 0, 5)]),
+    ),
+    "carried-shortened": (
+        "Three squares with a gap of 5 on the width of `round-gap`, and as long as the gap as a square needs.",
+        Job(8, 16, 1, [piece(3, [SQUARE], classes=1)], [(0, 0, 5)]),
+    ),
+    "carried-kept": (
+        "Two squares on a board with room for them in either of two rows.",
+        Job(3, 4, 1, [piece(2, [SQUARE])]),
+    ),
+    "carried-stopped": (
+        "Ten rectangles that fill the sheet: 1,000,000 steps find no layout.",
+        cut_up(9, 9, IN_COLUMNS),
+    ),
+    "carried-at-once": (
+        "Ten rectangles that fill a sheet of length 9, on one of length 10: 1,000,000 steps do not find how.",
+        cut_up(8, 10, WITH_LONG_BARS),
     ),
     "turned-bar": (
         "A bar of length 3 on a board of length 1: only one quarter turn is allowed, and it fits.",
@@ -197,6 +244,30 @@ JOBS = {
 # The jobs whose saved bytes, NAME.saved, are written too.
 SAVED = ["printed", "any-order", "classes-one-order", "classes-other-order", "common-cut"]
 
+# Layouts that runs of some jobs are begun from, NAME.layout: an entry is type, column, row and turn.
+GIVEN = {
+    "carried-shortened": (
+        "Held by a run that stopped while the gap was a square: 5 apart along the board. The round gap shortens it.",
+        [(0, 0, 0, 0), (0, 7, 0, 0), (0, 14, 0, 0)],
+    ),
+    "carried-kept": (
+        "The upper row. Nothing is shorter, so it stands, though the lower row comes first.",
+        [(0, 0, 1, 0), (0, 2, 1, 0)],
+    ),
+    "carried-stopped": (
+        "How the sheet was cut up. Nothing shorter is found, and the stopped run holds it.",
+        where_cut(IN_COLUMNS),
+    ),
+    "carried-at-once": (
+        "How the sheet was cut up. Two bars are as long as that sheet, so nothing is tried: it is the shortest.",
+        where_cut(WITH_LONG_BARS),
+    ),
+    "two-squares-gap": (
+        "Two squares that touch, although their gap is 1.",
+        [(0, 0, 0, 0), (0, 2, 0, 0)],
+    ),
+}
+
 TOP = """# Sample jobs
 
 Each `NAME.job` is a job as the engine reads it, `NAME.out` is what the command program prints for it (budget
@@ -204,8 +275,8 @@ Each `NAME.job` is a job as the engine reads it, `NAME.out` is what the command 
 expected outputs come from the reference in `tests/`, which was written from documents 01 and 02 alone. A margin
 is no part of a job: the C example takes one behind the job's name.
 
-Gaps are those of a round cutter. Measured as a square, as document 01 had it, `round-gap` would be 9 long and
-`round-gap-slanting` 15; no other job here would have another output.
+Gaps are those of a round cutter. Measured as a square, as document 01 had it, `round-gap` would be 9 long,
+`round-gap-slanting` 15 and `carried-shortened` 16; no other job here would have another output.
 
 `NAME.saved`, for five of them, is the job as the engine saves it: board, classes by rising id, types, trailer.
 `make.py` puts it together from the job's description alone. `classes-one-order` and `classes-other-order` are saved
@@ -217,10 +288,31 @@ differ. `classes-other-order` and `common-cut` are saved to their own bytes: the
 |---|---|---|
 """
 
+BEGUN = """
+## Begun from a layout
 
-def first_line(name):
-    path = FOLDER / f"{name}.out"
-    return path.read_text().splitlines()[0] if path.exists() else ""
+`NAME.layout` is a layout's bytes, as the C example keeps them with `--keep` and takes them with `--from`; `NAME.begun`
+is what it prints for a run of the job that begins from that layout, with no margin. The command program gives none.
+
+| job | the layout that it is begun from | first line of the output |
+|---|---|---|
+"""
+
+
+def expect(target, *files):
+    """Writes what the reference expects of these files, if it is there to be asked."""
+    if len(sys.argv) > 1:
+        target.write_bytes(subprocess.run([sys.argv[1], *files], check=True, capture_output=True).stdout)
+
+
+def table(entries, ending):
+    """A row for each entry: its name, its line, and the first line of its output, in the file of this ending."""
+
+    def first_line(name):
+        path = FOLDER / f"{name}{ending}"
+        return path.read_text().splitlines()[0] if path.exists() else ""
+
+    return "".join(f"| `{name}` | {line} | `{first_line(name)}` |\n" for name, (line, _) in entries.items())
 
 
 def main():
@@ -229,11 +321,12 @@ def main():
         path.write_bytes(job.file())
         if name in SAVED:
             (FOLDER / f"{name}.saved").write_bytes(job.saved())
-        if len(sys.argv) > 1:
-            out = subprocess.run([sys.argv[1], str(path)], check=True, capture_output=True)
-            (FOLDER / f"{name}.out").write_bytes(out.stdout)
-    rows = "".join(f"| `{name}` | {line} | `{first_line(name)}` |\n" for name, (line, _) in JOBS.items())
-    (FOLDER / "README.md").write_text(TOP + rows)
+        expect(FOLDER / f"{name}.out", path)
+    for name, (_, entries) in GIVEN.items():
+        path = FOLDER / f"{name}.layout"
+        path.write_bytes(b"".join(struct.pack("<HHHH", *entry) for entry in entries))
+        expect(FOLDER / f"{name}.begun", FOLDER / f"{name}.job", path)
+    (FOLDER / "README.md").write_text(TOP + table(JOBS, ".out") + BEGUN + table(GIVEN, ".begun"))
 
 
 if __name__ == "__main__":

@@ -1,6 +1,7 @@
 #!/bin/sh
 # Links everything on this side of the C interface with a libnest.a and runs it: the comparison tests, the stack that a
-# run takes, then the C example on every job of jobs/, held to the expected outputs, with margins, and saving each job.
+# run takes, then the C example on every job of jobs/, held to the expected outputs, with margins, saving each job, and
+# begun from layouts.
 # Needs no network.
 # usage: tests/run.sh FOLDER_OF_LIBNEST [COUNT]
 # CC, CFLAGS and NEST_LDLIBS (libraries that libnest.a itself needs) may be given. NEST_PROGRAM is the command
@@ -113,16 +114,91 @@ over_saved_jobs() {
     [ "$known" -gt 0 ] && [ "$known" -eq "$(find "$root/jobs" -name '*.saved' | wc -l)" ]
 }
 
-# The C example with arguments by which nothing can be saved: it prints nothing, says why and has the status 2.
-cannot_save() { # WHY ARGUMENT...
-    why=$1
-    shift
+# The C example with arguments by which it fails: it prints this alone, says why and has the status 2.
+fails_having_said() { # PRINTED WHY ARGUMENT...
+    expected=$1
+    why=$2
+    shift 2
     status=0
     said=$("$build/nest" "$@" 2>"$build/why") || status=$?
-    if [ -n "$said" ] || [ "$status" -ne 2 ] || ! grep -q "$why" "$build/why"; then
-        echo "nest $*: printed '$said', status $status, and said '$(cat "$build/why")', expected '$why'"
+    if [ "$said" != "$expected" ] || [ "$status" -ne 2 ] || ! grep -q "$why" "$build/why"; then
+        echo "nest $*: printed '$said', status $status, and said '$(cat "$build/why")', expected '$expected' and '$why'"
         return 1
     fi
+}
+
+# Nothing is printed.
+fails() { # WHY ARGUMENT...
+    fails_having_said "" "$@"
+}
+
+# Every layout of jobs/: the job begun from it prints what is expected.
+over_layouts() {
+    begun=0
+    for layout in "$root"/jobs/*.layout; do
+        begun=$((begun + 1))
+        says "$(cat "${layout%.layout}.begun")" --from "$layout" "${layout%.layout}.job" || return 1
+    done
+    echo "C example: $begun jobs begun from a layout as expected"
+    [ "$begun" -gt 0 ] && [ "$begun" -eq "$(find "$root/jobs" -name '*.begun' | wc -l)" ]
+}
+
+# A job whose run holds no layout: no file is created, and one that is there is not changed.
+nothing_kept() { # JOB PRINTED
+    rm -f "$build/kept"
+    says "$2" --keep "$build/kept" "$1" && [ ! -e "$build/kept" ] || return 1
+    echo kept >"$build/kept"
+    says "$2" --keep "$build/kept" "$1" && [ "$(cat "$build/kept")" = kept ]
+}
+
+# A job whose run holds a layout: its bytes are kept, eight for each entry. A run begun from them holds a layout too; after
+# a run that ended it is the same, and steps alone may differ.
+good_when_kept() { # JOB PRINTED
+    rm -f "$build/kept" "$build/again"
+    says "$2" --keep "$build/kept" "$1" || return 1
+    [ "$(wc -c <"$build/kept")" -eq $((8 * ($(echo "$2" | wc -l) - 1))) ] || return 1
+    "$build/nest" --from "$build/kept" --keep "$build/again" "$1" >"$build/begun" || return 1
+    case $2 in
+    shortest*) cmp "$build/again" "$build/kept" && [ "$(steps_left_out <"$build/begun")" = "$(echo "$2" | steps_left_out)" ] ;;
+    *) [ "$(wc -c <"$build/again")" -eq "$(wc -c <"$build/kept")" ] ;;
+    esac
+}
+
+steps_left_out() {
+    sed '1s/ [0-9]*$//'
+}
+
+# Every job of jobs/, by what is expected of its run.
+over_kept_layouts() {
+    for job in "$root"/jobs/*.job; do
+        printed=$(cat "${job%.job}.out")
+        case $printed in
+        'stopped -'* | none* | refused*) nothing_kept "$job" "$printed" ;;
+        *) good_when_kept "$job" "$printed" ;;
+        esac || { echo "jobs/$(basename "$job"): its layout is not kept as expected"; return 1; }
+    done
+    echo "C example: layouts kept and begun from as expected"
+}
+
+# Files of other sizes than a layout's: no bytes give none, one byte behind the last number does not count, one number more
+# does, also in a file that is longer than what is read of it.
+over_layout_sizes() {
+    full="$root/jobs/full-board"
+    : >"$build/layout"
+    says "$(cat "$full.out")" --from "$build/layout" "$full.job" || return 1
+    printf x >"$build/layout"
+    says "refused 11" --from "$build/layout" "$full.job" || return 1
+    says "$(cat "$full.out")" --keep "$build/layout" "$full.job" || return 1
+    printed=$("$build/nest" --from "$build/layout" "$full.job")
+    # Kept in the file that it was begun from, with the options in the other order.
+    says "$printed" --keep "$build/layout" --from "$build/layout" "$full.job" || return 1
+    printf x >>"$build/layout"
+    says "$printed" --from "$build/layout" "$full.job" || return 1
+    printf x >>"$build/layout"
+    says "refused 11" --from "$build/layout" "$full.job" || return 1
+    head -c 1000 /dev/zero >>"$build/layout"
+    says "refused 11" --from "$build/layout" "$full.job" || return 1
+    echo "C example: layouts of other sizes as expected"
 }
 
 over_jobs "C example" "$build/nest"
@@ -141,14 +217,43 @@ for bad in 18446744073709551616 -1 +1 1x ""; do
 done
 echo "C example: margins as expected"
 over_saved_jobs
-cannot_save '^usage' --save
-cannot_save '^usage' --save "$build/saved"
-cannot_save '^usage' --save "$build/saved" "$root/jobs/printed.job" 1
-cannot_save 'no-such.job' --save "$build/saved" "$root/jobs/no-such.job"
-cannot_save 'no-such-folder' --save "$build/no-such-folder/saved" "$root/jobs/printed.job"
+fails '^usage' --save
+fails '^usage' --save "$build/saved"
+fails '^usage' --save "$build/saved" "$root/jobs/printed.job" 1
+fails 'no-such.job' --save "$build/saved" "$root/jobs/no-such.job"
+fails 'no-such-folder' --save "$build/no-such-folder/saved" "$root/jobs/printed.job"
 # A file that takes no bytes, where the system has one: the failure may come no sooner than the file is closed.
-[ ! -e /dev/full ] || cannot_save '/dev/full' --save /dev/full "$root/jobs/printed.job"
+[ ! -e /dev/full ] || fails '/dev/full' --save /dev/full "$root/jobs/printed.job"
 echo "C example: what cannot be saved is told"
+over_layouts
+over_kept_layouts
+over_layout_sizes
+# A layout found under a margin of 1, under that margin, under none and under others; and one from the clamps.
+says "$(cat "$root/jobs/clamped-squares.out")" --keep "$build/in_clamps" "$root/jobs/clamped-squares.job"
+says "shortest 6 3
+0 1 1 0
+0 3 1 0" --keep "$build/kept" "$root/jobs/clamped-squares.job" 1
+says "shortest 6 2
+0 1 1 0
+0 3 1 0" --from "$build/kept" "$root/jobs/clamped-squares.job" 1
+says "$(cat "$root/jobs/clamped-squares.out")" --from "$build/kept" "$root/jobs/clamped-squares.job"
+says "refused 11" --from "$build/kept" "$root/jobs/clamped-squares.job" 2
+says "refused 13" --from "$build/kept" "$root/jobs/clamped-squares.job" 64
+says "refused 11" --from "$build/in_clamps" "$root/jobs/clamped-squares.job" 1
+says "refused 7" --from "$build/kept" "$root/jobs/refused-7-star.job"
+echo "C example: layouts under margins as expected"
+for option in --from --keep; do
+    fails '^usage' "$option"
+    fails '^usage' "$option" "$build/kept"
+    fails '^usage' "$option" "$build/kept" "$root/jobs/printed.job" 1 1
+done
+fails '^usage' --from "$build/kept" --keep "$build/kept"
+fails 'no-such.layout' --from "$root/jobs/no-such.layout" "$root/jobs/printed.job"
+fails 'no-such.job' --from "$build/kept" "$root/jobs/no-such.job"
+# The layout that cannot be kept has been printed.
+fails_having_said "$(cat "$root/jobs/printed.out")" 'no-such-folder' --keep "$build/no-such-folder/kept" "$root/jobs/printed.job"
+[ ! -e /dev/full ] || fails_having_said "$(cat "$root/jobs/printed.out")" '/dev/full' --keep /dev/full "$root/jobs/printed.job"
+echo "C example: layouts that cannot be had or kept are told"
 if [ -n "${NEST_PROGRAM:-}" ]; then
     over_jobs "command program" "$NEST_PROGRAM"
     # 1024 bytes are the most that a job may have; a file may be longer than what one read gives.

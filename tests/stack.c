@@ -1,7 +1,7 @@
 /*
  * How much stack nest_run takes, besides the buffers that it is lent: each job runs on a stack of its own that was
  * filled with a pattern, and what is no longer the pattern was used. More than 256 KiB fails. Each job runs without a
- * margin and with one.
+ * margin and with one, and again from the layout that the run before it held.
  * usage: stack BUDGET JOB...
  */
 #define _GNU_SOURCE
@@ -17,21 +17,21 @@
 enum { STACK = 1 << 20, LIMIT = 256 * 1024, PATTERN = 0xA5 };
 
 static unsigned char *stack;
-static uint8_t job[2048], work[49152], answer[96];
-static size_t job_len;
-static uint64_t margin;
+static uint8_t job[2048], layout[96], work[49152], answer[96], content[4096];
+static size_t job_len, layout_len;
+static uint64_t margin, result;
 static uint32_t budget;
 
-static void *run(void *result)
+static void *run(void *unused)
 {
-    *(uint64_t *)result = nest_run(job, job_len, margin, budget, work, sizeof work, answer, sizeof answer);
-    return NULL;
+    result = nest_run(job, job_len, margin, budget, layout, layout_len, work, sizeof work, answer, sizeof answer);
+    return unused;
 }
 
-static void *nothing(void *result)
+static void *nothing(void *unused)
 {
-    *(uint64_t *)result = 0;
-    return NULL;
+    result = 0;
+    return unused;
 }
 
 /* The bytes of stack that a thread took which ran f. */
@@ -39,16 +39,36 @@ static size_t used_by(void *(*f)(void *))
 {
     pthread_attr_t attributes;
     pthread_t thread;
-    uint64_t result;
     size_t untouched = 0;
     memset(stack, PATTERN, STACK);
     pthread_attr_init(&attributes);
     pthread_attr_setstack(&attributes, stack, STACK);
-    if (pthread_create(&thread, &attributes, f, &result) != 0 || pthread_join(thread, NULL) != 0)
+    if (pthread_create(&thread, &attributes, f, NULL) != 0 || pthread_join(thread, NULL) != 0)
         exit(2);
     while (untouched < STACK && stack[untouched] == PATTERN)
         untouched++;
     return STACK - untouched;
+}
+
+/* The bytes of the layout that the last run holds, 0 if it holds none. N is the last number that read writes. */
+static size_t held(void)
+{
+    size_t last = 2 * NEST_COUNT(nest_read(job, job_len, content, sizeof content));
+    if (NEST_NUMBER(result) != NEST_OK || NEST_VERDICT(result) == NEST_STOPPED_WITH_NOTHING)
+        return 0;
+    return NEST_LAYOUT_BYTES(content[last - 2]);
+}
+
+/* What the present job takes, first from no layout and then from the one that is held. */
+static size_t used_by_job(void)
+{
+    size_t first, second;
+    layout_len = 0;
+    first = used_by(run);
+    layout_len = held();
+    memcpy(layout, answer, layout_len);
+    second = used_by(run);
+    return first > second ? first : second;
 }
 
 int main(int argc, char **argv)
@@ -66,7 +86,7 @@ int main(int argc, char **argv)
         job_len = fread(job, 1, sizeof job, file);
         fclose(file);
         for (margin = 0; margin <= 1; margin++) {
-            size_t used = used_by(run) - of_a_thread;
+            size_t used = used_by_job() - of_a_thread;
             if (used > most)
                 most = used;
         }

@@ -6,7 +6,7 @@ use crate::draft::*;
 use crate::margins;
 use crate::noise::Noise;
 use crate::shapes::random_part;
-use round_gap::round_gap_draft;
+use round_gap::{round_gap_draft, strip_draft};
 
 /// A job to try under a margin, and what it was made for.
 pub struct Made {
@@ -19,7 +19,7 @@ pub struct Made {
 }
 
 pub fn make(noise: &mut Noise) -> Made {
-    match noise.below(28) {
+    match noise.below(30) {
         0..=5 => sound(noise, small_draft, usual_margin),
         6 => sound(noise, narrow_draft, margin_past_a_side),
         7 => sound(noise, roomy_draft, usual_margin),
@@ -27,8 +27,9 @@ pub fn make(noise: &mut Noise) -> Made {
         10 => sound(noise, large_draft, usual_margin),
         11..=13 => sound(noise, common_cut_draft, usual_margin),
         14..=18 => sound(noise, round_gap_draft, seldom_a_margin),
-        19..=23 => spoilt(noise),
-        24..=26 => spoilt_twice(noise),
+        19..=20 => sound(noise, strip_draft, seldom_a_margin),
+        21..=25 => spoilt(noise),
+        26..=28 => spoilt_twice(noise),
         _ => hit_at_random(noise),
     }
 }

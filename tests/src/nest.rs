@@ -24,6 +24,8 @@ extern "C" {
         job_len: usize,
         margin: u64,
         budget: u32,
+        layout: *const u8,
+        layout_len: usize,
         work: *mut u8,
         work_len: usize,
         answer: *mut u8,
@@ -59,9 +61,10 @@ pub unsafe fn check_at(job: Given, margin: u64, layout: Given) -> Answer {
 }
 
 /// # Safety
-/// As above.
-pub unsafe fn run_at(job: Given, margin: u64, budget: u32, work: Given, answer: Given) -> Answer {
-    Answer::unpack(nest_run(job.0, job.1, margin, budget, work.0, work.1, answer.0, answer.1))
+/// As above; job and layout may share bytes.
+pub unsafe fn run_at(job: Given, margin: u64, budget: u32, layout: Given, work: Given, answer: Given) -> Answer {
+    let (layout, layout_len) = layout;
+    Answer::unpack(nest_run(job.0, job.1, margin, budget, layout, layout_len, work.0, work.1, answer.0, answer.1))
 }
 
 fn kept(bytes: &[u8]) -> Given {
@@ -92,7 +95,7 @@ pub fn check(job: &[u8], margin: u64, layout: &[u8]) -> Answer {
     unsafe { check_at(kept(job), margin, kept(layout)) }
 }
 
-pub fn run(job: &[u8], margin: u64, budget: u32, work: &mut [u8], answer: &mut [u8]) -> Answer {
+pub fn run(job: &[u8], margin: u64, budget: u32, layout: &[u8], work: &mut [u8], answer: &mut [u8]) -> Answer {
     // SAFETY: as above; the two changed ones are borrowed apart.
-    unsafe { run_at(kept(job), margin, budget, changed(work), changed(answer)) }
+    unsafe { run_at(kept(job), margin, budget, kept(layout), changed(work), changed(answer)) }
 }

@@ -1,15 +1,16 @@
 //! The section "Small boards" of document 01, marked and unmarked, with what it says of each, or document 02 after it;
-//! and small boards that are refused, under a margin, of common cut, of the round gap and saved, with what documents 01
-//! and 02 make of them, worked out by hand (but for the bytes of the largest content, which the encoder of the drafts
-//! puts together).
+//! and small boards that are refused, under a margin, of common cut, of the round gap, saved and begun from a given layout,
+//! with what documents 01 and 02 make of them, worked out by hand (but for the bytes of the largest content, which the
+//! encoder of the drafts puts together).
 
+mod given;
 mod round_gap;
 
 use crate::draft::{encode, Arrangement, Draft};
 
 pub enum Claim {
-    /// What a program that passes this margin and budget would print.
-    Run { margin: u64, budget: u32, printed: &'static str },
+    /// What a program that passes this margin and budget, and gives a layout of these bytes, would print.
+    Run { margin: u64, budget: u32, given: Vec<u8>, printed: &'static str },
     /// Conflict of the first type on one dot with the second on another, unturned; or what refuses the row.
     Conflict { margin: u64, types: (usize, usize), one: Dot, other: Dot, holds: Result<bool, u8> },
     /// The length of a layout; or what refuses it.
@@ -59,11 +60,11 @@ fn squares_with_gap(width: u16, length: u16, gap_byte: u8) -> Draft {
 }
 
 fn run(budget: u32, printed: &'static str) -> Claim {
-    Claim::Run { margin: 0, budget, printed }
+    Claim::Run { margin: 0, budget, given: vec![], printed }
 }
 
 fn run_under(margin: u64, printed: &'static str) -> Claim {
-    Claim::Run { margin, budget: u32::MAX, printed }
+    Claim::Run { margin, budget: u32::MAX, given: vec![], printed }
 }
 
 fn conflict(one: Dot, other: Dot, holds: bool) -> Claim {
@@ -97,6 +98,7 @@ pub fn small_boards() -> Vec<SmallBoard> {
     boards.extend(boards_of_gap_bytes());
     boards.extend(round_gap::boards_of_the_round_gap());
     boards.extend(boards_saved());
+    boards.extend(given::boards_with_a_given_layout());
     boards
 }
 
@@ -173,8 +175,8 @@ fn boards_under_a_margin() -> Vec<SmallBoard> {
             squares(4, 6),
             vec![
                 run_under(1, "shortest 6 3\n0 1 1 0\n0 3 1 0\n"),
-                Claim::Run { margin: 1, budget: 2, printed: "stopped 6 2\n0 1 1 0\n0 3 1 0\n" },
-                Claim::Run { margin: 1, budget: 1, printed: "stopped - 1\n" },
+                Claim::Run { margin: 1, budget: 2, given: vec![], printed: "stopped 6 2\n0 1 1 0\n0 3 1 0\n" },
+                Claim::Run { margin: 1, budget: 1, given: vec![], printed: "stopped - 1\n" },
                 run_under(2, "none 0\n"),
                 run_under(63, "none 0\n"),
                 run_under(64, "refused 13\n"),

@@ -21,7 +21,14 @@ fn room_of(given: usize, number: u8) -> usize
     if given == 0 { 1024 } else { number as usize }
 }
 
-// The question of this word about a job under a margin: read, write, row, check or run, told by its second letter.
+// Where the layout begins that a run is given behind its budget.
+fn behind_budget(given: usize) -> usize
+    ensures { λ r. ⌜ r ≤ given ⌝ }
+{
+    if given == 0 { 0 } else { 1 }
+}
+
+// The question of this word about a job under a margin: read, write, row, check, run from a given layout or run from none, told by its second letter.
 fn ask(word: u8, margin: usize, job: Numbers, asked: Numbers)
     requires { ⌜ (job .count ≤ length (job .bytes)) × (asked .count ≤ length (asked .bytes)) ⌝ }
 {
@@ -35,7 +42,13 @@ fn ask(word: u8, margin: usize, job: Numbers, asked: Numbers)
         b'r' => show::save(job, room_of(count, given[0])),
         b'o' => show::row(job, margin, given[0]),
         b'h' => show::check(job, margin, &given[0..count]),
-        _ => show::run(job, margin, budget_of(count, given[0])),
+        b'i' => show::run(
+            job,
+            margin,
+            given[0] as u32,
+            &given[behind_budget(count)..count],
+        ),
+        _ => show::run(job, margin, budget_of(count, given[0]), &given[0..0]),
     }
 }
 
@@ -68,7 +81,7 @@ fn answer_all(text: &[u8]) {
                 margin = 0;
             }
             b'l' => margin = input::margin_at(text, at + 5),
-            b'e' | b'r' | b'o' | b'h' | b'u' => answer(text, name, margin, at, word),
+            b'e' | b'r' | b'o' | b'h' | b'i' | b'u' => answer(text, name, margin, at, word),
             _ => (),
         }
         at = bytes::scan::find(text, at, text.len(), b'\n') + 1;

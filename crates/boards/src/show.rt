@@ -17,14 +17,25 @@ fn say_last(words: &[u8], n: u64) {
     io::write_all(STDOUT_FILENO, b"\n");
 }
 
-// What the command program would print of a run of the job, under a margin.
-pub fn run(job: &[u8], margin: usize, budget: u32) {
+// What the command program would print of a run of the job, under a margin, from the layout in the buffer or from none.
+pub fn run(job: &[u8], margin: usize, budget: u32, layout: &[u8]) {
+    if layout.len() > 0 {
+        say(b", from a layout of bytes ", layout.len() as u64);
+    }
     say(b", budget ", budget as u64);
     io::write_all(STDOUT_FILENO, b": ");
     let mut work = [0u8; 49152];
     let mut answer = [0u8; 96];
     let mut text = [0u8; 512];
-    let len = command::respond(job, margin, budget, &mut work, &mut answer, &mut text);
+    let len = command::respond(
+        job,
+        margin,
+        budget,
+        layout,
+        &mut work,
+        &mut answer,
+        &mut text,
+    );
     io::write_all(STDOUT_FILENO, &text[0..len]);
 }
 

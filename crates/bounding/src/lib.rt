@@ -1,4 +1,4 @@
 // Bounding: what a new best takes from the live sets.
 pub mod lowering;
-mod shrinking;
+pub mod shrinking;
 mod trimming;

@@ -1,6 +1,6 @@
 -- The sets of a level from those of the level before, and one more kind settled.
 use mathlib.Core.Bool.{Bool, true, false, not, _&&_, _||_}
-use mathlib.Core.List.{List, _∷_}
+use mathlib.Core.List.{List, [], _∷_}
 use mathlib.Core.Logic.{_⊎_, inl, inr}
 use mathlib.Core.Path.{_≡_, refl, sym, ap, _∙_, subst}
 use Prim.Native.Nat.{ℕ, suc, _+_, _*_, _-_, _≤_, _<_}
@@ -26,7 +26,7 @@ use Rattle.lookahead.specs.Settled.{Placeable, Made, enoughOf, KindSettl
 use Rattle.live_sets.proofs.Filling.{drop-later}
 use Rattle.stepping.proofs.Kept.{keeps-count, kept-candidate}
 use Rattle.stepping.proofs.Levels.{copies-next, placed-next}
-use Rattle.stepping.proofs.LiveSets.{member-parts, set-begin, set-placed, enough-holds, enough-fails}
+use Rattle.stepping.proofs.LiveSets.{member-parts, set-placed, enough-holds, enough-fails}
 use Rattle.stepping.proofs.Slots.{start-next, start-kinds, start-lower, start-fits, slot-member, keeps-same, keeps-frame, frame-same, frame-then}
 
 module _ (j : Problem) where
@@ -63,12 +63,12 @@ module _ (j : Problem) where
       turn m (inl o) = inl (omega arith)
       turn m (inr o) = inr (omega (arith, start-next j level u))
 
-  -- At the first level that is the test for a candidate.
-  pub made-first : (ns : List ℕ) (u at words : ℕ) (work work′ : List ℕ) → at ≡ setStart j 0 u → words ≡ setWords (j .sheet) → 0 < pieceCount (j .kinds) → u < kindCount (j .kinds)
-      → Filled at words (isCandidate j u) work work′ → Made j ns 0 (j .sheet .L + 1) (setWords (j .sheet)) u work work′
+  -- At the first level nothing is placed.
+  pub made-first : (ns : List ℕ) (bound u at words : ℕ) (work work′ : List ℕ) → at ≡ setStart j 0 u → words ≡ setWords (j .sheet) → 0 < pieceCount (j .kinds) → u < kindCount (j .kinds)
+      → Filled at words (setOf j [] bound u) work work′ → Made j ns 0 bound (setWords (j .sheet)) u work work′
   unfolding placedBelow
-  made-first ns u at words work work′ q w h g f =
-      made-of ns 0 (j .sheet .L + 1) (setWords (j .sheet)) u at words (isCandidate j u) work work′ q w (omega arith) h g f (λ m l. sym (set-begin j u m))
+  made-first ns bound u at words work work′ q w h g f =
+      made-of ns 0 bound (setWords (j .sheet)) u at words (setOf j [] bound u) work work′ q w (omega arith) h g f (λ m l. refl)
 
   -- At a later one, being a member before and staying.
   module _ (ns : List ℕ) (level bound span u to from words t : ℕ) (work : List ℕ) (p : Placeable j ns level bound span work) (g : u < kindCount (j .kinds))

@@ -2,7 +2,7 @@
 use mathlib.Core.List.{List, map}
 use mathlib.Core.Path.{_≡_, refl}
 use Prim.Native.Nat.{ℕ}
-use Rattle.model.specs.Boards.{Marked, answerUnder, answerTo, boards, furtherBoards, clampRuns, clampRows, clampChecks, clampRefusals, cutRuns, cutConflicts, cutBytes, cutReads, savedJobs, roundConflicts, roundServices, numbersOf, saidBy, shownBy, toldBy, savedBy, scattered, scatteredSaved, printedSaved, square, squareAt, slanting, tipUp, tipDown, largeSquare, slantingJob, plates, jobOn, jobOf, squareOf, squareType, squares, gapSquares, printedJob, printedText, triangles, strips, bar, rankedSquares, twoTypes, leftCorner, star, squareTwice}
+use Rattle.model.specs.Boards.{Marked, answerUnder, answerTo, boards, furtherBoards, clampRuns, clampRows, clampChecks, clampRefusals, cutRuns, cutConflicts, cutBytes, cutReads, savedJobs, roundConflicts, roundServices, carriedAtOnce, carriedOne, carriedCounts, carriedRuns, carriedKept, carriedClamped, carriedRefusals, ranFrom, numbersOf, saidBy, shownBy, toldBy, savedBy, scattered, scatteredSaved, printedSaved, square, squareAt, slanting, tipUp, tipDown, largeSquare, slantingJob, plates, jobOn, jobOf, squareOf, squareType, squares, oneSquare, gapSquares, printedJob, printedText, triangles, strips, bar, rankedSquares, twoTypes, leftCorner, star, squareTwice}
 use Rattle.model.specs.Opened.{opened}
 
 -- Every question of the table has its expected answer.
@@ -10,7 +10,7 @@ abbrev pub Hold : List Marked → Type 0
 Hold table = map (λ m. answerTo (m .question)) table ≡ map (λ m. m .expected) table
 
 unfoldable openedBoards : ℕ
-unfolding opened boards furtherBoards clampRuns clampRows clampChecks clampRefusals cutRuns cutConflicts cutBytes cutReads savedJobs roundConflicts roundServices scattered scatteredSaved printedSaved answerUnder answerTo numbersOf saidBy shownBy toldBy savedBy square squareAt slanting tipUp tipDown largeSquare slantingJob plates jobOn jobOf squareOf squareType squares gapSquares printedJob printedText triangles strips bar rankedSquares twoTypes leftCorner star squareTwice
+unfolding opened boards furtherBoards clampRuns clampRows clampChecks clampRefusals cutRuns cutConflicts cutBytes cutReads savedJobs roundConflicts roundServices carriedAtOnce carriedOne carriedCounts carriedRuns carriedKept carriedClamped carriedRefusals ranFrom scattered scatteredSaved printedSaved answerUnder answerTo numbersOf saidBy shownBy toldBy savedBy square squareAt slanting tipUp tipDown largeSquare slantingJob plates jobOn jobOf squareOf squareType squares oneSquare gapSquares printedJob printedText triangles strips bar rankedSquares twoTypes leftCorner star squareTwice
 openedBoards = 0
 
 -- The paper prints the bytes of one job; the others are put together the same way.
@@ -73,3 +73,32 @@ round-conflicts = refl
 pub round-services : Hold roundServices
 unfolding openedBoards
 round-services = refl
+
+-- The boards of document 02's sixth request.
+pub carried-at-once : Hold carriedAtOnce
+unfolding openedBoards
+carried-at-once = refl
+
+pub carried-one : Hold carriedOne
+unfolding openedBoards
+carried-one = refl
+
+pub carried-counts : Hold carriedCounts
+unfolding openedBoards
+carried-counts = refl
+
+pub carried-kept : Hold carriedKept
+unfolding openedBoards
+carried-kept = refl
+
+pub carried-runs : Hold carriedRuns
+unfolding openedBoards
+carried-runs = refl
+
+pub carried-clamped : Hold carriedClamped
+unfolding openedBoards
+carried-clamped = refl
+
+pub carried-refusals : Hold carriedRefusals
+unfolding openedBoards
+carried-refusals = refl

@@ -15,7 +15,7 @@ use Rattle.model.specs.Problem.{Problem, under}
 use Rattle.model.specs.Search.{isStopped, held}
 use Rattle.model.specs.Layout.{Layout}
 use Rattle.model.specs.Saving.{written}
-use Rattle.model.specs.Services.{WriteOutcome, writeOutcome, withNumbers, contentNumbers, readContent, read, withBytes, saveContent, save, refusalUnder, cause12, rowContent, conflictRow, wordsIn, numbersIn, workWords, cleared, withLayout, heldAs, finishedAs, verdict, stepCount, RunOutcome, runOutcome, runContent, run}
+use Rattle.model.specs.Services.{WriteOutcome, writeOutcome, withNumbers, contentNumbers, readContent, read, withBytes, saveContent, save, refusalUnder, cause12, rowContent, conflictRow, wordsIn, numbersIn, workWords, cleared, withLayout, heldAs, finishedAs, givenLayout, givenUnfit, verdict, stepCount, RunOutcome, runOutcome, walked, runFrom, runContent, run}
 use Rattle.model.specs.declared.Held.the-variants as HV
 use Rattle.model.specs.declared.RunAnswer.{RunAnswer}
 use Rattle.model.specs.declared.RunAnswer.the-variants as R
@@ -71,47 +71,54 @@ row-keeps s m t k u out n = go (eqb (refusalUnder m s) 0) refl
     go true e h = rw (e, conflictRow) (inner (cause12 j t k u) refl (rw (e, conflictRow) at h))
 
 -- A run refuses and changes nothing, or it answers what the walk says, with the work words cleared.
-run-cases : (s : List ℕ) (m budget : ℕ) (work out : List ℕ)
-    → (run s m budget work out ≡ runOutcome (run s m budget work out .answer) work out)
-    ⊎ (run s m budget work out ≡ runOutcome (verdict (under m (content s)) budget) (cleared (under m (content s)) work) (withLayout (held (under m (content s)) none budget) out))
-unfolding run runContent
-run-cases s m budget work out = go (eqb (refusalUnder m s) 0) refl
+run-cases : (s : List ℕ) (m budget : ℕ) (given work out : List ℕ)
+    → (run s m budget given work out ≡ runOutcome (run s m budget given work out .answer) work out)
+    ⊎ (run s m budget given work out ≡ walked (under m (content s)) (givenLayout (under m (content s)) given) budget work out)
+unfolding run runContent runFrom
+run-cases s m budget given work out = go (eqb (refusalUnder m s) 0) refl
   where
     j : Problem
     j = under m (content s)
 
+    begin : Option Layout
+    begin = givenLayout j given
+
     Either : RunOutcome → Type 0
-    Either r = (r ≡ runOutcome (r .answer) work out) ⊎ (r ≡ runOutcome (verdict j budget) (cleared j work) (withLayout (held j none budget) out))
+    Either r = (r ≡ runOutcome (r .answer) work out) ⊎ (r ≡ walked j begin budget work out)
 
-    last : (b : Bool) → ltb (numbersIn out) (4 * pieceCount (j .kinds)) ≡ b → ltb (wordsIn work) (workWords j) ≡ false → Either (runContent j budget work out)
-    last true g f = rw (f, g, runContent) (inl refl)
-    last false g f = rw (f, g, runContent) (inr refl)
+    last : (b : Bool) → ltb (numbersIn out) (4 * pieceCount (j .kinds)) ≡ b → ltb (wordsIn work) (workWords j) ≡ false → Either (runFrom j begin budget work out)
+    last true g f = rw (f, g, runFrom) (inl refl)
+    last false g f = rw (f, g, runFrom) (inr refl)
 
-    inner : (b : Bool) → ltb (wordsIn work) (workWords j) ≡ b → Either (runContent j budget work out)
+    begun : (b : Bool) → ltb (wordsIn work) (workWords j) ≡ b → Either (runFrom j begin budget work out)
+    begun true f = rw (f, runFrom) (inl refl)
+    begun false f = last (ltb (numbersIn out) (4 * pieceCount (j .kinds))) refl f
+
+    inner : (b : Bool) → givenUnfit j given ≡ b → Either (runContent j budget given work out)
     inner true f = rw (f, runContent) (inl refl)
-    inner false f = last (ltb (numbersIn out) (4 * pieceCount (j .kinds))) refl f
+    inner false f = rw (f, runContent) (begun (ltb (wordsIn work) (workWords j)) refl)
 
-    go : (b : Bool) → eqb (refusalUnder m s) 0 ≡ b → Either (run s m budget work out)
+    go : (b : Bool) → eqb (refusalUnder m s) 0 ≡ b → Either (run s m budget given work out)
     go false e = rw (e, run) (inl refl)
-    go true e = rw (e, run) (inner (ltb (wordsIn work) (workWords j)) refl)
+    go true e = rw (e, run) (inner (givenUnfit j given) refl)
 
 -- What the walk says is no refusal; where it says none, or stops with nothing, nothing is held.
-module _ (j : Problem) (budget : ℕ) where
-  never-refused : (n : ℕ) → verdict j budget ≡ R.Refused n → ⊥
+module _ (j : Problem) (begin : Option Layout) (budget : ℕ) where
+  never-refused : (n : ℕ) → verdict j begin budget ≡ R.Refused n → ⊥
   unfolding verdict finishedAs
-  never-refused n = go (isStopped j none budget) (held j none budget)
+  never-refused n = go (isStopped j begin budget) (held j begin budget)
     where
-      go : (b : Bool) (h : Option Layout) → cond b (R.Stopped (heldAs j h) (stepCount j budget)) (finishedAs j h (stepCount j budget)) ≡ R.Refused n → ⊥
+      go : (b : Bool) (h : Option Layout) → cond b (R.Stopped (heldAs j h) (stepCount j begin budget)) (finishedAs j h (stepCount j begin budget)) ≡ R.Refused n → ⊥
       go true h e = let z : _≡_ {A = ℕ} 0 1 = cc in omega arith
       go false none e = let z : _≡_ {A = ℕ} 0 1 = cc in omega arith
       go false (some es) e = let z : _≡_ {A = ℕ} 0 1 = cc in omega arith
 
-  nothing-held : (k : ℕ) → (verdict j budget ≡ R.Infeasible k) ⊎ (verdict j budget ≡ R.Stopped HV.Nothing k) → held j none budget ≡ none
+  nothing-held : (k : ℕ) → (verdict j begin budget ≡ R.Infeasible k) ⊎ (verdict j begin budget ≡ R.Stopped HV.Nothing k) → held j begin budget ≡ none
   unfolding verdict finishedAs heldAs
-  nothing-held k = go (isStopped j none budget) (held j none budget)
+  nothing-held k = go (isStopped j begin budget) (held j begin budget)
     where
       told : Bool → Option Layout → RunAnswer
-      told b h = cond b (R.Stopped (heldAs j h) (stepCount j budget)) (finishedAs j h (stepCount j budget))
+      told b h = cond b (R.Stopped (heldAs j h) (stepCount j begin budget)) (finishedAs j h (stepCount j begin budget))
 
       go : (b : Bool) (h : Option Layout) → (told b h ≡ R.Infeasible k) ⊎ (told b h ≡ R.Stopped HV.Nothing k) → h ≡ none
       go b none e = refl
@@ -120,28 +127,33 @@ module _ (j : Problem) (budget : ℕ) where
       go false (some es) (inl e) = let z : _≡_ {A = ℕ} 0 1 = cc in absurd (omega arith)
       go false (some es) (inr e) = let z : _≡_ {A = ℕ} 0 1 = cc in absurd (omega arith)
 
-module _ (s : List ℕ) (m budget : ℕ) (work out : List ℕ) where
+module _ (s : List ℕ) (m budget : ℕ) (given work out : List ℕ) where
+  -- The problem, and what the walk begins with.
+  abbrev j : Problem
+  j = under m (content s)
+
+  abbrev begin : Option Layout
+  begin = givenLayout j given
+
   -- The same of a run.
-  pub run-keeps : (n : ℕ) → run s m budget work out .answer ≡ R.Refused n → (run s m budget work out .work ≡ work) × (run s m budget work out .out ≡ out)
-  run-keeps n h = go (run-cases s m budget work out)
+  pub run-keeps : (n : ℕ) → run s m budget given work out .answer ≡ R.Refused n → (run s m budget given work out .work ≡ work) × (run s m budget given work out .out ≡ out)
+  run-keeps n h = go (run-cases s m budget given work out)
     where
-      go : (run s m budget work out ≡ runOutcome (run s m budget work out .answer) work out)
-          ⊎ (run s m budget work out ≡ runOutcome (verdict (under m (content s)) budget) (cleared (under m (content s)) work) (withLayout (held (under m (content s)) none budget) out))
-          → (run s m budget work out .work ≡ work) × (run s m budget work out .out ≡ out)
+      go : (run s m budget given work out ≡ runOutcome (run s m budget given work out .answer) work out) ⊎ (run s m budget given work out ≡ walked j begin budget work out)
+          → (run s m budget given work out .work ≡ work) × (run s m budget given work out .out ≡ out)
       go (inl e) = (ap (λ r. r .work) e, ap (λ r. r .out) e)
-      go (inr e) = absurd (never-refused (under m (content s)) budget n (sym (ap (λ r. r .answer) e) ∙ h))
+      go (inr e) = absurd (never-refused j begin budget n (sym (ap (λ r. r .answer) e) ∙ h))
 
   -- "except 10, which .. clears the work words"; "Stopped without a layout leaves the answer numbers unchanged."
-  pub run-without-layout : (k : ℕ) → (run s m budget work out .answer ≡ R.Infeasible k) ⊎ (run s m budget work out .answer ≡ R.Stopped HV.Nothing k)
-      → run s m budget work out .out ≡ out
+  pub run-without-layout : (k : ℕ) → (run s m budget given work out .answer ≡ R.Infeasible k) ⊎ (run s m budget given work out .answer ≡ R.Stopped HV.Nothing k)
+      → run s m budget given work out .out ≡ out
   unfolding withLayout
-  run-without-layout k h = go (run-cases s m budget work out)
+  run-without-layout k h = go (run-cases s m budget given work out)
     where
-      walked : run s m budget work out .answer ≡ verdict (under m (content s)) budget → (verdict (under m (content s)) budget ≡ R.Infeasible k) ⊎ (verdict (under m (content s)) budget ≡ R.Stopped HV.Nothing k)
-      walked a = ⊎-elim (λ e. inl (sym a ∙ e)) (λ e. inr (sym a ∙ e)) h
+      says : run s m budget given work out .answer ≡ verdict j begin budget → (verdict j begin budget ≡ R.Infeasible k) ⊎ (verdict j begin budget ≡ R.Stopped HV.Nothing k)
+      says a = ⊎-elim (λ e. inl (sym a ∙ e)) (λ e. inr (sym a ∙ e)) h
 
-      go : (run s m budget work out ≡ runOutcome (run s m budget work out .answer) work out)
-          ⊎ (run s m budget work out ≡ runOutcome (verdict (under m (content s)) budget) (cleared (under m (content s)) work) (withLayout (held (under m (content s)) none budget) out)) → run s m budget work out .out ≡ out
+      go : (run s m budget given work out ≡ runOutcome (run s m budget given work out .answer) work out) ⊎ (run s m budget given work out ≡ walked j begin budget work out)
+          → run s m budget given work out .out ≡ out
       go (inl e) = ap (λ r. r .out) e
-      go (inr e) =
-          ap (λ r. r .out) e ∙ ap (λ h. withLayout h out) (nothing-held (under m (content s)) budget k (walked (ap (λ r. r .answer) e)))
+      go (inr e) = ap (λ r. r .out) e ∙ ap (λ h. withLayout h out) (nothing-held j begin budget k (says (ap (λ r. r .answer) e)))

@@ -8,6 +8,7 @@ pub mod Moves
 pub mod Box
 pub mod Numbers
 pub mod Passing
+pub mod Given
 pub mod Printing
 pub mod Sorted
 pub mod Accepted

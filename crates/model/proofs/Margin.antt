@@ -85,9 +85,9 @@ module _ (s : List ℕ) (m : ℕ) where
     unfolding check
     check-13 layout = rw (refused, check) (ap (λ n. C.Refused n) refuses)
 
-    pub run-13 : (budget : ℕ) (work out : List ℕ) → run s m budget work out ≡ runOutcome (R.Refused 13) work out
+    pub run-13 : (budget : ℕ) (given work out : List ℕ) → run s m budget given work out ≡ runOutcome (R.Refused 13) work out
     unfolding run
-    run-13 budget work out = rw (refused, run) (ap (λ n. runOutcome (R.Refused n) work out) refuses)
+    run-13 budget given work out = rw (refused, run) (ap (λ n. runOutcome (R.Refused n) work out) refuses)
 
 -- ---- "With m = 0 .., all earlier results hold"
 
@@ -117,8 +117,8 @@ pub record AsBefore (s : List ℕ) : Type 0 where
   pub row : (t n u : ℕ) (out : List ℕ) → conflictRow s 0 t n u out
       ≡ cond (eqb (refusal s) 0) (rowContent (under 0 (content s)) t n u out) (writeOutcome (W.Refused (refusal s)) out)
   pub checked : (layout : List ℕ) → check s 0 layout ≡ cond (eqb (refusal s) 0) (checkContent (under 0 (content s)) layout) (C.Refused (refusal s))
-  pub ran : (budget : ℕ) (work out : List ℕ) → run s 0 budget work out
-      ≡ cond (eqb (refusal s) 0) (runContent (under 0 (content s)) budget work out) (runOutcome (R.Refused (refusal s)) work out)
+  pub ran : (budget : ℕ) (given work out : List ℕ) → run s 0 budget given work out
+      ≡ cond (eqb (refusal s) 0) (runContent (under 0 (content s)) budget given work out) (runOutcome (R.Refused (refusal s)) work out)
 
 pub margin-0 : (s : List ℕ) → AsBefore s
 unfolding layoutLength conflictRow check run
@@ -130,8 +130,8 @@ margin-0 s =
       row = λ t n u out. by-cond (eqb (refusalUnder 0 s) 0) _ _
           ∙ ap (λ n′. cond (eqb n′ 0) (rowContent (under 0 (content s)) t n u out) (writeOutcome (W.Refused n′) out)) (refusal-under-0 s);
       checked = λ layout. by-cond (eqb (refusalUnder 0 s) 0) _ _ ∙ ap (λ n. cond (eqb n 0) (checkContent (under 0 (content s)) layout) (C.Refused n)) (refusal-under-0 s);
-      ran = λ budget work out. by-cond (eqb (refusalUnder 0 s) 0) _ _
-          ∙ ap (λ n. cond (eqb n 0) (runContent (under 0 (content s)) budget work out) (runOutcome (R.Refused n) work out)) (refusal-under-0 s);
+      ran = λ budget given work out. by-cond (eqb (refusalUnder 0 s) 0) _ _
+          ∙ ap (λ n. cond (eqb n 0) (runContent (under 0 (content s)) budget given work out) (runOutcome (R.Refused n) work out)) (refusal-under-0 s);
     }
 
 -- ---- Margins compared

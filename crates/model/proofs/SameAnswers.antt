@@ -64,10 +64,10 @@ module _ (s t : List ℕ) (same-refusal : refusal s ≡ refusal t) (same-content
       by-cond (eqb (refusalUnder m s) 0) _ _ ∙ alike-under m (λ n. C.Refused n) (λ j. checkContent j layout)
       ∙ sym (by-cond (eqb (refusalUnder m t) 0) _ _)
 
-  run-same : (m budget : ℕ) (work out : List ℕ) → run s m budget work out ≡ run t m budget work out
+  run-same : (m budget : ℕ) (given work out : List ℕ) → run s m budget given work out ≡ run t m budget given work out
   unfolding run
-  run-same m budget work out =
-      by-cond (eqb (refusalUnder m s) 0) _ _ ∙ alike-under m (λ n. runOutcome (R.Refused n) work out) (λ j. runContent j budget work out)
+  run-same m budget given work out =
+      by-cond (eqb (refusalUnder m s) 0) _ _ ∙ alike-under m (λ n. runOutcome (R.Refused n) work out) (λ j. runContent j budget given work out)
       ∙ sym (by-cond (eqb (refusalUnder m t) 0) _ _)
 
   pub same-answers : SameAnswers s t

@@ -25,12 +25,13 @@ use Rattle.model.specs.declared.Written.the-variants as W
 
 -- ---- Questions and answers
 
--- A run of a job at a budget; a check of a job and a layout's numbers; a row of a job, of the candidate of a number of its first type, against that type; each of
+-- A run of a job at a budget, begun from no layout or from the one in these bytes; a check of a job and a layout's numbers; a row of a job, of the candidate of a number of its first type, against that type; each of
 -- the three under a margin instead of 0; the numbers that read gives of a job, where room for so many is lent; a job saved into so many bytes; whether two
 -- parts, where they stand, are in conflict at a gap; by which number a job's sender is refused; what the program prints of a job.
 pub data Question : Type 0 where
   prints : List ℕ → Question
   runs : List ℕ → ℕ → Question
+  carries : List ℕ → List ℕ → ℕ → Question
   checks : List ℕ → List ℕ → Question
   rows : List ℕ → ℕ → Question
   clamped : ℕ → Question → Question
@@ -89,13 +90,17 @@ toldBy r = shows (r .answer) (numbersOf (r .buffer))
 unfoldable pub savedBy : WriteOutcome → Answer
 savedBy r = shows (r .answer) (r .buffer)
 
--- The answer under a margin. A run is given just enough work words, each byte 255, and just enough answer numbers, each 7; a row just enough words, each 0; read
--- numbers that are each 7; save bytes that are each 7.
-unfoldable pub answerUnder : ℕ → Question → Answer
-answerUnder m (runs s budget) =
+-- A run under a margin, begun from the layout in these bytes. It is lent just enough work words, each byte 255, and just enough answer numbers, each 7.
+unfoldable pub ranFrom : ℕ → List ℕ → List ℕ → ℕ → Answer
+ranFrom m given s budget =
     saidBy
-    (run s m budget (replicate (workWords (under m (content s)) * 8) 255)
+    (run s m budget given (replicate (workWords (under m (content s)) * 8) 255)
     (bytesOf 2 (replicate (pieceCount (content s .kinds) * 4) 7)))
+
+-- The answer under a margin. A row is lent just enough words, each 0; read numbers that are each 7; save bytes that are each 7.
+unfoldable pub answerUnder : ℕ → Question → Answer
+answerUnder m (runs s budget) = ranFrom m [] s budget
+answerUnder m (carries given s budget) = ranFrom m given s budget
 answerUnder m (checks s ns) = finds (check s m (bytesOf 2 ns))
 answerUnder m (rows s n) = shownBy (conflictRow s m 0 n 0 (replicate (setWords (content s .sheet) * 8) 0))
 answerUnder m (clamped k q) = answerUnder k q
@@ -137,6 +142,10 @@ squareType classes = squareOf 2 classes
 -- Two squares in no class.
 unfoldable pub squares : ℕ → ℕ → List ℕ
 squares w l = jobOf w l [] 1 (squareType 0)
+
+-- One square, at step 2.
+unfoldable pub oneSquare : ℕ → ℕ → List ℕ
+oneSquare w l = jobOn (w ∷ l ∷ 2 ∷ []) [] 1 (squareOf 1 0)
 
 -- Two squares in a class of this gap byte.
 unfoldable pub gapSquares : ℕ → ℕ → ℕ → List ℕ
@@ -467,4 +476,69 @@ roundServices =
     -- shorter. (By the square measure: none.) At gap 6 each place is a step.
     ∷ (runs (plates 5) 1000000 ⇒ says (Shortest 7 3) true (0 ∷ 0 ∷ 0 ∷ 0 ∷ 0 ∷ 1 ∷ 1 ∷ 0 ∷ []))
     ∷ (runs (plates 6) 1000000 ⇒ says (Infeasible 4) true untouched)
+    ∷ []
+
+-- Boards of document 02's sixth request: runs that are given a layout to begin from. One square, W 4, L 2, step 2: the rows 0 and 1 are as short as each other.
+-- Row 1 stands, and no step is taken: "and otherwise the given layout".
+unfoldable pub carriedAtOnce : List Marked
+carriedAtOnce = (carries (bytesOf 2 (0 ∷ 0 ∷ 1 ∷ 0 ∷ [])) (oneSquare 4 2) 0 ⇒ says (Shortest 2 0) true (0 ∷ 0 ∷ 1 ∷ 0 ∷ [])) ∷ []
+
+-- W 2, L 4: the columns 0 and 1, lengths 2 and 4. From column 1 the other is one step, and shorter; "a run stopped before it finds a shorter one holds the given
+-- layout".
+unfoldable pub carriedOne : List Marked
+carriedOne =
+    (carries (bytesOf 2 (0 ∷ 1 ∷ 0 ∷ 0 ∷ [])) (oneSquare 2 4) 1 ⇒ says (Shortest 2 1) true (0 ∷ 0 ∷ 0 ∷ 0 ∷ []))
+    ∷ (carries (bytesOf 2 (0 ∷ 1 ∷ 0 ∷ 0 ∷ [])) (oneSquare 2 4) 0 ⇒ says (Stopped (Layout 4) 0) true (0 ∷ 1 ∷ 0 ∷ 0 ∷ []))
+    ∷ []
+
+-- "A given layout is checked .. and refused by 11 if it does not pass": column 2 is no candidate; a number more, a number fewer and one byte are no layout.
+unfoldable pub carriedCounts : List Marked
+carriedCounts =
+    (carries (bytesOf 2 (0 ∷ 2 ∷ 0 ∷ 0 ∷ [])) (oneSquare 2 4) 0 ⇒ says (Refused 11) false (7 ∷ 7 ∷ 7 ∷ 7 ∷ []))
+    ∷ (carries (bytesOf 2 (0 ∷ 1 ∷ 0 ∷ 0 ∷ 0 ∷ [])) (oneSquare 2 4) 0 ⇒ says (Refused 11) false (7 ∷ 7 ∷ 7 ∷ 7 ∷ []))
+    ∷ (carries (bytesOf 2 (0 ∷ 1 ∷ 0 ∷ [])) (oneSquare 2 4) 0 ⇒ says (Refused 11) false (7 ∷ 7 ∷ 7 ∷ 7 ∷ []))
+    ∷ (carries (0 ∷ []) (oneSquare 2 4) 0 ⇒ says (Refused 11) false (7 ∷ 7 ∷ 7 ∷ 7 ∷ []))
+    ∷ []
+
+-- Two squares, W 2, L 6: a square has the columns 0 to 4, with the ends 2 to 6. From the columns
+-- 1 and 3, length 5, a candidate has to end below 5: the columns 0 and 2 are two steps and length 4, which is shorter; column 1 for the first square is one more, which look-ahead
+-- gives back.
+unfoldable pub carriedRuns : List Marked
+carriedRuns =
+    (carries (bytesOf 2 (0 ∷ 1 ∷ 0 ∷ 0 ∷ 0 ∷ 3 ∷ 0 ∷ 0 ∷ [])) (squares 2 6) 3 ⇒ says (Shortest 4 3) true (0 ∷ 0 ∷ 0 ∷ 0 ∷ 0 ∷ 2 ∷ 0 ∷ 0 ∷ []))
+    ∷ (carries (bytesOf 2 (0 ∷ 1 ∷ 0 ∷ 0 ∷ 0 ∷ 3 ∷ 0 ∷ 0 ∷ [])) (squares 2 6) 2 ⇒ says (Stopped (Layout 4) 2) true (0 ∷ 0 ∷ 0 ∷ 0 ∷ 0 ∷ 2 ∷ 0 ∷ 0 ∷ []))
+    -- "a run stopped before it finds a shorter one holds the given layout"
+    ∷ (carries (bytesOf 2 (0 ∷ 1 ∷ 0 ∷ 0 ∷ 0 ∷ 3 ∷ 0 ∷ 0 ∷ [])) (squares 2 6) 1 ⇒ says (Stopped (Layout 5) 1) true (0 ∷ 1 ∷ 0 ∷ 0 ∷ 0 ∷ 3 ∷ 0 ∷ 0 ∷ []))
+    ∷ (carries (bytesOf 2 (0 ∷ 1 ∷ 0 ∷ 0 ∷ 0 ∷ 3 ∷ 0 ∷ 0 ∷ [])) (squares 2 6) 0 ⇒ says (Stopped (Layout 5) 0) true (0 ∷ 1 ∷ 0 ∷ 0 ∷ 0 ∷ 3 ∷ 0 ∷ 0 ∷ []))
+    ∷ []
+
+-- The same of two squares.
+unfoldable pub carriedKept : List Marked
+carriedKept =
+    -- W 5, L 2: the rows 0 and 2, 0 and 3, and 1 and 3 are as short as each other. From the last of them nothing is live, and it stands, though the others come before it.
+    (carries (bytesOf 2 (0 ∷ 0 ∷ 1 ∷ 0 ∷ 0 ∷ 0 ∷ 3 ∷ 0 ∷ [])) (squares 5 2) 0 ⇒ says (Shortest 2 0) true (0 ∷ 0 ∷ 1 ∷ 0 ∷ 0 ∷ 0 ∷ 3 ∷ 0 ∷ []))
+    ∷ (runs (squares 5 2) 1000000 ⇒ says (Shortest 2 2) true (0 ∷ 0 ∷ 0 ∷ 0 ∷ 0 ∷ 0 ∷ 2 ∷ 0 ∷ []))
+    -- W 2, L 6, from the shortest, length 4: the first square at the columns 0 and 1 is given back, and nothing is shorter.
+    ∷ (carries (bytesOf 2 (0 ∷ 0 ∷ 0 ∷ 0 ∷ 0 ∷ 2 ∷ 0 ∷ 0 ∷ [])) (squares 2 6) 2 ⇒ says (Shortest 4 2) true (0 ∷ 0 ∷ 0 ∷ 0 ∷ 0 ∷ 2 ∷ 0 ∷ 0 ∷ []))
+    ∷ (carries (bytesOf 2 (0 ∷ 0 ∷ 0 ∷ 0 ∷ 0 ∷ 2 ∷ 0 ∷ 0 ∷ [])) (squares 2 6) 1 ⇒ says (Stopped (Layout 4) 1) true (0 ∷ 0 ∷ 0 ∷ 0 ∷ 0 ∷ 2 ∷ 0 ∷ 0 ∷ []))
+    ∷ []
+
+-- "A given layout is checked under the present rules": under the margin. W 4, L 7, margin 1: the columns 1 and 4 end at 6, length 7; the columns 1 and 3 are shorter, and column 2 for
+-- the first square is given back.
+unfoldable pub carriedClamped : List Marked
+carriedClamped =
+    (clamped 1 (carries (bytesOf 2 (0 ∷ 1 ∷ 1 ∷ 0 ∷ 0 ∷ 4 ∷ 1 ∷ 0 ∷ [])) (squares 4 7) 0) ⇒ says (Stopped (Layout 7) 0) true (0 ∷ 1 ∷ 1 ∷ 0 ∷ 0 ∷ 4 ∷ 1 ∷ 0 ∷ []))
+    ∷ (clamped 1 (carries (bytesOf 2 (0 ∷ 1 ∷ 1 ∷ 0 ∷ 0 ∷ 4 ∷ 1 ∷ 0 ∷ [])) (squares 4 7) 3) ⇒ says (Shortest 6 3) true (0 ∷ 1 ∷ 1 ∷ 0 ∷ 0 ∷ 3 ∷ 1 ∷ 0 ∷ []))
+    -- The columns 0 and 2 pass at margin 0 alone; margin 64 is told before a layout.
+    ∷ (carries (bytesOf 2 (0 ∷ 0 ∷ 0 ∷ 0 ∷ 0 ∷ 2 ∷ 0 ∷ 0 ∷ [])) (squares 4 7) 0 ⇒ says (Stopped (Layout 4) 0) true (0 ∷ 0 ∷ 0 ∷ 0 ∷ 0 ∷ 2 ∷ 0 ∷ 0 ∷ []))
+    ∷ (clamped 1 (carries (bytesOf 2 (0 ∷ 0 ∷ 0 ∷ 0 ∷ 0 ∷ 2 ∷ 0 ∷ 0 ∷ [])) (squares 4 7) 0) ⇒ says (Refused 11) false untouched)
+    ∷ (clamped 64 (carries (0 ∷ []) (squares 4 7) 0) ⇒ says (Refused 13) false untouched)
+    ∷ []
+
+-- The same of two squares: they overlap; they are out of order; "an incomplete last one does not count".
+unfoldable pub carriedRefusals : List Marked
+carriedRefusals =
+    (carries (bytesOf 2 (0 ∷ 0 ∷ 0 ∷ 0 ∷ 0 ∷ 1 ∷ 0 ∷ 0 ∷ [])) (squares 2 6) 0 ⇒ says (Refused 11) false untouched)
+    ∷ (carries (bytesOf 2 (0 ∷ 2 ∷ 0 ∷ 0 ∷ 0 ∷ 0 ∷ 0 ∷ 0 ∷ [])) (squares 2 6) 0 ⇒ says (Refused 11) false untouched)
+    ∷ (carries (bytesOf 2 (0 ∷ 0 ∷ 0 ∷ 0 ∷ 0 ∷ 2 ∷ 0 ∷ 0 ∷ []) ++ (0 ∷ [])) (squares 2 6) 0 ⇒ says (Stopped (Layout 4) 0) true (0 ∷ 0 ∷ 0 ∷ 0 ∷ 0 ∷ 2 ∷ 0 ∷ 0 ∷ []))
     ∷ []

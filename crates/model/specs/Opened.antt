@@ -16,7 +16,7 @@ use Rattle.model.specs.Format.{byteAt, wordAt, trailerAt, boardAt, class
 use Rattle.model.specs.Layout.{entryOf, entryNumber, entryKind, isEntry, entryExtent, conflict, inOrder, ordered, copies, demandMet, apart, passes, largestEnd, layoutLength}
 use Rattle.model.specs.Search.{pieces, candidateTable, free, abovePrevious, beats, staysBelow, live, copiesLeft, forwardCheck, then, completed, tryCandidates, searchPieces, searchFrom, lengthOf, stepsFrom, stepsNeeded, isStopped, stepsTaken, latest, bestAfter, held}
 use Rattle.model.specs.Saving.{boardRecord, gapByte, classRecord, classList, signedByte, vertexBytes, partBytes, kindRecord, kindList, sectionBytes, pointerBytes, trailerBytes, written}
-use Rattle.model.specs.Services.{numbersIn, wordsIn, withNumbers, withWords, coordinate, vertexNumbers, partNumbers, kindNumbers, classNumbers, contentNumbers, readContent, read, withBytes, saveContent, save, refusalUnder, cause12, rowBit, rowWords, rowContent, conflictRow, entryIn, layoutIn, cause11, checkContent, check, workWords, cleared, entryNumbers, layoutNumbers, withLayout, heldAs, finishedAs, stepCount, verdict, runContent, run}
+use Rattle.model.specs.Services.{numbersIn, wordsIn, withNumbers, withWords, coordinate, vertexNumbers, partNumbers, kindNumbers, classNumbers, contentNumbers, readContent, read, withBytes, saveContent, save, refusalUnder, cause12, rowBit, rowWords, rowContent, conflictRow, entryIn, layoutIn, cause11, checkContent, check, workWords, cleared, entryNumbers, layoutNumbers, withLayout, heldAs, finishedAs, givenLayout, givenUnfit, stepCount, verdict, runFrom, runContent, run}
 use Rattle.model.specs.Output.{digitsBefore, decimal, line, shortestWord, stoppedWord, noneWord, refusedWord, heldWord, firstLine, entryLine, entryLines, heldLines, layoutLines, printed, program}
 
 unfoldable pub openedWords : ℕ
@@ -64,7 +64,7 @@ unfolding boardRecord gapByte classRecord classList signedByte vertexBytes partB
 openedSaving = 0
 
 unfoldable pub openedServices : ℕ
-unfolding numbersIn wordsIn withNumbers withWords coordinate vertexNumbers partNumbers kindNumbers classNumbers contentNumbers readContent read withBytes saveContent save cause13 refusalUnder cause12 rowBit rowWords rowContent conflictRow entryIn layoutIn cause11 checkContent check workWords cleared entryNumbers layoutNumbers withLayout heldAs finishedAs stepCount verdict runContent run
+unfolding numbersIn wordsIn withNumbers withWords coordinate vertexNumbers partNumbers kindNumbers classNumbers contentNumbers readContent read withBytes saveContent save cause13 refusalUnder cause12 rowBit rowWords rowContent conflictRow entryIn layoutIn cause11 checkContent check workWords cleared entryNumbers layoutNumbers withLayout heldAs finishedAs givenLayout givenUnfit stepCount verdict runFrom runContent run
 openedServices = 0
 
 unfoldable pub openedOutput : ℕ

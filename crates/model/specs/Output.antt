@@ -87,8 +87,8 @@ unfoldable pub printed : Problem → RunOutcome → List ℕ
 printed j r = firstLine (r .answer) ++ layoutLines (r .answer) (layoutIn j (r .out))
 
 -- "The command program reads a job from standard input, gives run a budget of 1,000,000 and prints." Its buffers are long enough. Document 02:
--- "m = 0, which the command program passes".
+-- "m = 0, which the command program passes". It gives no layout to begin from.
 unfoldable pub program : List ℕ → List ℕ
 program s =
     printed (under 0 (content s))
-    (run s 0 1000000 (replicate (workWords (under 0 (content s)) * 8) 0) (replicate (pieceCount (content s .kinds) * 8) 0))
+    (run s 0 1000000 [] (replicate (workWords (under 0 (content s)) * 8) 0) (replicate (pieceCount (content s .kinds) * 8) 0))

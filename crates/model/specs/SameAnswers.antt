@@ -9,4 +9,4 @@ pub record SameAnswers (s t : List ℕ) : Type 0 where
   pub saving : (out : List ℕ) → save s out ≡ save t out
   pub rows : (m k n u : ℕ) (out : List ℕ) → conflictRow s m k n u out ≡ conflictRow t m k n u out
   pub checking : (m : ℕ) (layout : List ℕ) → check s m layout ≡ check t m layout
-  pub running : (m budget : ℕ) (work out : List ℕ) → run s m budget work out ≡ run t m budget work out
+  pub running : (m budget : ℕ) (given work out : List ℕ) → run s m budget given work out ≡ run t m budget given work out

@@ -1,6 +1,6 @@
 -- Document 01, "Services" and "Who can cause a refusal": what each service answers, and what it leaves in every buffer handed in.
 -- "They are tested as 1 to 7, then 12, 11, 8, 9, then 10, each only after those before it." Document 02: "13 .., tested after 7".
--- So the order is 1 to 7, 13, 12, 11, 8, 9, 10. "Saving, like every later service that is handed a job, refuses it by 1 to 7 as read does."
+-- So the order is 1 to 7, 13, 12, 11, 8, 9, 10, as far as a service has them. "Saving, like every later service that is handed a job, refuses it by 1 to 7 as read does."
 use mathlib.Core.Bool.{Bool, true, false, not, _&&_, _||_, cond}
 use mathlib.Core.List.{List, [], _∷_, _++_, map}
 use mathlib.Core.Option.{Option, none, some}
@@ -193,6 +193,16 @@ check s m layout =
 
 -- ---- Run
 
+-- Document 02, 6/13: "A run may be given a layout to begin from ..; a buffer of no bytes gives none."
+unfoldable pub givenLayout : Problem → List ℕ → Option Layout
+givenLayout j [] = none
+givenLayout j (b ∷ bs) = some (layoutIn j (b ∷ bs))
+
+-- "A given layout is checked under the present rules and refused by 11 if it does not pass."
+unfoldable pub givenUnfit : Problem → List ℕ → Bool
+givenUnfit j [] = false
+givenUnfit j (b ∷ bs) = cause11 j (b ∷ bs)
+
 -- What a run answers and what it leaves in the work words and in the answer numbers.
 pub record RunOutcome : Type 0 where
   pub answer : RunAnswer
@@ -234,31 +244,44 @@ finishedAs j none steps = R.Infeasible steps
 finishedAs j (some es) steps = R.Shortest (layoutLength j es) steps
 
 -- "The steps reported are the ones that walk took": "as many as it needs, or the whole budget if that is less".
-unfoldable pub stepCount : Problem → ℕ → ℕ
-stepCount j budget = length (stepsTaken j none budget)
+unfoldable pub stepCount : Problem → Option Layout → ℕ → ℕ
+stepCount j begin budget = length (stepsTaken j begin budget)
 
--- What the walk answers under a budget: stopped or not, with the best layout of the steps taken and their number.
-unfoldable pub verdict : Problem → ℕ → RunAnswer
-verdict j budget =
-    cond (isStopped j none budget) (R.Stopped (heldAs j (held j none budget)) (stepCount j budget))
-    (finishedAs j (held j none budget) (stepCount j budget))
+-- What the walk answers under a budget: stopped or not, with the best layout of the steps taken and their number. "The walk then begins at step 0 with
+-- that layout as best."
+unfoldable pub verdict : Problem → Option Layout → ℕ → RunAnswer
+verdict j begin budget =
+    cond (isStopped j begin budget) (R.Stopped (heldAs j (held j begin budget)) (stepCount j begin budget))
+    (finishedAs j (held j begin budget) (stepCount j begin budget))
 
--- Run, of an accepted job and margin. "8: work words too few. 9: answer .. words too few."
-unfoldable pub runContent : Problem → ℕ → List ℕ → List ℕ → RunOutcome
-runContent j budget work out =
+-- What it answers and leaves: the needed work words zero, and the layout held in the answer numbers.
+abbrev pub walked : Problem → Option Layout → ℕ → List ℕ → List ℕ → RunOutcome
+walked j begin budget work out = runOutcome (verdict j begin budget) (cleared j work) (withLayout (held j begin budget) out)
+
+-- Run, with this layout as best to begin with, or with none. "8: work words too few. 9: answer .. words too few."
+unfoldable pub runFrom : Problem → Option Layout → ℕ → List ℕ → List ℕ → RunOutcome
+runFrom j begin budget work out =
     elim (ltb (wordsIn work) (workWords j)) [
       | true ↦ runOutcome (R.Refused 8) work out
       | false ↦
           elim (ltb (numbersIn out) (4 * pieceCount (j .kinds))) [
             | true ↦ runOutcome (R.Refused 9) work out
-            | false ↦ runOutcome (verdict j budget) (cleared j work) (withLayout (held j none budget) out)
+            | false ↦ walked j begin budget work out
           ]
     ]
 
--- The run service.
-unfoldable pub run : List ℕ → ℕ → ℕ → List ℕ → List ℕ → RunOutcome
-run s m budget work out =
+-- Run, of an accepted job and margin. "11: the layout handed in ..", before 8 and 9.
+unfoldable pub runContent : Problem → ℕ → List ℕ → List ℕ → List ℕ → RunOutcome
+runContent j budget given work out =
+    elim (givenUnfit j given) [
+      | true ↦ runOutcome (R.Refused 11) work out
+      | false ↦ runFrom j (givenLayout j given) budget work out
+    ]
+
+-- The run service. It does not change the buffer of the given layout.
+unfoldable pub run : List ℕ → ℕ → ℕ → List ℕ → List ℕ → List ℕ → RunOutcome
+run s m budget given work out =
     elim (eqb (refusalUnder m s) 0) [
       | false ↦ runOutcome (R.Refused (refusalUnder m s)) work out
-      | true ↦ runContent (under m (content s)) budget work out
+      | true ↦ runContent (under m (content s)) budget given work out
     ]

@@ -43,18 +43,19 @@ pub extern "C" fn nest_check(job: &[u8], margin: usize, layout: &[u8]) -> u64
     answers::check_word(checking::check(job, margin, layout))
 }
 
-// The walk under a step budget.
+// The walk under a step budget, from the layout in the buffer, or from none if that has no bytes.
 #[no_mangle]
 pub extern "C" fn nest_run(
     job: &[u8],
     margin: usize,
     budget: u32,
+    layout: &[u8],
     work: &mut [u8],
     answer: &mut [u8],
 ) -> u64
-    ensures { λ r. ⌜ r ≡ runWord (Services.run (now (job .entry)) margin budget (now (work .entry)) (now (answer .entry)) .answer) ⌝ }
-    ensures { λ _. ⌜ now (work .exit) ≡ Services.run (now (job .entry)) margin budget (now (work .entry)) (now (answer .entry)) .work ⌝ }
-    ensures { λ _. ⌜ now (answer .exit) ≡ Services.run (now (job .entry)) margin budget (now (work .entry)) (now (answer .entry)) .out ⌝ }
+    ensures { λ r. ⌜ r ≡ runWord (Services.run (now (job .entry)) margin budget (now (layout .entry)) (now (work .entry)) (now (answer .entry)) .answer) ⌝ }
+    ensures { λ _. ⌜ now (work .exit) ≡ Services.run (now (job .entry)) margin budget (now (layout .entry)) (now (work .entry)) (now (answer .entry)) .work ⌝ }
+    ensures { λ _. ⌜ now (answer .exit) ≡ Services.run (now (job .entry)) margin budget (now (layout .entry)) (now (work .entry)) (now (answer .entry)) .out ⌝ }
 {
-    answers::run_word(search::run::run(job, margin, budget, work, answer))
+    answers::run_word(search::run::run(job, margin, budget, layout, work, answer))
 }

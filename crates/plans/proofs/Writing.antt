@@ -7,14 +7,16 @@ use native.Mathlib.Numerals.{add-one}
 use native.Mathlib.Omega.{arith}
 use lib.ListN.{length, take, drop, length-append, length-map}
 use lib.Seq.{take-at, drop-at, drop-drop}
-use Rattle.words.specs.Number.{bytes, bytesOf, withNumber, filled}
+use Rattle.words.specs.Bytes.{AreBytes}
+use Rattle.words.specs.Number.{bytes, bytesOf, numberAt, withNumber, filled}
+use Rattle.words.proofs.Place.{numberAt-lt, numberAt-four}
 use Rattle.words.proofs.Row.{length-bytesOf, bytesOf-append, filled-none}
 use Rattle.words.proofs.Value.{bytes-mod, bytes-add}
 use Rattle.model.specs.Grid.{rows, placementOf}
 use Rattle.model.specs.Layout.{Entry, entryOf}
 use Rattle.model.specs.Lists.{below, rising, concat}
 use Rattle.model.specs.Problem.{Problem}
-use Rattle.model.specs.Services.{entryNumbers, layoutNumbers, withNumbers}
+use Rattle.model.specs.Services.{entryIn, entryNumbers, layoutNumbers, withNumbers}
 use Rattle.model.proofs.Lists.{length-below}
 use Rattle.model.proofs.ReadBack.{Small, length-numbers}
 use Rattle.stepping.specs.Levels.{pieceKind, numbersAt}
@@ -97,3 +99,18 @@ pub entry-written : (j : Problem) (ns out out′ : List ℕ) (i rows-told kind n
 unfolding entryOf placementOf
 entry-written j ns out out′ i rows-told kind n h k e f r w =
     rw (e, f, r, w) (sym (written-next (λ l. entryOf j (pieceKind (j .kinds) l) (numbersAt ns l)) i out (entry-small j (pieceKind (j .kinds) i) (numbersAt ns i) h (rw (← f) k))))
+
+-- One more entry of a layout that is handed in, copied as one number of eight bytes.
+pub entry-copied : (layout out out′ : List ℕ) (i : ℕ) → AreBytes layout → out′ ≡ written (entryIn layout) i out
+    → withNumber 8 out′ (i * 8) (numberAt 8 layout (i * 8)) ≡ written (entryIn layout) (i + 1) out
+unfolding entryIn
+entry-copied layout out out′ i h w = rw (w, numberAt-four layout (i * 8)) (sym (written-next (entryIn layout) i out small))
+  where
+    small : Small (entryIn layout i)
+    small =
+        record {
+          kind-fits = numberAt-lt 2 layout (i * 8) h;
+          column-fits = numberAt-lt 2 layout (i * 8 + 2) h;
+          row-fits = numberAt-lt 2 layout (i * 8 + 4) h;
+          rotation-fits = numberAt-lt 2 layout (i * 8 + 6) h;
+        }

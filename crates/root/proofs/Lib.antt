@@ -1,1 +1,2 @@
+pub mod FirstMembers
 pub mod Rooted

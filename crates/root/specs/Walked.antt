@@ -1,10 +1,13 @@
 -- What the whole walk asks and leaves, and what is computed before it.
+use mathlib.Core.Bool.{Bool}
 use mathlib.Core.List.{List}
+use mathlib.Core.Option.{Option}
 use mathlib.Core.Path.{_≡_}
 use Prim.Native.Nat.{ℕ, _+_, _*_, _≤_}
 use lib.IntN.{ℤ}
 use lib.ListN.{length, drop}
 use Rattle.model.specs.Content.{pieceCount}
+use Rattle.model.specs.Layout.{Layout}
 use Rattle.model.specs.Problem.{Problem}
 use Rattle.model.specs.Services.{workWords, numbersIn, withLayout}
 use Rattle.stepping.specs.Levels.{walkSpent}
@@ -26,14 +29,20 @@ pub record RoomFor (j : Problem) (work out : List ℕ) : Type 0 where
   pub work-fits : workWords j * 8 ≤ length work
   pub out-fits : 4 * pieceCount (j .kinds) ≤ numbersIn out
 
+-- What the walk begins with: the answer numbers hold a layout and the bound is its end, or none is held and the bound bounds nothing.
+pub record Begun (j : Problem) (bound : ℕ) (found : Bool) (out : List ℕ) : Type 0 where
+  pub bound-is : bound ≡ boundOf j (heldOf j found out)
+  pub within : bound ≤ j .sheet .L + 1
+  pub written : withLayout (heldOf j found out) out ≡ out
+
 -- What the whole walk leaves.
-pub record Walked (j : Problem) (budget : ℕ) (work out work′ out′ : List ℕ) (st : Progress) : Type 0 where
-  pub left : st .left ≡ walkSpent j budget .left
-  pub stopped : st .stopped ≡ walkSpent j budget .stopped
-  pub held : heldOf j (st .found) out′ ≡ walkSpent j budget .held
-  pub bound-is : st .bound ≡ boundOf j (walkSpent j budget .held)
+pub record Walked (j : Problem) (begin : Option Layout) (budget : ℕ) (work out work′ out′ : List ℕ) (st : Progress) : Type 0 where
+  pub left : st .left ≡ walkSpent j begin budget .left
+  pub stopped : st .stopped ≡ walkSpent j begin budget .stopped
+  pub held : heldOf j (st .found) out′ ≡ walkSpent j begin budget .held
+  pub bound-is : st .bound ≡ boundOf j (walkSpent j begin budget .held)
   pub lowered : st .bound ≤ j .sheet .L + 1
-  pub written : out′ ≡ withLayout (walkSpent j budget .held) out
+  pub written : out′ ≡ withLayout (walkSpent j begin budget .held) out
   pub behind : drop (workWords j * 8) work′ ≡ drop (workWords j * 8) work
 
 -- What a run computes once is the job's own: its view, turned parts, boxes and plan, and the measures of its table of no-fit strings.

@@ -1,12 +1,14 @@
 // The walk of an accepted job, under a margin, from its root, where nothing is placed.
 ghost use Prim.Native.Nat.{_*_, _+_, _≤_};
 ghost use lib.ListN.{length, replicate};
-ghost use Rattle.job.specs.View.{problemOf, Viewed};
+ghost use Rattle.job.specs.View.{problemOf};
+ghost use Rattle.candidates.specs.Conflicts.{Prepared};
 ghost use Rattle.stepping.specs.Levels.{tryLevel, numbersAt};
 ghost use Rattle.plans.specs.Planned.{planned};
 ghost use Rattle.walks.specs.Walk.{heldOf, Ready, Left};
-ghost use Rattle.root.specs.Walked.{RoomFor, Walked, Computed};
+ghost use Rattle.root.specs.Walked.{RoomFor, Begun, Walked, Computed};
 use crate::beginning::settle_first;
+use bounding::shrinking::shrink;
 use job::View;
 use nofit::measures::nofit_of;
 use nofit::patterns::make_nofit;
@@ -16,8 +18,6 @@ use plans::plan::make_plan;
 use runs::progress::Progress;
 use runs::progress::begin;
 use shapes::boxes::Boxes;
-use shapes::boxes::boxes_of;
-use shapes::turned::turn_all;
 use walks::walk::try_piece;
 
 // How many words the no-fit strings may take. The fewer the steps, the fewer strings are worth their price; 25,399 words, with the parities and a word more,
@@ -112,20 +112,28 @@ fn walk_with_table(
     )
 }
 
-// The walk of an accepted job, in buffers that are large enough. What holds for the whole walk is computed first; the table of no-fit strings only
-// where look-ahead lets the walk begin.
-pub fn walk(job: &[u8], view: View, budget: u32, work: &mut [u8], answer: &mut [u8]) -> Progress
-    requires { ⌜ Viewed (now job) view × RoomFor (problemOf (now job) view) (now work) (now answer) ⌝ }
-    ensures { λ r. ⌜ Walked (problemOf (now (job .entry)) view) budget (now (work .entry)) (now (answer .entry)) (now (work .exit)) (now (answer .exit)) r ⌝ }
+// The walk of an accepted job, in buffers that are large enough, with the layout that the answer numbers hold as best, or with none. What holds for the whole
+// walk is computed first; the table of no-fit strings only where look-ahead lets the walk begin.
+pub fn walk(
+    job: &[u8],
+    view: View,
+    turned: &[i16],
+    boxes: Boxes,
+    budget: u32,
+    bound: usize,
+    found: bool,
+    work: &mut [u8],
+    answer: &mut [u8],
+) -> Progress
+    requires { ⌜ Prepared (now job) view (now turned) boxes ⌝ }
+    requires { ⌜ RoomFor (problemOf (now job) view) (now work) (now answer) × Begun (problemOf (now job) view) bound found (now answer) ⌝ }
+    ensures { λ r. ⌜ Walked (problemOf (now (job .entry)) view) (heldOf (problemOf (now (job .entry)) view) found (now (answer .entry))) budget (now (work .entry)) (now (answer .entry)) (now (work .exit)) (now (answer .exit)) r ⌝ }
 {
-    let mut turned = [0i16; 4096];
-    turn_all(job, view, &mut turned);
-    let boxes = boxes_of(job, view, &turned);
     let plan = make_plan(job, view, boxes);
-    let start = begin(budget, view.length, plan.words);
-    if !settle_first(job, view, boxes, plan, work) {
-        return start;
+    if !settle_first(job, view, boxes, plan, bound, work) {
+        return begin(budget, bound, found, plan.words);
     }
+    let start = begin(budget, bound, found, shrink(job, plan, work, plan.words));
     let nofit = nofit_of(job, view, boxes, room_for(budget));
-    walk_with_table(job, view, &turned, boxes, plan, nofit, work, answer, start)
+    walk_with_table(job, view, turned, boxes, plan, nofit, work, answer, start)
 }

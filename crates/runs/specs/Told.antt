@@ -6,9 +6,9 @@ use Rattle.model.specs.declared.RunAnswer.{RunAnswer}
 use Rattle.model.specs.declared.RunAnswer.the-variants as R
 use Rattle.runs.specs.declared.progress.Progress.{Progress}
 
--- The whole budget is left, nothing is held, and the bound bounds nothing.
-abbrev pub begun : ℕ → ℕ → ℕ → Progress
-begun budget length span = record { left = budget; bound = length + 1; span = span; found = false; stopped = false }
+-- The whole budget is left, an end has to stay below the bound, and a layout is held or not.
+abbrev pub begun : ℕ → ℕ → Bool → ℕ → Progress
+begun budget bound found span = record { left = budget; bound = bound; span = span; found = found; stopped = false }
 
 -- One step less of the budget.
 abbrev pub stepped : Progress → Progress

@@ -15,16 +15,15 @@ pub struct Progress {
     pub stopped: bool,
 }
 
-// At the beginning: the whole budget is left, and on a board of this length the bound bounds nothing; the words of a set are so many.
-pub fn begin(budget: u32, length: usize, span: usize) -> Progress
-    requires { ⌜ length ≤ 1000 ⌝ }
-    ensures { λ r. ⌜ r ≡ begun budget length span ⌝ }
+// At the beginning: the whole budget is left, an end has to stay below this bound, a layout is held or not, and the words of a set are so many.
+pub fn begin(budget: u32, bound: usize, found: bool, span: usize) -> Progress
+    ensures { λ r. ⌜ r ≡ begun budget bound found span ⌝ }
 {
     Progress {
         left: budget,
-        bound: length + 1,
+        bound,
         span,
-        found: false,
+        found,
         stopped: false,
     }
 }

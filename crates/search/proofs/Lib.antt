@@ -1,2 +1,3 @@
+pub mod Beginning
 pub mod Running
 pub mod Demand3

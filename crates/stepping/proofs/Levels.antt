@@ -14,7 +14,7 @@ use Rattle.model.specs.Layout.{Layout, entryOf, isEntry, largestEnd}
 use Rattle.model.specs.Lists.{all, countOf, largest, rising, below}
 use Rattle.model.specs.Problem.{Problem}
 use Rattle.model.specs.Search.{pieces, completed, latest, searchFrom, stepsFrom, held, copiesLeft}
-use Rattle.model.specs.Services.{runOutcome, runContent, verdict, wordsIn, numbersIn, workWords, cleared, withLayout}
+use Rattle.model.specs.Services.{runOutcome, runFrom, verdict, wordsIn, numbersIn, workWords, cleared, withLayout}
 use Rattle.model.proofs.Search.Pieces.{length-pieces, mem-pieces}
 use Rattle.stepping.specs.LiveSets.{setOf, boundOf, enough}
 use Rattle.stepping.specs.Levels.{pieceKind, piecesFrom, placedBelow, tryLevel, goOnLevel, walkSpent}
@@ -22,6 +22,7 @@ use Rattle.stepping.specs.Spending.{Spent, spent, spend, answerOf}
 use Rattle.stepping.specs.Steps.{goOn, goOnSpent, Entries}
 use Rattle.stepping.proofs.Counting.{below-suc}
 use Rattle.stepping.proofs.Held.{goOn-entries}
+use Rattle.stepping.proofs.LiveSets.{Open}
 use Rattle.stepping.proofs.Steps.{spent-over, spent-past, take-stops, take-ends, take-goes, goOn-last, goOn-back, goOn-deep}
 use Rattle.stepping.proofs.Spending.{held-spent, verdict-spent}
 
@@ -116,7 +117,7 @@ module _ (j : Problem) where
     unfolding tryLevel
     level-past n k c = spent-past j (pieceKind (j .kinds) l) (piecesFrom (j .kinds) (suc l)) (placedBelow j numbers l) n k h c
 
-    module _ (b : largestEnd j (placedBelow j numbers l) < boundOf j h) where
+    module _ (b : Open j (placedBelow j numbers l) (boundOf j h)) where
       -- With a piece left, look-ahead gives the latest candidate back, or the next piece tries its candidates.
       pub level-back : (k : ℕ) → l < pieceCount (j .kinds) → enough j (piecesFrom (j .kinds) l) (placedBelow j numbers l) (boundOf j h) ≡ false
           → goOnLevel j numbers l k h ≡ spent k h false
@@ -132,61 +133,59 @@ module _ (j : Problem) where
           rw (pieces-next (j .kinds) l c)
           (goOn-deep j (placedBelow j numbers l) k h (pieceKind (j .kinds) l) (piecesFrom (j .kinds) (suc l)) a b (piece-kind (j .kinds) l c) (rw (pieces-next (j .kinds) l c) at e))
 
-      module _ (e : setOf j (placedBelow j numbers l) (boundOf j h) (pieceKind (j .kinds) l) (numbers l) ≡ true) where
-        -- A member is tried with the budget spent: the walk stops.
-        pub level-stops : tryLevel j numbers l (numbers l) 0 h ≡ spent 0 h true
-        unfolding tryLevel
-        level-stops = take-stops j (pieceKind (j .kinds) l) (piecesFrom (j .kinds) (suc l)) (placedBelow j numbers l) h a b (numbers l) e
+    module _ (b : largestEnd j (placedBelow j numbers l) < boundOf j h) (e : setOf j (placedBelow j numbers l) (boundOf j h) (pieceKind (j .kinds) l) (numbers l) ≡ true) where
+      -- A member is tried with the budget spent: the walk stops.
+      pub level-stops : tryLevel j numbers l (numbers l) 0 h ≡ spent 0 h true
+      unfolding tryLevel
+      level-stops = take-stops j (pieceKind (j .kinds) l) (piecesFrom (j .kinds) (suc l)) (placedBelow j numbers l) h a b (numbers l) e
 
-        -- Else it is placed and counted and the walk goes on; if that stops, it is all.
-        pub level-ends : (k : ℕ) → 0 < k → goOnLevel j numbers (suc l) (k - 1) h .stopped ≡ true
-            → tryLevel j numbers l (numbers l) k h ≡ goOnLevel j numbers (suc l) (k - 1) h
-        unfolding tryLevel goOnLevel placedBelow
-        level-ends k p d = take-ends j (pieceKind (j .kinds) l) (piecesFrom (j .kinds) (suc l)) (placedBelow j numbers l) h a b (numbers l) e k p d
+      -- Else it is placed and counted and the walk goes on; if that stops, it is all.
+      pub level-ends : (k : ℕ) → 0 < k → goOnLevel j numbers (suc l) (k - 1) h .stopped ≡ true
+          → tryLevel j numbers l (numbers l) k h ≡ goOnLevel j numbers (suc l) (k - 1) h
+      unfolding tryLevel goOnLevel placedBelow
+      level-ends k p d = take-ends j (pieceKind (j .kinds) l) (piecesFrom (j .kinds) (suc l)) (placedBelow j numbers l) h a b (numbers l) e k p d
 
-        -- If not, the numbers after it are tried, with what is left and held.
-        pub level-goes : (k : ℕ) → 0 < k → goOnLevel j numbers (suc l) (k - 1) h .stopped ≡ false
-            → tryLevel j numbers l (numbers l) k h
-            ≡ tryLevel j numbers l (suc (numbers l)) (goOnLevel j numbers (suc l) (k - 1) h .left) (goOnLevel j numbers (suc l) (k - 1) h .held)
-        unfolding tryLevel goOnLevel placedBelow
-        level-goes k p d = take-goes j (pieceKind (j .kinds) l) (piecesFrom (j .kinds) (suc l)) (placedBelow j numbers l) h a b (numbers l) e k p d
+      -- If not, the numbers after it are tried, with what is left and held.
+      pub level-goes : (k : ℕ) → 0 < k → goOnLevel j numbers (suc l) (k - 1) h .stopped ≡ false
+          → tryLevel j numbers l (numbers l) k h
+          ≡ tryLevel j numbers l (suc (numbers l)) (goOnLevel j numbers (suc l) (k - 1) h .left) (goOnLevel j numbers (suc l) (k - 1) h .held)
+      unfolding tryLevel goOnLevel placedBelow
+      level-goes k p d = take-goes j (pieceKind (j .kinds) l) (piecesFrom (j .kinds) (suc l)) (placedBelow j numbers l) h a b (numbers l) e k p d
 
   -- ---- The start
 
-  -- Nothing is placed, and it ends below the bound.
+  -- Nothing is placed.
   pub start-admitted : all (isEntry j) [] ≡ true
   unfolding all
   start-admitted = refl
 
-  pub start-below : largestEnd j [] < boundOf j none
-  unfolding largestEnd largest boundOf
-  start-below = omega arith
-
   -- ---- The whole walk
 
-  -- Nothing is complete before the first step, as long as there is a piece.
-  start-none : 0 < pieceCount (j .kinds) → latest none (completed (piecesFrom (j .kinds) 0) []) ≡ none
-  unfolding completed latest
-  start-none h = rw (pieces-next (j .kinds) 0 h)
+  module _ (begin : Option Layout) where
+    -- The walk of the definition is what follows once nothing is placed, at level 0.
+    pub walk-level : (numbers : ℕ → ℕ) (budget : ℕ) → walkSpent j begin budget ≡ goOnLevel j numbers 0 budget begin
+    unfolding walkSpent goOnLevel placedBelow
+    walk-level numbers budget = refl
 
-  -- The walk of the definition is what follows once nothing is placed, at level 0.
-  pub walk-spent : 0 < pieceCount (j .kinds) → (budget : ℕ) → spend budget none (stepsFrom j none) ≡ walkSpent j budget
-  unfolding walkSpent stepsFrom searchFrom goOn goOnSpent piecesFrom
-  walk-spent h budget = ap (λ (g : Option Layout). spend budget g (stepsFrom j none)) (sym (start-none h))
+    module _ (pieced : 0 < pieceCount (j .kinds)) (budget : ℕ) where
+      -- Nothing is complete before the first step, as long as there is a piece.
+      start-none : latest begin (completed (piecesFrom (j .kinds) 0) []) ≡ begin
+      unfolding completed latest
+      start-none = rw (pieces-next (j .kinds) 0 pieced)
 
-  pub walk-level : (numbers : ℕ → ℕ) (budget : ℕ) → walkSpent j budget ≡ goOnLevel j numbers 0 budget none
-  unfolding walkSpent goOnLevel placedBelow
-  walk-level numbers budget = refl
+      walk-spent : spend budget begin (stepsFrom j begin) ≡ walkSpent j begin budget
+      unfolding walkSpent stepsFrom searchFrom goOn goOnSpent piecesFrom
+      walk-spent = ap (λ (g : Option Layout). spend budget g (stepsFrom j begin)) (sym start-none)
 
-  -- What a run answers, and the layout that it holds.
-  pub verdict-walk : 0 < pieceCount (j .kinds) → (budget : ℕ) → verdict j budget ≡ answerOf j budget (walkSpent j budget)
-  verdict-walk h budget = verdict-spent j budget ∙ ap (answerOf j budget) (walk-spent h budget)
+      -- What a run answers, and the layout that it holds.
+      verdict-walk : verdict j begin budget ≡ answerOf j budget (walkSpent j begin budget)
+      verdict-walk = verdict-spent j begin budget ∙ ap (answerOf j budget) walk-spent
 
-  pub held-walk : 0 < pieceCount (j .kinds) → (budget : ℕ) → held j none budget ≡ walkSpent j budget .held
-  held-walk h budget = held-spent j none budget ∙ ap (λ (w : Spent). w .held) (walk-spent h budget)
+      held-walk : held j begin budget ≡ walkSpent j begin budget .held
+      held-walk = held-spent j begin budget ∙ ap (λ (w : Spent). w .held) walk-spent
 
-  -- All that a run answers and leaves, where its buffers are large enough.
-  pub run-walk : 0 < pieceCount (j .kinds) → (budget : ℕ) (work out : List ℕ) → ltb (wordsIn work) (workWords j) ≡ false → ltb (numbersIn out) (4 * pieceCount (j .kinds)) ≡ false
-      → runContent j budget work out ≡ runOutcome (answerOf j budget (walkSpent j budget)) (cleared j work) (withLayout (walkSpent j budget .held) out)
-  unfolding runContent
-  run-walk h budget work out p q = rw (p, q, runContent, verdict-walk h budget, held-walk h budget)
+      -- All that a run answers and leaves, where its buffers are large enough.
+      pub run-walk : (work out : List ℕ) → ltb (wordsIn work) (workWords j) ≡ false → ltb (numbersIn out) (4 * pieceCount (j .kinds)) ≡ false
+          → runFrom j begin budget work out ≡ runOutcome (answerOf j budget (walkSpent j begin budget)) (cleared j work) (withLayout (walkSpent j begin budget .held) out)
+      unfolding runFrom
+      run-walk work out p q = rw (p, q, runFrom, verdict-walk, held-walk)

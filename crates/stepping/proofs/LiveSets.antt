@@ -13,7 +13,7 @@ use Rattle.model.specs.Candidate.{isCandidate, candidates}
 use Rattle.model.specs.Content.{kindCount}
 use Rattle.model.specs.Grid.{numberLimit, setWords}
 use Rattle.model.specs.Layout.{Entry, Layout, entryOf, entryNumber, entryExtent, isEntry, conflict, largestEnd, layoutLength}
-use Rattle.model.specs.Lists.{all, any, countOf, below}
+use Rattle.model.specs.Lists.{all, any, countOf, below, largest}
 use Rattle.model.specs.Problem.{Problem}
 use Rattle.model.specs.Search.{candidateTable, free, abovePrevious, beats, staysBelow, live, lengthOf, copiesLeft, forwardCheck}
 use Rattle.model.proofs.Lists.{and-both, and-four, all-below, below-all, not-both}
@@ -25,6 +25,10 @@ use Rattle.stepping.specs.LiveSets.{setOf, boundOf, membersOf, enough}
 use Rattle.stepping.proofs.Counting.{countOf-keep, countOf-same, countOf-below, all-below-same}
 use Rattle.stepping.proofs.Extents.{candidate-extent, candidate-entry, placed-end, candidate-below, limit-words}
 use Rattle.stepping.proofs.Tests.{and-turn, and-last, not-or, ltb-max, ltb-plus, ltb-bounds}
+
+-- If there is a member at all, the pieces placed end below the bound.
+abbrev pub Open : Problem → Layout → ℕ → Type 0
+Open j placed bound = (u m : ℕ) → setOf j placed bound u m ≡ true → largestEnd j placed < bound
 
 module _ (j : Problem) where
   -- ---- Members
@@ -74,15 +78,6 @@ module _ (j : Problem) where
   unfolding setOf free any abovePrevious
   set-first bound u m = rw (and-true, and-true)
 
-  -- At the beginning every candidate is a member.
-  pub set-begin : (u m : ℕ) → setOf j [] (j .sheet .L + 1) u m ≡ isCandidate j u m
-  unfolding setOf free any abovePrevious
-  set-begin u m = go (isCandidate j u m) refl
-    where
-      go : (c : Bool) → isCandidate j u m ≡ c → (c && true && true && ltb (entryExtent j (entryOf j u m)) (j .sheet .L + 1)) ≡ c
-      go true e = lt-ltb (entryExtent j (entryOf j u m)) (j .sheet .L + 1) (omega (arith, candidate-extent j u m e))
-      go false e = refl
-
   -- A lower bound drops the members that do not end below it.
   pub set-prune : (placed : Layout) (bound bound′ u m : ℕ) → bound′ ≤ bound
       → setOf j placed bound′ u m ≡ (setOf j placed bound u m && ltb (entryExtent j (entryOf j u m)) bound′)
@@ -131,13 +126,22 @@ module _ (j : Problem) where
 
   -- ---- Look-ahead by counting members
 
-  module _ (placed : Layout) (h : Option Layout) (a : all (isEntry j) placed ≡ true) (l : largestEnd j placed < boundOf j h) where
-    -- A number is that of a live candidate exactly if it is a member, as long as the pieces placed end below the bound.
+  -- Where nothing is placed this is so, since a member ends below the bound itself.
+  pub start-open : (bound : ℕ) → Open j [] bound
+  unfolding largestEnd largest
+  start-open bound u m e = omega (arith, ltb-true (entryExtent j (entryOf j u m)) bound (member-parts [] bound u m e .3))
+
+  module _ (placed : Layout) (h : Option Layout) (a : all (isEntry j) placed ≡ true) (l : Open j placed (boundOf j h)) where
+    -- A number is that of a live candidate exactly if it is a member, as long as the pieces placed end below the bound where there is one.
     pub member-live : (u m : ℕ) → (isCandidate j u m && live j placed (lengthOf j h) u m) ≡ setOf j placed (boundOf j h) u m
     member-live u m = go (isCandidate j u m) refl
       where
+        implied : (a b : Bool) → (a ≡ true → b ≡ true) → (a && b) ≡ a
+        implied true b f = f refl
+        implied false b f = refl
+
         go : (c : Bool) → isCandidate j u m ≡ c → (c && live j placed (lengthOf j h) u m) ≡ setOf j placed (boundOf j h) u m
-        go true e = live-member placed h u m a e ∙ rw (lt-ltb (largestEnd j placed) (boundOf j h) l) (and-true (setOf j placed (boundOf j h) u m))
+        go true e = live-member placed h u m a e ∙ implied (setOf j placed (boundOf j h) u m) (ltb (largestEnd j placed) (boundOf j h)) (λ q. lt-ltb (largestEnd j placed) (boundOf j h) (l u m q))
         go false e = sym (no-member placed (boundOf j h) u m e)
 
     -- So there are as many live candidates as members.
@@ -176,7 +180,7 @@ module _ (j : Problem) where
           go false e = no-member placed bound u m e
 
   -- Look-ahead by what the words of the sets hold.
-  pub forward-members : (left : List ℕ) (placed : Layout) (h : Option Layout) → all (isEntry j) placed ≡ true → largestEnd j placed < boundOf j h
+  pub forward-members : (left : List ℕ) (placed : Layout) (h : Option Layout) → all (isEntry j) placed ≡ true → Open j placed (boundOf j h)
       → forwardCheck j (candidateTable j) left placed (lengthOf j h)
       ≡ all (λ u. leb (copiesLeft u left) (membersOf j placed (boundOf j h) u)) (below (kindCount (j .kinds)))
   forward-members left placed h a l =
@@ -186,7 +190,7 @@ module _ (j : Problem) where
       (λ u k. ap (leb (copiesLeft u left)) (sym (members-limit placed (boundOf j h) u)))
 
   -- It need look only at the kinds with copies left.
-  pub forward-enough : (left : List ℕ) (placed : Layout) (h : Option Layout) → all (isEntry j) placed ≡ true → largestEnd j placed < boundOf j h
+  pub forward-enough : (left : List ℕ) (placed : Layout) (h : Option Layout) → all (isEntry j) placed ≡ true → Open j placed (boundOf j h)
       → forwardCheck j (candidateTable j) left placed (lengthOf j h) ≡ enough j left placed (boundOf j h)
   unfolding enough
   forward-enough left placed h a l =

@@ -93,12 +93,12 @@ module _ (j : Problem) (begin : Option Layout) (budget : ℕ) where
   unfolding held stepsTaken
   held-spent = sym (spend-held budget begin (stepsFrom j begin))
 
--- The steps told are the budget less what is left of it.
-pub steps-spent : (j : Problem) (budget : ℕ) → stepCount j budget ≡ budget - spend budget none (stepsFrom j none) .left
-unfolding stepCount stepsTaken
-steps-spent j budget = rw (spend-left budget none (stepsFrom j none), length-take) (omega arith)
+  -- The steps told are the budget less what is left of it.
+  pub steps-spent : stepCount j begin budget ≡ budget - spend budget begin (stepsFrom j begin) .left
+  unfolding stepCount stepsTaken
+  steps-spent = rw (spend-left budget begin (stepsFrom j begin), length-take) (omega arith)
 
--- What a run answers is what spending says.
-pub verdict-spent : (j : Problem) (budget : ℕ) → verdict j budget ≡ answerOf j budget (spend budget none (stepsFrom j none))
-unfolding verdict answerOf
-verdict-spent j budget = rw (stopped-spent j none budget, held-spent j none budget, steps-spent j budget)
+  -- What a run answers is what spending says.
+  pub verdict-spent : verdict j begin budget ≡ answerOf j budget (spend budget begin (stepsFrom j begin))
+  unfolding verdict answerOf
+  verdict-spent = rw (stopped-spent, held-spent, steps-spent)

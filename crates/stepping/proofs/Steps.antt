@@ -23,7 +23,7 @@ use Rattle.stepping.specs.LiveSets.{setOf, boundOf, enough}
 use Rattle.stepping.specs.Spending.{Spent, spent, spend, onward}
 use Rattle.stepping.specs.Steps.{remaining, goOn, tryFrom, goOnSpent, tryFromSpent}
 use Rattle.stepping.proofs.Extents.{candidate-below}
-use Rattle.stepping.proofs.LiveSets.{member-parts, forward-enough, live-of-member, dead-of-member, none-live}
+use Rattle.stepping.proofs.LiveSets.{Open, member-parts, forward-enough, live-of-member, dead-of-member, none-live}
 use Rattle.stepping.proofs.Spending.{spend-left-le, spend-end, spend-stops, spend-step, spend-append, onward-stopped, onward-goes}
 
 -- ---- The candidates of a kind, from a number on
@@ -304,7 +304,7 @@ module _ (j : Problem) (placed : Layout) (k : ℕ) (h : Option Layout) where
       rw (goes-deep j (candidateTable j) [] placed (lengthOf j h) (forward-last j (candidateTable j) placed (lengthOf j h)))
       (spend-end k (some (reverse placed)))
 
-  module _ (u : ℕ) (left : List ℕ) (a : all (isEntry j) placed ≡ true) (l : largestEnd j placed < boundOf j h) where
+  module _ (u : ℕ) (left : List ℕ) (a : all (isEntry j) placed ≡ true) (l : Open j placed (boundOf j h)) where
     -- Some kind has too few members: the candidate is given back.
     pub goOn-back : enough j (u ∷ left) placed (boundOf j h) ≡ false → goOnSpent j (u ∷ left) placed k h ≡ spent k h false
     unfolding goOnSpent completed latest

@@ -1,6 +1,6 @@
 -- The levels of the search: level l is the piece to be placed when l pieces are placed.
 use mathlib.Core.List.{List, [], _∷_}
-use mathlib.Core.Option.{Option, none}
+use mathlib.Core.Option.{Option}
 use Prim.Native.Nat.{ℕ, zero, suc}
 use lib.ListN.{getD, drop}
 use Rattle.model.specs.Content.{Kind}
@@ -39,6 +39,6 @@ tryLevel j numbers l n k h = tryFromSpent j (pieceKind (j .kinds) l) (piecesFrom
 unfoldable pub goOnLevel : Problem → (ℕ → ℕ) → ℕ → ℕ → Option Layout → Spent
 goOnLevel j numbers l k h = goOnSpent j (piecesFrom (j .kinds) l) (placedBelow j numbers l) k h
 
--- The whole walk under a budget, with nothing held at its start.
-unfoldable pub walkSpent : Problem → ℕ → Spent
-walkSpent j budget = goOnSpent j (piecesFrom (j .kinds) 0) [] budget none
+-- The whole walk under a budget, with the best that it begins with.
+unfoldable pub walkSpent : Problem → Option Layout → ℕ → Spent
+walkSpent j begin budget = goOnSpent j (piecesFrom (j .kinds) 0) [] budget begin

@@ -31,6 +31,7 @@ use Rattle.runs.specs.declared.progress.Progress.{Progress}
 use Rattle.stepping.proofs.Extents.{candidate-entry, candidate-below, candidate-bounds, bounds-small}
 use Rattle.stepping.proofs.Levels.{placed-layout, level-last, level-back, level-deep}
 use Rattle.stepping.proofs.Kept.{kept-candidate}
+use Rattle.stepping.proofs.LiveSets.{Open, start-open}
 use Rattle.stepping.proofs.Slots.{slot-member, keeps-frame}
 use Rattle.walks.proofs.Lowered.{lowered-sets, lowered-spans}
 use Rattle.stepping.proofs.Steps.{bound-complete}
@@ -71,7 +72,7 @@ module _ (j : Problem) (ns : List ℕ) where
             let e : entryAt (layoutOf j ns) i ≡ entryOf j (pieceKind (j .kinds) i) (numbersAt ns i) = getD-map-below _ (pieceCount (j .kinds)) i noEntry k in
             rw e (bounds-small j _ (omega arith) (candidate-bounds j (pieceKind (j .kinds) i) (numbersAt ns i) few-dots (placed-candidates (pieceCount (j .kinds)) a i k)))
 
-  module _ (level end : ℕ) (work out : List ℕ) (st : Progress) (r : Ready j work out ns level level end st) (under : end < st .bound) where
+  module _ (level end : ℕ) (work out : List ℕ) (st : Progress) (r : Ready j work out ns level level end st) (under : 0 < level → end < st .bound) where
     -- ---- The last piece was placed
 
     pub record-ready : dots (j .sheet) ≤ 1024 → kindCount (j .kinds) ≤ 8 → level ≡ pieceCount (j .kinds) → Recordable j ns out
@@ -99,10 +100,10 @@ module _ (j : Problem) (ns : List ℕ) where
           stopped = refl;
           held = ap some (ap (layoutIn j) o ∙ layout-back d k a out);
           bound-is = r .end-is ∙ ap (λ (l : ℕ). largestEnd j (placedOf j ns l)) e ∙ sym (bound-complete j (placedOf j ns (pieceCount (j .kinds)))) ∙ ap (λ (es : Layout). boundOf j (some es)) layout-placed;
-          lowered = omega arith;
+          lowered = omega (arith, under one);
           written = o;
-          spans = lowered-spans j ns (st .bound) (st .span) end left work work′ (r .spans) sets (omega arith) v (rw (← e) one) demanded;
-          sets = subst (λ (l : ℕ). SetsKept j ns l end left work′) (sym e) (lowered-sets j ns (st .bound) (st .span) end left work work′ (r .spans) sets (omega arith) v);
+          spans = lowered-spans j ns (st .bound) (st .span) end left work work′ (r .spans) sets (omega (arith, under one)) v (rw (← e) one) demanded;
+          sets = subst (λ (l : ℕ). SetsKept j ns l end left work′) (sym e) (lowered-sets j ns (st .bound) (st .span) end left work work′ (r .spans) sets (omega (arith, under one)) v);
           behind = v .trimmed .behind;
         })
 
@@ -111,15 +112,24 @@ module _ (j : Problem) (ns : List ℕ) where
     pub settle-ready : level < pieceCount (j .kinds) → Taken j ns level end st → Placeable j ns level (st .bound) (st .span) work
     settle-ready h t = record { within = h; fits = r .work-fits; later = t .some; latest = t .latest; spans = r .spans; sets = r .sets }
 
-    short : largestEnd j (placedOf j ns level) < boundOf j (heldOf j (st .found) out)
-    short = rw (← (r .end-is), ← (r .bound-is)) under
+    short : 0 < level → largestEnd j (placedOf j ns level) < boundOf j (heldOf j (st .found) out)
+    short h = rw (← (r .end-is), ← (r .bound-is)) (under h)
+
+    -- If there is a member, what is placed ends below the bound, also where nothing is placed.
+    is-open : Open j (placedOf j ns level) (boundOf j (heldOf j (st .found) out))
+    unfolding placedBelow
+    is-open = go level refl
+      where
+        go : (l : ℕ) → level ≡ l → Open j (placedOf j ns l) (boundOf j (heldOf j (st .found) out))
+        go zero e u m h = start-open j (boundOf j (heldOf j (st .found) out)) u m h
+        go (suc l) e u m h = subst (λ (l : ℕ). largestEnd j (placedOf j ns l) < boundOf j (heldOf j (st .found) out)) e (short (omega arith))
 
     -- It fails: the candidate is given back.
     pub go-back : (work′ : List ℕ) (told : Bool) → level < pieceCount (j .kinds) → told ≡ false → Settled j ns level (st .bound) (st .span) work work′ told
         → Left j ns work out work′ out level st st (goOnLevel j (numbersAt ns) level (st .left) (heldOf j (st .found) out))
     go-back work′ told h e s =
         let w : goOnLevel j (numbersAt ns) level (st .left) (heldOf j (st .found) out) ≡ spent (st .left) (heldOf j (st .found) out) false =
-        level-back j (numbersAt ns) level (heldOf j (st .found) out) (r .admitted) short (st .left) h
+        level-back j (numbersAt ns) level (heldOf j (st .found) out) (r .admitted) is-open (st .left) h
         (ap (enough j (piecesFrom (j .kinds) level) (placedOf j ns level)) (sym (r .bound-is)) ∙ sym (s .answer) ∙ e) in
         rw w (record {
           left = refl;
@@ -162,7 +172,7 @@ module _ (j : Problem) (ns : List ℕ) where
         → Left j ns work out work″ out′ level st st′ (goOnLevel j (numbersAt ns) level (st .left) (heldOf j (st .found) out))
     go-deep work′ work″ out′ st′ told h e s d =
         let w : goOnLevel j (numbersAt ns) level (st .left) (heldOf j (st .found) out) ≡ tryLevel j (numbersAt ns) level 0 (st .left) (heldOf j (st .found) out) =
-        level-deep j (numbersAt ns) level (heldOf j (st .found) out) (r .admitted) short (st .left) h
+        level-deep j (numbersAt ns) level (heldOf j (st .found) out) (r .admitted) is-open (st .left) h
         (ap (enough j (piecesFrom (j .kinds) level) (placedOf j ns level)) (sym (r .bound-is)) ∙ sym (s .answer) ∙ e) in
         rw w (record {
           left = d .left;

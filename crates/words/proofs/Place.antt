@@ -40,6 +40,14 @@ numberAt-add (suc j) k s i =
     rw (suc-add, numberAt-suc (j + k), numberAt-add j k s (suc i), numberAt-suc j, pow-succ' 256 j, mul-assoc 256, add-suc, suc-add)
     (omega arith)
 
+-- A number of eight bytes, two bytes at a time.
+pub numberAt-four : (s : List ℕ) (i : ℕ)
+    → numberAt 8 s i ≡ numberAt 2 s i + 65536 * (numberAt 2 s (i + 2) + 65536 * (numberAt 2 s (i + 4) + 65536 * numberAt 2 s (i + 6)))
+numberAt-four s i =
+    let third : i + 2 + 2 ≡ i + 4 = omega arith in
+    let fourth : i + 4 + 2 ≡ i + 6 = omega arith in
+    rw (numberAt-add 2 6 s i, numberAt-add 2 4 s (i + 2), third, numberAt-add 2 2 s (i + 4), fourth)
+
 -- A list of k bytes is one number.
 pub numberAt-whole : (k : ℕ) (s : List ℕ) → length s ≡ k → numberAt k s 0 ≡ value s
 unfolding numberAt

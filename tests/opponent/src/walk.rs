@@ -54,6 +54,15 @@ impl<'a, 'r> Walk<'a, 'r> {
         }
     }
 
+    /// The walk with a best to begin with: a passing layout's length and its candidate numbers.
+    pub fn begun_from(mut self, given: Option<(i32, [u16; 12])>) -> Walk<'a, 'r> {
+        self.out.best = given;
+        if given.is_some() && mutant::is("given_steps_from_one") {
+            self.out.steps = 1;
+        }
+        self
+    }
+
     pub fn run(mut self, budget: u64) -> Outcome {
         self.budget = budget;
         self.first_bound();
@@ -61,7 +70,8 @@ impl<'a, 'r> Walk<'a, 'r> {
             let from = kind * self.words;
             self.clear[from..from + self.words].copy_from_slice(&self.board.candidates[kind]);
         }
-        if mutant::is("no_ahead_before_first") || self.look_ahead(0, 0) {
+        self.skip_first_candidate();
+        if mutant::is("no_ahead_before_first") || self.look_ahead_first() {
             self.try_piece(0, 0);
         }
         self.out
@@ -71,13 +81,37 @@ impl<'a, 'r> Walk<'a, 'r> {
     /// margin in them, up to the far clamp.
     fn first_bound(&mut self) {
         let length = self.board.job.length;
-        if mutant::is("first_bound_at_the_length") {
+        if let Some((best, _)) = self.out.best {
+            self.keep_below(best);
+        } else if mutant::is("first_bound_at_the_length") {
             self.keep_below(length);
         } else if mutant::is("first_bound_between_clamps") {
             self.keep_below(length - self.board.margin + 1);
         } else {
             self.short.fill(u64::MAX);
         }
+    }
+
+    /// Before the first step. The mistake: there the given layout is no bound yet.
+    fn look_ahead_first(&mut self) -> bool {
+        if !mutant::is("given_no_bound_for_first_ahead") {
+            return self.look_ahead(0, 0);
+        }
+        let given = self.out.best.take();
+        self.first_bound();
+        let goes_on = self.look_ahead(0, 0);
+        self.out.best = given;
+        self.first_bound();
+        goes_on
+    }
+
+    /// A mistake: with a given layout the walk begins behind its first candidate.
+    fn skip_first_candidate(&mut self) {
+        if self.out.best.is_none() || !mutant::is("given_first_candidate_skipped") {
+            return;
+        }
+        let first = self.clear[..self.words].iter_mut().find(|word| **word != 0);
+        first.into_iter().for_each(|word| *word &= *word - 1);
     }
 
     /// `length` is that of the pieces placed so far.

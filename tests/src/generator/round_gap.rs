@@ -1,6 +1,6 @@
 //! Jobs made for the gap of a round cutter. Two pieces are set up in places where they are a whole number apart, corner
 //! to corner or corner to the middle of a slanting edge, and that number or one beside it is their gap; or in places
-//! where something else decides.
+//! where something else decides. And strips of which a layout with the gap as a square takes more than is needed.
 
 use super::ids_and_ranks;
 use crate::draft::{Draft, DraftPart, DraftType};
@@ -46,6 +46,19 @@ pub fn round_gap_draft(noise: &mut Noise) -> Draft {
     one_off(noise, &mut scene);
     turn(noise, &mut scene);
     on_a_board(noise, scene)
+}
+
+/// Copies of a piece on a strip that leaves less than their gap across it, and has room for the whole gap along it: with
+/// the gap as a square they nest too, but corner to corner they may stand nearer.
+pub fn strip_draft(noise: &mut Noise) -> Draft {
+    let (copies, size, gap) = (noise.pick(&[2, 2, 3]), noise.between(1, 2), noise.between(2, 6));
+    let width = 2 * size + noise.between(1, gap - 1);
+    let length = copies * size + (copies - 1) * gap + noise.between(0, 1);
+    let parts = vec![random_part(noise, size, 0, 0)];
+    let mut draft = Draft::new(width as u16, length as u16, 1);
+    draft.types.push(DraftType { demand: copies as u8, turn_mask: noise.pick(&[1, 1, 4]), class_mask: 1, parts });
+    draft.classes = vec![[0, noise.byte(), gap as u8]];
+    draft
 }
 
 // How the two stand, before they are turned together.

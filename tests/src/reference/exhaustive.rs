@@ -23,19 +23,28 @@ fn choose(n: u64, k: u64) -> Option<u64> {
     (0..k).try_fold(1u64, |ways, i| Some(ways.checked_mul(n - i)? / (i + 1)))
 }
 
-/// The first of the shortest passing layouts.
-pub fn first_of_the_shortest(board: &Board) -> Option<Vec<Piece>> {
-    let mut best: Option<Vec<Piece>> = None;
-    let mut layout = Vec::new();
+/// All that pass, the earlier ones first.
+pub fn passing_layouts(board: &Board) -> Vec<Vec<Piece>> {
+    let mut passing = Vec::new();
     let kinds: Vec<usize> =
         board.job.demands().into_iter().enumerate().flat_map(|(kind, demand)| vec![kind; demand]).collect();
-    each_layout(board, &kinds, &mut layout, &mut |complete| {
-        let shorter = best.as_ref().is_none_or(|held| board.length(complete) < board.length(held));
-        if shorter && free_of_conflict(board, complete) {
-            best = Some(complete.to_vec());
+    each_layout(board, &kinds, &mut Vec::new(), &mut |complete| {
+        if free_of_conflict(board, complete) {
+            passing.push(complete.to_vec());
         }
     });
-    best
+    passing
+}
+
+/// What a run that ends holds: the first of the shortest if something is shorter than the given layout, and otherwise
+/// that one.
+pub fn held<'a>(board: &Board, passing: &'a [Vec<Piece>], given: Option<&'a [Piece]>) -> Option<&'a [Piece]> {
+    let shortest = passing.iter().map(|layout| board.length(layout)).min();
+    let first = passing.iter().find(|layout| Some(board.length(layout)) == shortest).map(Vec::as_slice);
+    match given {
+        Some(layout) if Some(board.length(layout)) == shortest => given,
+        _ => first,
+    }
 }
 
 /// Calls `visit` with every ordered layout, the earlier ones first.

@@ -8,5 +8,6 @@ pub mod layout;
 pub mod print;
 pub mod reader;
 pub mod services;
+pub mod square_gap;
 pub mod walk;
 pub mod writer;

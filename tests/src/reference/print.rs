@@ -1,17 +1,20 @@
-//! What the command program prints for a job: it passes no margin.
+//! What the command program prints for a job: it passes no margin and gives no layout. And what it would print for a run
+//! begun from one.
 
 use super::board::Board;
 use super::layout::to_numbers;
+use super::services::given;
 use super::walk::walk;
 
 pub const BUDGET: u64 = 1_000_000;
 
-pub fn printed(bytes: &[u8]) -> String {
-    let board = match Board::read(bytes, 0) {
+pub fn printed(bytes: &[u8], layout: &[u8]) -> String {
+    let begun = Board::read(bytes, 0).and_then(|board| Ok((given(&board, layout)?, board)));
+    let (given, board) = match begun {
         Err(number) => return format!("refused {number}\n"),
-        Ok(board) => board,
+        Ok(begun) => begun,
     };
-    let walked = walk(&board, BUDGET);
+    let walked = walk(&board, given.as_deref(), BUDGET);
     let steps = walked.steps;
     let Some(best) = walked.best else {
         return if walked.stopped { format!("stopped - {steps}\n") } else { format!("none {steps}\n") };

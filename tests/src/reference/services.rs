@@ -96,10 +96,22 @@ pub fn check(clamped: &Clamped, layout: &[u8]) -> Answer {
     }
 }
 
-pub fn run(clamped: &Clamped, budget: u32, work: &mut [u8], answer: &mut [u8]) -> Answer {
+/// The layout that a run begins from; a buffer of no bytes gives none.
+pub fn given(board: &Board, layout: &[u8]) -> Result<Option<Vec<Piece>>, u8> {
+    match layout {
+        [] => Ok(None),
+        _ => passing(board, &numbers_of(layout)).ok_or(11).map(Some),
+    }
+}
+
+pub fn run(clamped: &Clamped, budget: u32, layout: &[u8], work: &mut [u8], answer: &mut [u8]) -> Answer {
     let board = match clamped {
         Err(number) => return Answer::refused(*number),
         Ok(board) => board,
+    };
+    let given = match given(board, layout) {
+        Err(number) => return Answer::refused(number),
+        Ok(given) => given,
     };
     let work_words = work_words(&board.job);
     if work.len() / 8 < work_words {
@@ -108,7 +120,7 @@ pub fn run(clamped: &Clamped, budget: u32, work: &mut [u8], answer: &mut [u8]) -
     if answer.len() / 2 < 4 * board.job.pieces() {
         return Answer::refused(9);
     }
-    let walked = walk(board, budget.into());
+    let walked = walk(board, given.as_deref(), budget.into());
     write_words(work, &vec![0; work_words]);
     if let Some(best) = &walked.best {
         write_numbers(answer, &to_numbers(board, best));

@@ -1,10 +1,13 @@
-//! The section "The walk", sentence by sentence, with a budget.
+//! The section "The walk", sentence by sentence, with a budget, and a layout to begin from if one is given.
 
 use super::board::{Board, Piece};
 
 pub struct Walked {
     pub stopped: bool,
     pub steps: u64,
+    /// The layouts completed, each shorter than those before it and than the given one.
+    pub completed: Vec<Vec<Piece>>,
+    /// The last of them; where there is none, the layout that the walk began with.
     pub best: Option<Vec<Piece>>,
 }
 
@@ -15,16 +18,26 @@ struct Walk<'a> {
     steps: u64,
     stopped: bool,
     placed: Vec<Piece>,
+    completed: Vec<Vec<Piece>>,
     best: Option<Vec<Piece>>,
 }
 
-pub fn walk(board: &Board, budget: u64) -> Walked {
-    let demands = board.job.demands();
-    let mut walk = Walk { board, demands, budget, steps: 0, stopped: false, placed: vec![], best: None };
+/// A given layout, which passes, is the best from the beginning.
+pub fn walk(board: &Board, given: Option<&[Piece]>, budget: u64) -> Walked {
+    let mut walk = Walk {
+        board,
+        demands: board.job.demands(),
+        budget,
+        steps: 0,
+        stopped: false,
+        placed: vec![],
+        completed: vec![],
+        best: given.map(<[Piece]>::to_vec),
+    };
     if walk.look_ahead() {
         walk.try_piece();
     }
-    Walked { stopped: walk.stopped, steps: walk.steps, best: walk.best }
+    Walked { stopped: walk.stopped, steps: walk.steps, completed: walk.completed, best: walk.best }
 }
 
 impl Walk<'_> {
@@ -52,6 +65,7 @@ impl Walk<'_> {
 
     fn go_on(&mut self) {
         if self.placed.len() == self.board.job.pieces() {
+            self.completed.push(self.placed.clone());
             self.best = Some(self.placed.clone());
         } else if self.look_ahead() {
             self.try_piece();

@@ -1,6 +1,8 @@
 //! The five services over the unverified opponent: what the comparison tests are tried on, as it is and
 //! with each of the deliberate mistakes.
 
+mod given;
+
 use std::slice;
 
 use opponent::job::{read, Job};
@@ -238,16 +240,20 @@ fn check(job: &Job, margin: u64, layout: &[u8]) -> u64 {
     let Some(margin) = accepted(margin) else {
         return margin_refused(&[("thirteen_after_eleven", layout.len() / 2 != 4 * job.pieces, 11)]);
     };
-    match checked(job, margin, layout) {
+    match checked(job, margin, layout, ["check_unclamped", "check_with_square_gap"]) {
         None => refused(11),
-        Some(length) => {
+        Some((length, _)) => {
             let mistakes = ["check_length_without_margin", "check_length_with_margin_twice"];
             packed(0, 0, told(length, margin, mistakes), 0)
         }
     }
 }
 
-fn checked(job: &Job, margin: i32, layout: &[u8]) -> Option<i32> {
+/// A layout's length and its candidate numbers.
+type Layout = (i32, [u16; 12]);
+
+/// The layout, if it passes, with the mistakes of the board that it is put on.
+fn checked(job: &Job, margin: i32, layout: &[u8], mistakes: [&'static str; 2]) -> Option<Layout> {
     let numbers: Vec<usize> =
         layout.chunks_exact(2).map(|b| usize::from(u16::from_le_bytes([b[0], b[1]]))).collect();
     if mutant::is("check_passes_nothing") {
@@ -257,8 +263,8 @@ fn checked(job: &Job, margin: i32, layout: &[u8]) -> Option<i32> {
     if numbers.len() != 4 * job.pieces && !longer {
         return None;
     }
-    let board = clamped(job, margin, ["check_unclamped", "check_with_square_gap"]);
-    let (mut placed, mut length): (Vec<(usize, usize)>, i32) = (vec![], 0);
+    let board = clamped(job, margin, mistakes);
+    let (mut placed, mut length, mut held): (Vec<(usize, usize)>, i32, _) = (vec![], 0, [0; 12]);
     for entry in numbers.chunks_exact(4).take(job.pieces) {
         let (kind, column, row, turn) = (entry[0], entry[1], entry[2], entry[3]);
         let by_number = mutant::is("check_by_number_alone");
@@ -271,11 +277,12 @@ fn checked(job: &Job, margin: i32, layout: &[u8]) -> Option<i32> {
         if !rises || !board.is_candidate(kind, number) || !placed.iter().all(clear) {
             return None;
         }
+        held[placed.len()] = number as u16;
         placed.push((kind, number));
         length = length.max(board.length(kind, number));
     }
     let copies = |kind: usize| placed.iter().filter(|p| p.0 == kind).count();
-    (0..job.kind_count).all(|k| copies(k) == job.kinds[k].demand).then_some(length)
+    (0..job.kind_count).all(|k| copies(k) == job.kinds[k].demand).then_some((length, held))
 }
 
 /// # Safety
@@ -286,6 +293,8 @@ pub unsafe extern "C" fn nest_run(
     job_len: usize,
     margin: u64,
     budget: u32,
+    layout: *const u8,
+    layout_len: usize,
     work: *mut u8,
     work_len: usize,
     answer: *mut u8,
@@ -294,20 +303,28 @@ pub unsafe extern "C" fn nest_run(
     if mutant::is("null_refused") && work.is_null() {
         return refused(8);
     }
+    if mutant::is("given_null_refused") && layout.is_null() {
+        return refused(11);
+    }
     let job = lent(job, job_len);
+    let given = lent(layout, layout_len);
     let work = lent_mut(work, work_len);
     let answer = lent_mut(answer, answer_len);
     if mutant::is("guard_written") && work_len > 0 {
         // The byte past the lent ones.
         work.as_mut_ptr().add(work_len).write(0xA5);
     }
-    match read_under(job, margin, "run_without_common_cut") {
+    let result = match read_under(job, margin, "run_without_common_cut") {
         Err(number) => refused(number),
-        Ok(job) => run(&job, margin, budget, work, answer),
+        Ok(job) => run(&job, margin, budget, given, work, answer),
+    };
+    if mutant::is("given_buffer_cleared") && layout_len > 0 {
+        layout.cast_mut().write_bytes(0, layout_len);
     }
+    result
 }
 
-fn run(job: &Job, margin: u64, budget: u32, work: &mut [u8], answer: &mut [u8]) -> u64 {
+fn run(job: &Job, margin: u64, budget: u32, layout: &[u8], work: &mut [u8], answer: &mut [u8]) -> u64 {
     let work_bytes = 8 * job.kind_count * job.pieces * job.words();
     let work_short = work.len() < work_bytes;
     let answer_short = answer.len() / 2 < 4 * job.pieces;
@@ -315,7 +332,16 @@ fn run(job: &Job, margin: u64, budget: u32, work: &mut [u8], answer: &mut [u8]) 
         if mutant::is("work_cleared_at_thirteen") {
             work.fill(0);
         }
-        return margin_refused(&[("thirteen_after_eight", work_short, 8), ("thirteen_after_nine", answer_short, 9)]);
+        let unfit = given::layout(job, 0, layout).is_err();
+        return margin_refused(&[
+            ("thirteen_after_eleven_of_run", unfit, 11),
+            ("thirteen_after_eight", work_short, 8),
+            ("thirteen_after_nine", answer_short, 9),
+        ]);
+    };
+    let given = match given::layout(job, margin, layout) {
+        Err(number) => return given::refusal(number, work_short, answer_short, work),
+        Ok(given) => given,
     };
     if mutant::is("eight_after_nine") && answer_short {
         return refused(9);
@@ -328,11 +354,13 @@ fn run(job: &Job, margin: u64, budget: u32, work: &mut [u8], answer: &mut [u8]) 
     }
     let board = clamped(job, margin, ["run_unclamped", "run_with_square_gap"]);
     let mut rows = Rows::new(&board);
-    let out = Walk::new(&board, &mut rows).run(budget.into());
+    let out = given::walk_from(given, Walk::new(&board, &mut rows), budget);
+    // Whether nothing shorter than the given layout was found.
+    let stands = given.is_some() && out.best == given;
     let none = !out.stopped && out.best.is_none();
-    clear_work(work, work_bytes, none);
-    if let Some((_, numbers)) = &out.best {
-        write_layout(job, margin, numbers, answer);
+    clear_work(work, work_bytes, none, given.is_some());
+    if let Some((_, numbers)) = out.best.filter(|_| !(stands && mutant::is("given_not_written"))) {
+        write_layout(job, margin, &numbers, answer);
         if mutant::is("rest_copied") {
             (1..job.pieces).for_each(|piece| answer.copy_within(0..8, 8 * piece));
         }
@@ -343,7 +371,10 @@ fn run(job: &Job, margin: u64, budget: u32, work: &mut [u8], answer: &mut [u8]) 
         answer[..8 * job.pieces].fill(0);
     }
     spoil_odd_byte(answer);
-    let mistakes = ["run_length_without_margin", "run_length_with_margin_twice"];
+    let mistakes = match stands {
+        true => ["given_length_without_margin", "given_length_with_margin_twice"],
+        false => ["run_length_without_margin", "run_length_with_margin_twice"],
+    };
     let length = out.best.map_or(0, |(length, _)| told(length, margin, mistakes));
     let mut stopped = out.stopped;
     let mut steps = out.steps;
@@ -356,7 +387,7 @@ fn run(job: &Job, margin: u64, budget: u32, work: &mut [u8], answer: &mut [u8]) 
     if mutant::is("invented_steps") && !stopped {
         steps /= 2;
     }
-    let mut held = out.best.is_some();
+    let mut held = out.best.is_some() && !(stands && given::overlooked(stopped));
     if mutant::is("stopped_at_once") {
         (stopped, steps, held) = (true, 0, false);
     }
@@ -371,8 +402,9 @@ fn run(job: &Job, margin: u64, budget: u32, work: &mut [u8], answer: &mut [u8]) 
     }
 }
 
-fn clear_work(work: &mut [u8], needed: usize, none: bool) {
-    if mutant::is("work_not_cleared") || none && mutant::is("work_not_cleared_when_none") {
+fn clear_work(work: &mut [u8], needed: usize, none: bool, given: bool) {
+    let left = none && mutant::is("work_not_cleared_when_none") || given && mutant::is("work_not_cleared_with_given");
+    if left || mutant::is("work_not_cleared") {
         return;
     }
     let more = if mutant::is("one_work_word_too_many") { 8 } else { 0 };

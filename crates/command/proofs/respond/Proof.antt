@@ -26,14 +26,14 @@ same-length-3 c = search needs
 
 returns : tie.Need-returns
 returns c =
-    let start = c .before .before .before .before .before .before .before .before .before .before .before .before .before .before .before .before .before in
+    let start = c .before .before .before .before .before .before .before .before .before .before .before .before .before .before .before .before .before .before in
     let shown = c .before .before .before .before .before .before .before .before .before .before .before .before .pieces-shown in
     let ran = c .before .before .before .before .before .before .before .before .before .run in
     let put = c .before .before .render in
     let bytes : List ℕ = start .args .bytes .now in
-    let text = text-told bytes (shown .result) (start .args .margin) (start .args .budget) (start .args .work .now) (start .args .answer .now) _ (ran .result) (shown .ensures) (ran .ensures .0) (ran .ensures .1 .1) in
+    let text = text-told bytes (shown .result) (start .args .margin) (start .args .budget) (start .args .layout .now) (start .args .work .now) (start .args .answer .now) _ (ran .result) (shown .ensures) (ran .ensures .0) (ran .ensures .1 .1) in
     let front = text-as _ _ (start .args .text .now) _ (put .result) text (put .ensures .0) (put .ensures .1 .0) in
-    (front .0, (front .1, (put .ensures .1 .1, (λ m e. rw (m, e) (prints-program bytes (start .args .work .now) (start .args .answer .now) (start .pre .0) (start .pre .1)), (ran .ensures .1 .0, ran .ensures .1 .1)))))
+    (front .0, (front .1, (put .ensures .1 .1, (λ m e n. rw (m, e) (prints-program bytes (start .args .layout .now) (start .args .work .now) (start .args .answer .now) n (start .pre .0) (start .pre .1)), (ran .ensures .1 .0, ran .ensures .1 .1)))))
 
 pub respond-spec : {M : Type 1} → statement M
 respond-spec =

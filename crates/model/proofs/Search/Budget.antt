@@ -1,20 +1,21 @@
 -- The walk under a budget: when it is stopped, how many steps it takes, and what it then holds.
 use mathlib.Core.Bool.{true, false}
 use mathlib.Core.Logic.{_↔_, _⊎_, inl, inr, ⊎-elim}
-use mathlib.Core.Option.{Option, none, some}
-use mathlib.Core.Path.{_≡_, ap, _∙_, subst}
+use mathlib.Core.Option.{Option, none, some, Option·some-injective, Option·some-ne-none}
+use mathlib.Core.Path.{_≡_, refl, sym, ap, _∙_, subst}
 use Prim.Native.Nat.{ℕ, _≤_, _<_, min}
 use native.Mathlib.Nat.{min-comm}
+use native.Mathlib.Omega.{arith}
 use borrow.Author.Tests.{ltb-true, ltb-false, lt-ltb, le-ltb}
 use lib.ListN.{length, length-take}
 use lib.Seq.{take-all}
-use Rattle.model.specs.Demand3.{Completed, BestOf}
+use Rattle.model.specs.Demand3.{Completed, Counts, BestOf}
 use Rattle.model.specs.Layout.{Layout, layoutLength}
 use Rattle.model.specs.Problem.{Problem}
 use Rattle.model.specs.Search.{stepsFrom, stepsNeeded, isStopped, stepsTaken, bestAfter, held}
 use Rattle.model.proofs.Search.Completions.{Shorter, NoShorter, shorter-not}
 use Rattle.model.proofs.Accepted.{Sensible}
-use Rattle.model.proofs.Search.Walk.{Laid, held-or-completed, completed-laid, completed-no-shorter, best-of-steps}
+use Rattle.model.proofs.Search.Walk.{Laid, BeginLaid, held-or-completed, completed-laid, completed-no-shorter}
 
 module _ (j : Problem) (begin : Option Layout) (budget : ℕ) where
   -- Stopped exactly if more steps are needed than the budget.
@@ -42,37 +43,68 @@ module _ (j : Problem) (begin : Option Layout) (budget : ℕ) where
   unfolding held
   all-held e = ap (bestAfter begin) (all-taken e)
 
-module _ (j : Problem) (ok : Sensible j) (budget : ℕ) where
-  -- What is held under a budget is "the best layout of the steps taken".
-  pub held-best : (es : Layout) → held j none budget ≡ some es → BestOf j (stepsTaken j none budget) es
+module _ (j : Problem) (ok : Sensible j) (begin : Option Layout) (budget : ℕ) where
+  -- The steps taken complete none and what the walk began with stays, or they complete some, all of which pass and are shorter than it, and the shortest is held.
+  held-from : ((held j begin budget ≡ begin) × ((es : Layout) → Completed (stepsTaken j begin budget) es → ⊥))
+      ⊎ ((es : Layout) × (held j begin budget ≡ some es) × Completed (stepsTaken j begin budget) es
+      × ((fs : Layout) → Completed (stepsTaken j begin budget) fs → layoutLength j es ≤ layoutLength j fs) × Laid j es × Shorter j (layoutLength j es) begin)
   unfolding held stepsTaken
-  held-best es e = best-of-steps j ok budget es e
-
-  -- It passes and has N entries.
-  pub held-laid : (es : Layout) → held j none budget ≡ some es → Laid j es
-  unfolding held stepsTaken
-  held-laid es e = completed-laid j ok none budget es (held-best es e .completed) .0
-
-  -- Where nothing is held, the steps taken completed nothing.
-  pub held-none : held j none budget ≡ none → (es : Layout) → Completed (stepsTaken j none budget) es → ⊥
-  unfolding held stepsTaken
-  held-none e es c = subst (NoShorter j (layoutLength j es)) e (completed-no-shorter j ok none budget es c)
-
-  -- With a best to begin with, under a budget: the steps taken complete none and it stays, or they complete some, all of which pass and are
-  -- shorter than it, and their best is held.
-  pub held-from : (begin : Option Layout)
-      → ((held j begin budget ≡ begin) × ((es : Layout) → Completed (stepsTaken j begin budget) es → ⊥))
-      ⊎ ((es : Layout) × (held j begin budget ≡ some es) × BestOf j (stepsTaken j begin budget) es × Laid j es × Shorter j (layoutLength j es) begin)
-  unfolding held stepsTaken
-  held-from begin =
+  held-from =
       ⊎-elim
       (λ q. inl (q, λ es c. shorter-not j _ begin (completed-laid j ok begin budget es c .1) (subst (NoShorter j (layoutLength j es)) q (completed-no-shorter j ok begin budget es c))))
       (λ r.
       inr (
         r .0,
         r .2,
-        record { completed = r .1; shortest = λ fs c. subst (NoShorter j (layoutLength j fs)) (r .2) (completed-no-shorter j ok begin budget fs c) },
+        r .1,
+        (λ fs c. subst (NoShorter j (layoutLength j fs)) (r .2) (completed-no-shorter j ok begin budget fs c)),
         completed-laid j ok begin budget (r .0) (r .1) .0,
         completed-laid j ok begin budget (r .0) (r .1) .1,
       ))
       (held-or-completed begin (stepsTaken j begin budget))
+
+  -- What is held is what the walk began with, or a completed layout.
+  held-is : (es : Layout) → held j begin budget ≡ some es
+      → ((begin ≡ some es) × ((fs : Layout) → Completed (stepsTaken j begin budget) fs → ⊥))
+      ⊎ (Completed (stepsTaken j begin budget) es × ((fs : Layout) → Completed (stepsTaken j begin budget) fs → layoutLength j es ≤ layoutLength j fs) × Laid j es × Shorter j (layoutLength j es) begin)
+  held-is es e =
+      ⊎-elim (λ r. inl (sym (r .0) ∙ e, r .1))
+      (λ r.
+      let q : r .0 ≡ es = Option·some-injective (r .0) es (sym (r .1) ∙ e) in
+      inr (rw (← q) (r .2, r .3, r .4, r .5)))
+      held-from
+
+  -- It passes and has N entries, if what the walk began with does.
+  pub held-laid : BeginLaid j begin → (es : Layout) → held j begin budget ≡ some es → Laid j es
+  held-laid l es e = ⊎-elim (λ r. subst (BeginLaid j) (r .0) l) (λ r. r .2) (held-is es e)
+
+  -- What is held under a budget is "the best layout of the steps taken".
+  pub held-best : (es : Layout) → held j begin budget ≡ some es → BestOf j begin (stepsTaken j begin budget) es
+  held-best es e = go begin refl (held-is es e)
+    where
+      Is : Option Layout → Type 0
+      Is h = ((h ≡ some es) × ((fs : Layout) → Completed (stepsTaken j begin budget) fs → ⊥))
+          ⊎ (Completed (stepsTaken j begin budget) es × ((fs : Layout) → Completed (stepsTaken j begin budget) fs → layoutLength j es ≤ layoutLength j fs) × Laid j es × Shorter j (layoutLength j es) h)
+
+      go : (h : Option Layout) → begin ≡ h → Is h → BestOf j h (stepsTaken j begin budget) es
+      go none q (inl r) = absurd (Option·some-ne-none es (sym (r .0)))
+      go none q (inr r) = record { counts = r .0; shortest = r .1 }
+      go (some given) q (inl r) =
+          let same : given ≡ es = Option·some-injective given es (r .0) in
+          record {
+            counts = inl (sym same);
+            shortest = λ fs c. ⊎-elim (λ d. let e : layoutLength j fs ≡ layoutLength j es = ap (layoutLength j) (d ∙ same) in omega arith) (λ d. absurd (r .1 fs d)) c;
+          }
+      go (some given) q (inr r) =
+          record {
+            counts = inr (r .0);
+            shortest = λ fs c. ⊎-elim (λ d. let l : layoutLength j es < layoutLength j given = r .3 in rw d (omega arith)) (r .1 fs) c;
+          }
+
+  -- Where nothing is held, the walk began with none and the steps taken completed none.
+  pub held-none : held j begin budget ≡ none → (es : Layout) → Counts begin (stepsTaken j begin budget) es → ⊥
+  held-none e es =
+      ⊎-elim
+      (λ r. let q : begin ≡ none = sym (r .0) ∙ e in
+      subst (λ (h : Option Layout). Counts h (stepsTaken j begin budget) es → ⊥) (sym q) (r .1 es))
+      (λ r. absurd (Option·some-ne-none (r .0) (sym (r .1) ∙ e))) held-from

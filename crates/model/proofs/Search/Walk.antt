@@ -9,7 +9,7 @@ use native.Mathlib.Nat.{le-refl}
 use native.Mathlib.Omega.{arith}
 use lib.ListN.{length, take}
 use Rattle.model.specs.Content.{pieceCount}
-use Rattle.model.specs.Demand3.{Completed, BestOf}
+use Rattle.model.specs.Demand3.{Completed}
 use Rattle.model.specs.Layout.{Layout, entryNumber, layoutLength, Passes, Before, FirstOfShortest}
 use Rattle.model.specs.Problem.{Problem}
 use Rattle.model.specs.Search.{Step, Searched, pieces, candidateTable, forwardCheck, searchFrom, stepsFrom, lengthOf, latest, bestAfter}
@@ -112,6 +112,11 @@ held-or-completed h (s ∷ ss) =
 abbrev pub Laid : Problem → Layout → Type 0
 Laid j es = Passes j es × (length es ≡ pieceCount (j .kinds))
 
+-- So does what a walk begins with, if it begins with a layout.
+abbrev pub BeginLaid : Problem → Option Layout → Type 0
+BeginLaid j none = Unit {0}
+BeginLaid j (some es) = Laid j es
+
 module _ (j : Problem) (ok : Sensible j) where
   -- The induction, for the whole walk: completions are the layouts that pass.
   walk-ran : (h : Option Layout) → Ran j (Completes j (candidateTable j) (pieces (j .kinds)) []) (λ ns. laid j (pieces (j .kinds)) ns []) (Laid j) h (searchFrom j (candidateTable j) (lengthOf j h))
@@ -157,14 +162,6 @@ module _ (j : Problem) (ok : Sensible j) where
   held-completed h ss es e s =
       ⊎-elim (λ q. absurd (shorter-not j _ h s (subst (NoShorter j (layoutLength j es)) (sym e ∙ q) (le-refl (layoutLength j es)))))
       (λ r. subst (Completed ss) (Option·some-injective (r .0) es (sym (r .2) ∙ e)) (r .1)) (held-or-completed h ss)
-
-  -- The best after the first k steps of a walk that begins with none is "the shortest that they completed".
-  pub best-of-steps : (k : ℕ) (es : Layout) → bestAfter none (take k (stepsFrom j none)) ≡ some es → BestOf j (take k (stepsFrom j none)) es
-  best-of-steps k es e =
-      record {
-        completed = held-completed none (take k (stepsFrom j none)) es e tt;
-        shortest = λ fs c. subst (NoShorter j (layoutLength j fs)) e (completed-no-shorter none k fs c);
-      }
 
   -- ---- What is held at the end
 
@@ -220,7 +217,7 @@ module _ (j : Problem) (ok : Sensible j) where
         }
 
   -- The walk ends with the first of the shortest, or with the best that it began with, and then no passing layout is shorter than that.
-  walk-ends : (h : Option Layout)
+  pub walk-ends : (h : Option Layout)
       → ((es : Layout) × (bestAfter h (stepsFrom j h) ≡ some es) × FirstOfShortest j es × Shorter j (layoutLength j es) h)
       ⊎ ((bestAfter h (stepsFrom j h) ≡ h) × ((fs : Layout) → Passes j fs → NoShorter j (layoutLength j fs) h))
   unfolding stepsFrom

@@ -65,9 +65,9 @@ fn check_saved(bench: &BenchJob) {
     assert_eq!(proved, plain, "{}", bench.name);
 }
 
-/// The proved engine's run, under the margin that belongs to the job.
+/// The proved engine's run, under the margin that belongs to the job, begun from no layout.
 fn nested(bench: &BenchJob, budget: u32, work: &mut [u8], answer: &mut [u8]) -> Answer {
-    nest::run(&bench.bytes, bench.margin.into(), budget, work, answer)
+    nest::run(&bench.bytes, bench.margin.into(), budget, &[], work, answer)
 }
 
 /// The other engine's board, under the same margin.

@@ -3,13 +3,19 @@
 use std::cell::OnceCell;
 
 use nest_tests::reference::board::{Board, Piece};
+use nest_tests::reference::exhaustive::{how_many, passing_layouts};
 use nest_tests::reference::reader::read_job;
 use nest_tests::reference::services::{Clamped, Reading};
+use nest_tests::reference::square_gap;
 use nest_tests::reference::walk::{walk, Walked};
 use nest_tests::reference::writer::saved;
 
 /// Walks are followed to their end up to this many steps.
 const STEPS_AT_MOST: u64 = 2000;
+/// Boards with at most this many layouts are also searched exhaustively.
+const LAYOUTS_AT_MOST: u64 = 4000;
+/// Boards with more candidates than these are large: there a step of the plain walk is slow, and so is every run.
+const CANDIDATES_AT_MOST: usize = 1500;
 
 pub struct Case {
     pub bytes: Vec<u8>,
@@ -19,6 +25,8 @@ pub struct Case {
     /// Jobs of the same content in other bytes.
     pub twins: Vec<Twin>,
     walked: OnceCell<Walked>,
+    walked_by_squares: OnceCell<Option<Walked>>,
+    passing: OnceCell<Option<Vec<Vec<Piece>>>>,
 }
 
 /// A job that every service has to answer as it answers another.
@@ -45,13 +53,18 @@ impl Case {
         let reading = read_job(&bytes);
         let saved = reading.as_ref().ok().map(saved).filter(|saved| *saved != bytes);
         let twins = reordered.map(Twin::reordered).into_iter().chain(saved.map(Twin::saved)).collect();
-        Case { margin, clamped: clamped(&reading, margin), bytes, reading, twins, walked: OnceCell::new() }
+        Case::of(bytes, margin, reading, twins)
     }
 
     /// The same job under another margin.
     pub fn under(&self, margin: u64) -> Case {
-        let (bytes, reading, twins) = (self.bytes.clone(), self.reading.clone(), self.twins.clone());
-        Case { margin, clamped: clamped(&reading, margin), bytes, reading, twins, walked: OnceCell::new() }
+        Case::of(self.bytes.clone(), margin, self.reading.clone(), self.twins.clone())
+    }
+
+    fn of(bytes: Vec<u8>, margin: u64, reading: Reading, twins: Vec<Twin>) -> Case {
+        let clamped = reading.clone().and_then(|job| Board::new(job, margin));
+        let (walked, walked_by_squares, passing) = Default::default();
+        Case { bytes, margin, reading, clamped, twins, walked, walked_by_squares, passing }
     }
 
     /// The walk, where nothing is refused; to its end, where it is short enough.
@@ -60,31 +73,56 @@ impl Case {
         Some(self.walked.get_or_init(|| walked_far(board)))
     }
 
-    /// Whether the walk takes other steps, or finds another layout, on another board.
-    pub fn walks_otherwise(&self, other: &Board) -> bool {
-        let there = walked_far(other);
+    /// The walk with the gap as a square, where some pair has a gap and the board is not large. Candidates are the same by
+    /// either measure, so that its layouts may be put to this board.
+    pub fn walked_by_squares(&self) -> Option<&Walked> {
+        let board = self.clamped.as_ref().ok()?;
+        let walked = || {
+            let kinds = 0..board.job.types.len();
+            let some_gap = kinds.clone().any(|one| kinds.clone().any(|other| board.job.pair_gap(one, other) > 0));
+            if !some_gap || is_large(board) {
+                return None;
+            }
+            let other = Board::measured(board.job.clone(), self.margin, square_gap::in_conflict);
+            other.ok().map(|other| walked_far(&other))
+        };
+        self.walked_by_squares.get_or_init(walked).as_ref()
+    }
+
+    /// Whether another walk takes other steps, or finds another layout.
+    pub fn walks_otherwise(&self, there: &Walked) -> bool {
         self.walked().is_some_and(|here| (there.steps, &there.best) != (here.steps, &here.best))
     }
 
-    /// The best layout of that walk.
+    /// The best layout of the walk.
     pub fn best(&self) -> Option<&[Piece]> {
         self.walked()?.best.as_deref()
     }
-}
 
-fn clamped(reading: &Reading, margin: u64) -> Clamped {
-    reading.clone().and_then(|job| Board::new(job, margin))
+    /// Every passing layout in order, on a board whose walk ends and that has few enough layouts to look at.
+    pub fn passing(&self) -> Option<&[Vec<Piece>]> {
+        let board = self.clamped.as_ref().ok()?;
+        if self.walked()?.stopped {
+            return None;
+        }
+        let searched = || how_many(board, LAYOUTS_AT_MOST).map(|_| passing_layouts(board));
+        self.passing.get_or_init(searched).as_deref()
+    }
 }
 
 /// The walk to its end, where it is short enough.
-fn walked_far(board: &Board) -> Walked {
-    walk(board, step_limit(board))
+pub fn walked_far(board: &Board) -> Walked {
+    walk(board, None, step_limit(board))
 }
 
-/// On boards with many candidates a step of the plain walk is slow.
 fn step_limit(board: &Board) -> u64 {
-    match board.candidate_count() {
-        0..=1500 => STEPS_AT_MOST,
-        _ => 30,
+    if is_large(board) {
+        30
+    } else {
+        STEPS_AT_MOST
     }
+}
+
+pub fn is_large(board: &Board) -> bool {
+    board.candidate_count() > CANDIDATES_AT_MOST
 }

@@ -3,7 +3,7 @@
 use nest_tests::reference::board::Board;
 use nest_tests::reference::reader::Job;
 
-use crate::case::Case;
+use crate::case::{walked_far, Case};
 use crate::report::Report;
 
 const COPIES: &str = "types of several copies in a marked class";
@@ -56,5 +56,5 @@ fn nests_otherwise(case: &Case, board: &Board) -> bool {
     if kinds.clone().all(|one| kinds.clone().all(|other| same_gap(one, other))) {
         return false;
     }
-    Board::new(unmarked, case.margin).is_ok_and(|other| case.walks_otherwise(&other))
+    Board::new(unmarked, case.margin).is_ok_and(|other| case.walks_otherwise(&walked_far(&other)))
 }

@@ -37,13 +37,13 @@ fn services(noise: &mut Noise) -> [Service; 5] {
         },
         Service {
             name: "check",
-            buffers: vec![job.clone(), layout],
+            buffers: vec![job.clone(), layout.clone()],
             call: |b, margin| unsafe { check_at(b[0], margin, b[1]) },
         },
         Service {
             name: "run",
-            buffers: vec![job, words, answer],
-            call: |b, margin| unsafe { run_at(b[0], margin, 1_000_000, b[1], b[2]) },
+            buffers: vec![job, layout, words, answer],
+            call: |b, margin| unsafe { run_at(b[0], margin, 1_000_000, b[1], b[2], b[3]) },
         },
     ]
 }

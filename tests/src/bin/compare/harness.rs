@@ -6,16 +6,16 @@ use nest_tests::noise::Noise;
 use nest_tests::reference::board::{Board, Piece};
 use nest_tests::reference::exhaustive;
 use nest_tests::reference::layout::to_numbers;
+use nest_tests::reference::reader::Job;
 use nest_tests::reference::services::{self, bytes_of, content, work_words, Reading};
+use nest_tests::reference::walk::Walked;
 
 use crate::case::{Case, Twin};
+use crate::given;
 use crate::lent::{awkward_lengths, Lent};
 use crate::nest;
 use crate::report::{hexadecimal, Report};
 use crate::round_gap;
-
-/// Boards with at most this many layouts are also searched exhaustively.
-const LAYOUTS_AT_MOST: u64 = 4000;
 
 /// A service that is handed a job and a buffer for its answer, and nothing else.
 pub struct Writing {
@@ -26,6 +26,20 @@ pub struct Writing {
 
 const READ: Writing = Writing { name: "read", expected: services::read, got: nest::read };
 pub const SAVE: Writing = Writing { name: "save", expected: services::save, got: nest::save };
+
+/// How many bytes a run is lent to write into.
+#[derive(Clone, Copy)]
+pub struct Room {
+    work: usize,
+    answer: usize,
+}
+
+impl Room {
+    /// As many as are needed.
+    pub fn exact(job: &Job) -> Room {
+        Room { work: 8 * work_words(job), answer: 8 * job.pieces() }
+    }
+}
 
 pub struct Harness<'a> {
     pub noise: &'a mut Noise,
@@ -39,7 +53,9 @@ impl Harness<'_> {
         self.rows(case);
         self.checks(case);
         self.runs(case);
-        self.exhaustive_search(case);
+        self.exhaustive_search(case, None);
+        self.given_layouts(case);
+        self.carry_across(case);
         self.other_margins(case);
         self.refused_margins(case);
     }
@@ -220,98 +236,16 @@ impl Harness<'_> {
         };
         for numbers in self.layouts(case, board) {
             self.check(case, &bytes_of(&numbers));
-            self.spoilt_checks(case, board, &numbers);
+            for spoilt in self.spoilt_layouts(board, &numbers) {
+                self.check(case, &spoilt);
+            }
         }
         let needed = 8 * board.job.pieces();
         for length in awkward_lengths(needed, 2) {
             let layout = self.noise.bytes(length);
             self.check(case, &layout);
         }
-        self.check_within_job(case, board);
-    }
-
-    /// The best layout of the walk, if there is one, and some at random, as numbers.
-    pub fn layouts(&mut self, case: &Case, board: &Board) -> Vec<Vec<u16>> {
-        let mut layouts: Vec<Vec<Piece>> = case.best().map(<[Piece]>::to_vec).into_iter().collect();
-        layouts.extend((0..3).filter_map(|_| self.random_layout(board)));
-        layouts.iter().map(|layout| to_numbers(board, layout)).collect()
-    }
-
-    /// The bytes of the best layout, or noise in their place.
-    pub fn any_layout(&mut self, case: &Case, board: &Board) -> Vec<u8> {
-        match case.best().filter(|_| self.noise.one_in(2)) {
-            Some(best) => bytes_of(&to_numbers(board, best)),
-            None => {
-                let length = self.noise.pick(&awkward_lengths(8 * board.job.pieces(), 2));
-                self.noise.bytes(length)
-            }
-        }
-    }
-
-    /// Candidates at random, mostly clear of those before, in order.
-    fn random_layout(&mut self, board: &Board) -> Option<Vec<Piece>> {
-        let mut layout: Vec<Piece> = Vec::new();
-        for (kind, demand) in board.job.demands().into_iter().enumerate() {
-            for _ in 0..demand {
-                let list = &board.candidates[kind];
-                if list.is_empty() {
-                    return None;
-                }
-                let mut pick = || Piece { kind, index: self.noise.below(list.len()) };
-                let mut piece = pick();
-                for _ in 0..20 {
-                    if layout.iter().all(|&p| !board.conflict(p, piece)) {
-                        break;
-                    }
-                    piece = pick();
-                }
-                layout.push(piece);
-            }
-        }
-        layout.sort_by_key(|p| (p.kind, p.index));
-        Some(layout)
-    }
-
-    /// The layout with one thing changed, or of another size.
-    fn spoilt_checks(&mut self, case: &Case, board: &Board, numbers: &[u16]) {
-        for _ in 0..4 {
-            let mut other = numbers.to_vec();
-            let entry = 4 * self.noise.below(numbers.len() / 4);
-            let field = entry + self.noise.below(4);
-            match self.noise.below(9) {
-                0 => other[field] = other[field].wrapping_add(1),
-                1 => other[field] = other[field].wrapping_sub(1),
-                2 => other[field] = other[field].wrapping_add(self.noise.pick(&[256, 4, 32_768])),
-                3 => {
-                    // Another column and row with the same candidate number.
-                    other[entry + 1] = other[entry + 1].wrapping_sub(1);
-                    other[entry + 2] = other[entry + 2].wrapping_add(board.job.rows() as u16);
-                }
-                4 => {
-                    // Another row and turn with the same candidate number.
-                    other[entry + 2] = other[entry + 2].wrapping_sub(1);
-                    other[entry + 3] += 4;
-                }
-                5 => {
-                    let next = (entry + 4) % numbers.len();
-                    for i in 0..4 {
-                        other.swap(entry + i, next + i);
-                    }
-                }
-                6 => {
-                    let next = (entry + 4) % numbers.len();
-                    other.copy_within(entry..entry + 4, next);
-                }
-                7 => other.truncate(numbers.len() - self.noise.pick(&[1, 2, 4])),
-                _ => other.extend((0..self.noise.pick(&[1, 2, 4])).map(|_| 0)),
-            }
-            self.check(case, &bytes_of(&other));
-        }
-        let mut bytes = bytes_of(numbers);
-        bytes.push(self.noise.byte());
-        self.check(case, &bytes);
-        bytes.truncate(2 * numbers.len() - 1);
-        self.check(case, &bytes);
+        self.layout_within_job(case, board);
     }
 
     pub fn check(&mut self, case: &Case, layout: &[u8]) {
@@ -330,47 +264,50 @@ impl Harness<'_> {
         }
     }
 
-    /// Check changes no buffer, so the layout may lie among the job's own bytes: here in front of it all,
-    /// in bytes of no section.
-    fn check_within_job(&mut self, case: &Case, board: &Board) {
+    /// Check and run change neither job nor layout, so the layout may lie among the job's own bytes: here in front of it
+    /// all, in bytes of no section.
+    fn layout_within_job(&mut self, case: &Case, board: &Board) {
         let Some(best) = case.best() else { return };
         let layout = bytes_of(&to_numbers(board, best));
         let Some(bytes) = put_in_front(&case.bytes, &layout) else { return };
         let held = Case::new(bytes, case.margin, None);
         let expected = services::check(&held.clamped, &layout);
         let job = Lent::holding(self.noise, &held.bytes);
-        let got = nest::check(job.bytes(), held.margin, &job.bytes()[..layout.len()]);
+        let within = &job.bytes()[..layout.len()];
+        let got = nest::check(job.bytes(), held.margin, within);
         self.judge("check", &held, "of a layout within the job", got, expected);
+
+        let lent = self.lent_to_run(Room::exact(&board.job));
+        self.compared_run(&held, "with budget 1 from a layout within the job", 1, job.bytes(), within, &lent);
     }
 
     // Run.
 
     fn runs(&mut self, case: &Case) {
         let Ok(board) = &case.clamped else {
-            let (work, answer, budget) = (self.any_length(), self.any_length(), self.noise.next() as u32);
-            return self.run(case, budget, work, answer);
+            let room = Room { work: self.any_length(), answer: self.any_length() };
+            let (budget, length) = (self.noise.next() as u32, self.any_length());
+            let layout = self.noise.bytes(length);
+            return self.run(case, budget, &layout, room);
         };
-        let (work, answer) = (8 * work_words(&board.job), 8 * board.job.pieces());
-        for budget in self.budgets(case) {
-            let work_length = work + self.noise.pick(&[0, 0, 1, 7, 8, 100]);
-            let answer_length = answer + self.noise.pick(&[0, 0, 1, 2, 100]);
-            self.run(case, budget, work_length, answer_length);
+        let walked = case.walked().expect("nothing is refused");
+        for budget in self.budgets(walked) {
+            let room = self.long_enough(&board.job);
+            self.run(case, budget, &[], room);
         }
-        let small = self.budgets(case)[1];
-        for length in awkward_lengths(work, 8) {
-            self.run(case, small, length, answer);
+        let exact = Room::exact(&board.job);
+        for work in awkward_lengths(exact.work, 8) {
+            self.run(case, 1, &[], Room { work, ..exact });
         }
-        for length in awkward_lengths(answer, 2) {
-            self.run(case, small, work, length);
+        for answer in awkward_lengths(exact.answer, 2) {
+            self.run(case, 1, &[], Room { answer, ..exact });
         }
-        let (both_work, both_answer) =
-            (self.noise.pick(&awkward_lengths(work, 8)), self.noise.pick(&awkward_lengths(answer, 2)));
-        self.run(case, small, both_work, both_answer);
+        let room = self.any_room(&board.job);
+        self.run(case, 1, &[], room);
     }
 
     /// None, one, the needed steps and their neighbours, as many as there can be, and some on the way.
-    fn budgets(&mut self, case: &Case) -> Vec<u32> {
-        let walked = case.walked().expect("nothing is refused");
+    pub fn budgets(&mut self, walked: &Walked) -> Vec<u32> {
         let taken = walked.steps as u32;
         let mut budgets = vec![0, 1];
         for _ in 0..2 {
@@ -384,44 +321,78 @@ impl Harness<'_> {
         budgets
     }
 
-    pub fn run(&mut self, case: &Case, budget: u32, work_length: usize, answer_length: usize) {
-        let call = format!("with budget {budget}, {work_length} work bytes, {answer_length} answer bytes");
-        let (work, answer) = (Lent::noisy(self.noise, work_length), Lent::noisy(self.noise, answer_length));
-        let job = Lent::holding(self.noise, &case.bytes);
-        let kept_job = job.clone();
-        let (mut got_work, mut got_answer) = (work.clone(), answer.clone());
-        let (mut expected_work, mut expected_answer) = (work.clone(), answer.clone());
-        let expected =
-            services::run(&case.clamped, budget, expected_work.bytes_mut(), expected_answer.bytes_mut());
-        let got = nest::run(job.bytes(), case.margin, budget, got_work.bytes_mut(), got_answer.bytes_mut());
-        self.judge("run", case, &call, got, expected);
-        self.compare_bytes("run", case, &call, "work", &got_work, &expected_work);
-        self.compare_bytes("run", case, &call, "answer", &got_answer, &expected_answer);
+    /// As much as is needed, or some more.
+    pub fn long_enough(&mut self, job: &Job) -> Room {
+        let exact = Room::exact(job);
+        let work = exact.work + self.noise.pick(&[0, 0, 1, 7, 8, 100]);
+        Room { work, answer: exact.answer + self.noise.pick(&[0, 0, 1, 2, 100]) }
+    }
+
+    /// About as much as is needed: both may be too short, or one of them.
+    pub fn any_room(&mut self, job: &Job) -> Room {
+        let exact = Room::exact(job);
+        let work = self.noise.pick(&awkward_lengths(exact.work, 8));
+        Room { work, answer: self.noise.pick(&awkward_lengths(exact.answer, 2)) }
+    }
+
+    /// Work and answer.
+    pub fn lent_to_run(&mut self, room: Room) -> (Lent, Lent) {
+        (Lent::noisy(self.noise, room.work), Lent::noisy(self.noise, room.answer))
+    }
+
+    /// From the layout of these bytes, if there are any.
+    pub fn run(&mut self, case: &Case, budget: u32, layout: &[u8], room: Room) {
+        let given = if layout.is_empty() { String::new() } else { format!(" from layout {}", hexadecimal(layout)) };
+        let call = format!("with budget {budget}, {} work bytes, {} answer bytes{given}", room.work, room.answer);
+        let lent = self.lent_to_run(room);
+        let (job, layout) = (Lent::holding(self.noise, &case.bytes), Lent::holding(self.noise, layout));
+        let (kept_job, kept_layout) = (job.clone(), layout.clone());
+        let (got, got_work, got_answer) = self.compared_run(case, &call, budget, job.bytes(), layout.bytes(), &lent);
         self.compare_read_only("run", case, &call, &job, &kept_job);
+        self.compare_read_only("run", case, &call, &layout, &kept_layout);
         // Runs take most of the time: one of the twins, as it falls.
         if let Some(twin) = case.twins.get(self.noise.below(case.twins.len().max(1))) {
-            let (mut other_work, mut other_answer) = (work, answer);
-            let result =
-                nest::run(&twin.bytes, case.margin, budget, other_work.bytes_mut(), other_answer.bytes_mut());
-            let buffers = [(&got_work, &other_work), (&got_answer, &other_answer)];
+            let (mut work, mut answer) = lent;
+            let (to_work, to_answer) = (work.bytes_mut(), answer.bytes_mut());
+            let result = nest::run(&twin.bytes, case.margin, budget, layout.bytes(), to_work, to_answer);
+            let buffers = [(&got_work, &work), (&got_answer, &answer)];
             self.same_for(twin, "run", case, &call, (got, result), &buffers);
         }
     }
 
-    /// On a board with few enough layouts, the engine's own answer against a search of all of them.
-    fn exhaustive_search(&mut self, case: &Case) {
-        let Ok(board) = &case.clamped else { return };
-        let walk_ends = case.walked().is_some_and(|w| !w.stopped);
-        if !walk_ends || exhaustive::how_many(board, LAYOUTS_AT_MOST).is_none() {
-            return;
-        }
-        let best = exhaustive::first_of_the_shortest(board);
-        let mut work = Lent::noisy(self.noise, 8 * work_words(&board.job));
-        let mut answer = Lent::noisy(self.noise, 8 * board.job.pieces());
+    /// A run on these bytes, with work and answer as they are lent. Gives the library's answer, and the two after it.
+    fn compared_run(
+        &mut self,
+        case: &Case,
+        call: &str,
+        budget: u32,
+        job: &[u8],
+        layout: &[u8],
+        lent: &(Lent, Lent),
+    ) -> (Answer, Lent, Lent) {
+        let (mut expected_work, mut expected_answer) = lent.clone();
+        let (to_work, to_answer) = (expected_work.bytes_mut(), expected_answer.bytes_mut());
+        let expected = services::run(&case.clamped, budget, layout, to_work, to_answer);
+        let (mut work, mut answer) = lent.clone();
+        let got = nest::run(job, case.margin, budget, layout, work.bytes_mut(), answer.bytes_mut());
+        self.judge("run", case, call, got, expected);
+        self.compare_bytes("run", case, call, "work", &work, &expected_work);
+        self.compare_bytes("run", case, call, "answer", &answer, &expected_answer);
+        given::count(case, layout, expected, expected_work.bytes(), expected_answer.bytes(), self.report);
+        (got, work, answer)
+    }
+
+    /// On a board with few enough layouts, the engine's own answer against a search of all of them; begun from a given
+    /// layout, or from none.
+    pub fn exhaustive_search(&mut self, case: &Case, given: Option<&[Piece]>) {
+        let (Ok(board), Some(passing)) = (&case.clamped, case.passing()) else { return };
+        let held = exhaustive::held(board, passing, given);
+        let (mut work, mut answer) = self.lent_to_run(Room::exact(&board.job));
         let untouched = answer.clone();
-        let got = nest::run(&case.bytes, case.margin, u32::MAX, work.bytes_mut(), answer.bytes_mut());
-        self.report.note("boards searched exhaustively");
-        let agrees = match &best {
+        let layout = given.map_or(vec![], |given| bytes_of(&to_numbers(board, given)));
+        let got = nest::run(&case.bytes, case.margin, u32::MAX, &layout, work.bytes_mut(), answer.bytes_mut());
+        self.report.note(if given.is_some() { given::SEARCHED } else { "boards searched exhaustively" });
+        let agrees = match held {
             None => got.number == 10 && answer.difference(&untouched).is_none(),
             Some(layout) => {
                 let bytes = bytes_of(&to_numbers(board, layout));
@@ -429,9 +400,10 @@ impl Harness<'_> {
             }
         };
         if !agrees {
-            let expected = best.map_or("none".to_string(), |b| format!("{:?}", to_numbers(board, &b)));
-            let held = hexadecimal(answer.bytes());
-            let what = format!("run against all layouts: got {got:?} holding {held}, expected {expected}");
+            let expected = held.map_or("none".to_string(), |held| format!("{:?}", to_numbers(board, held)));
+            let begun = given.map_or(String::new(), |given| format!(" from {:?}", to_numbers(board, given)));
+            let bytes = hexadecimal(answer.bytes());
+            let what = format!("run{begun} against all layouts: got {got:?} holding {bytes}, expected {expected}");
             self.mismatch(case, &what);
         }
     }

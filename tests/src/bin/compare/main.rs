@@ -2,10 +2,13 @@
 //! Case number i of a run has the seed SEED + i, so `compare 1 --seed S` sees the case S alone again.
 //! With `--first` it gives up at the first mismatch.
 
+mod carried;
 mod case;
 mod common_cut;
 mod empties;
+mod given;
 mod harness;
+mod layouts;
 mod lent;
 mod margins;
 #[path = "../../nest.rs"]
@@ -24,8 +27,8 @@ use nest_tests::noise::Noise;
 use report::Report;
 
 const DEFAULT_COUNT: u64 = 4000;
-/// From the default count on, each refusal and each thing counted of common cut, of the round gap and of saving must
-/// have been seen this often.
+/// From the default count on, each refusal and each thing counted of common cut, of the round gap, of saving and of given
+/// layouts must have been seen this often.
 const SEEN_AT_LEAST: u64 = 100;
 
 fn main() {
@@ -57,9 +60,11 @@ fn main() {
 fn rarely_seen(report: &Report) -> Vec<String> {
     let refusals = (1..=13).filter(|&n| report.seen(n) < SEEN_AT_LEAST).map(|n| format!("refusal {n}"));
     let of_save = (1..=7).chain([9]).filter(|&n| report.seen_of("save", n) < SEEN_AT_LEAST);
+    let of_run = [8, 9, 11, 13].into_iter().filter(|&n| report.seen_of("run", n) < SEEN_AT_LEAST);
     let counted = common_cut::COUNTED.into_iter().chain(round_gap::COUNTED).chain(saving::counted_things());
-    let things = counted.filter(|what| report.noted(what) < SEEN_AT_LEAST).map(str::to_string);
-    refusals.chain(of_save.map(|n| format!("refusal {n} of save"))).chain(things).collect()
+    let things = counted.chain(given::COUNTED).filter(|what| report.noted(what) < SEEN_AT_LEAST).map(str::to_string);
+    let named = of_save.map(|n| format!("refusal {n} of save")).chain(of_run.map(|n| format!("refusal {n} of run")));
+    refusals.chain(named).chain(things).collect()
 }
 
 struct Arguments {

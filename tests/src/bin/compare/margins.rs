@@ -1,7 +1,7 @@
 //! A job under margins besides the one that it was made with.
 
 use nest_tests::margins::{above, for_sides};
-use nest_tests::reference::services::{bytes_of, work_words};
+use nest_tests::reference::services::bytes_of;
 
 use crate::case::Case;
 use crate::harness::Harness;
@@ -12,7 +12,7 @@ const REFUSED: usize = 3;
 
 impl Harness<'_> {
     /// Layouts and candidates that were found under the case's margin, under others: there a layout has another
-    /// length or meets a clamp, and other candidates exist.
+    /// length or meets a clamp, and other candidates exist. The first of the layouts is also given to a run.
     pub fn other_margins(&mut self, case: &Case) {
         let Ok(board) = &case.clamped else { return };
         let job = &board.job;
@@ -25,6 +25,9 @@ impl Harness<'_> {
             let other = case.under(margin);
             for layout in &layouts {
                 self.check(&other, layout);
+            }
+            if let Some(layout) = layouts.first() {
+                self.run_under_another_margin(&other, layout);
             }
             if let Some((kind, number, second)) = self.good_row(board) {
                 self.row(&other, kind, number, second, 8 * job.words());
@@ -44,11 +47,10 @@ impl Harness<'_> {
             self.row(&refused, kind, number, other, row);
             let layout = self.any_layout(case, board);
             self.check(&refused, &layout);
-            let work = self.noise.pick(&awkward_lengths(8 * work_words(job), 8));
-            let answer = self.noise.pick(&awkward_lengths(8 * job.pieces(), 2));
+            let room = self.any_room(job);
             // Small, so that an engine which accepts such a margin still comes back.
             let budget = self.noise.pick(&[0, 1, 1000]);
-            self.run(&refused, budget, work, answer);
+            self.run(&refused, budget, &layout, room);
         }
     }
 }

@@ -42,7 +42,9 @@ fn margins(board: &SmallBoard) -> Vec<u64> {
 fn holds(board: &SmallBoard, claim: &Claim) -> Result<(), String> {
     let job = &board.bytes;
     match *claim {
-        Claim::Run { margin, budget, printed } => same(printed_by_run(job, margin, budget).as_str(), printed),
+        Claim::Run { margin, budget, ref given, printed } => {
+            same(printed_by_run(job, margin, budget, given).as_str(), printed)
+        }
         Claim::Reads(number) => same(nest::read(job, &mut [0; 4096]).number, number),
         Claim::Gives(ref numbers) => same(&given_by_read(job), numbers),
         Claim::Saves(ref bytes) => same(&saved_by_library(job), bytes),
@@ -78,9 +80,9 @@ fn checked(job: &[u8], margin: u64, layout: &[u16]) -> Result<u16, u8> {
 }
 
 /// The run's answer in the command program's words.
-fn printed_by_run(job: &[u8], margin: u64, budget: u32) -> String {
+fn printed_by_run(job: &[u8], margin: u64, budget: u32, given: &[u8]) -> String {
     let (mut work, mut answer) = (vec![0xFF; WORK_BYTES], vec![0xFF; ANSWER_BYTES]);
-    let Answer { number, verdict, count, steps } = nest::run(job, margin, budget, &mut work, &mut answer);
+    let Answer { number, verdict, count, steps } = nest::run(job, margin, budget, given, &mut work, &mut answer);
     let mut out = match (number, verdict) {
         (10, _) => return format!("none {steps}\n"),
         (0, STOPPED_WITH_NOTHING) => return format!("stopped - {steps}\n"),

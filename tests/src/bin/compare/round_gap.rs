@@ -4,8 +4,9 @@ use std::cmp::Ordering;
 
 use nest_tests::reference::board::Board;
 use nest_tests::reference::geometry::{
-    directions, edges, free_of_overlap, in_conflict, point, room_along, to_edges, Part, Point, Squared,
+    edges, free_of_overlap, in_conflict, room_along, to_edges, Part, Point, Squared,
 };
+use nest_tests::reference::square_gap::{self, axes};
 
 use crate::case::Case;
 use crate::report::Report;
@@ -41,18 +42,8 @@ pub const COUNTED: [&str; 13] = [
     NEST_OTHERWISE,
 ];
 
-/// Of boards with at most so many candidates it is asked how else they would nest.
-const CANDIDATES_AT_MOST: usize = 1500;
-
 pub fn count_job(case: &Case, report: &mut Report) {
-    let Ok(board) = &case.clamped else { return };
-    let kinds = 0..board.job.types.len();
-    let some_gap = kinds.clone().any(|one| kinds.clone().any(|other| board.job.pair_gap(one, other) > 0));
-    if !some_gap || board.candidate_count() > CANDIDATES_AT_MOST {
-        return;
-    }
-    let other = Board::measured(board.job.clone(), case.margin, conflict_by_squares).expect("an accepted margin");
-    if case.walks_otherwise(&other) {
+    if case.walked_by_squares().is_some_and(|there| case.walks_otherwise(there)) {
         report.note(NEST_OTHERWISE);
     }
 }
@@ -76,18 +67,8 @@ fn apart_along_axes(one: &[Part], other: &[Part], gap: i64) -> bool {
     pairs(one, other).all(|(p, q)| axes().any(|axis| room_along(axis, p, q) >= gap))
 }
 
-fn axes() -> impl Iterator<Item = Point> {
-    [(1, 0), (-1, 0), (0, 1), (0, -1)].into_iter().map(|(x, y)| point(x, y))
-}
-
 fn pairs<'a>(one: &'a [Part], other: &'a [Part]) -> impl Iterator<Item = (&'a Part, &'a Part)> {
     one.iter().flat_map(move |p| other.iter().map(move |q| (p, q)))
-}
-
-/// The gap as document 01 measured it before request 5 of document 02.
-fn conflict_by_squares(one: &[Part], other: &[Part], gap: i64) -> bool {
-    let separates = |d: Point, p: &Part, q: &Part| room_along(d, p, q) >= gap * (d.x.abs() + d.y.abs());
-    pairs(one, other).any(|(p, q)| !directions(p, q).into_iter().chain(axes()).any(|d| separates(d, p, q)))
 }
 
 /// Whether some corner is nearer than the gap to the line through an edge of the part.
@@ -141,7 +122,7 @@ impl<'a> Pair<'a> {
         let near_line = || parts().any(|(p, q)| near_a_line(p, q, self.gap) || near_a_line(q, p, self.gap));
         let than_gap = self.nearest.compared_with(self.gap);
         let seen = [
-            (SQUARE_ALONE, !self.conflict && conflict_by_squares(self.one, self.other, self.gap)),
+            (SQUARE_ALONE, !self.conflict && square_gap::in_conflict(self.one, self.other, self.gap)),
             (LINE_ALONE, !self.conflict && near_line()),
             (OVERLAP_ALONE, overlap && than_gap.is_ge()),
             (TOUCHING, !overlap && self.nearest.compared_with(0).is_eq()),

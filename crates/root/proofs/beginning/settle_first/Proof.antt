@@ -1,10 +1,10 @@
 -- `root::beginning::settle_first` meets its contract. The invariant: the kinds passed are settled and have enough members.
+use mathlib.Core.List.{[]}
 use mathlib.Core.Path.{_≡_, refl, sym, _∙_, subst}
 use Prim.Native.Nat.{ℕ, _+_, _*_, _-_, _≤_, _<_}
 use native.Mathlib.Omega.{arith}
 use borrow.Author.Tests.{not-true, not-false}
 use lib.ListN.{length, getD, replicate}
-use Rattle.model.specs.Candidate.{isCandidate}
 use Rattle.model.specs.Content.{kindCount, pieceCount}
 use Rattle.model.specs.Format.{content}
 use Rattle.model.specs.Grid.{setWords}
@@ -14,6 +14,7 @@ use Rattle.model.proofs.Accepted.{accepted-sensible}
 use Rattle.plans.proofs.PlanLaws.{kinds-few, words-few}
 use Rattle.plans.specs.Planned.{planned}
 use Rattle.stepping.specs.Levels.{piecesFrom}
+use Rattle.stepping.specs.LiveSets.{setOf}
 use Rattle.stepping.proofs.Kept.{spans-all}
 use Rattle.live_sets.specs.Narrowing.{Filled}
 use Rattle.lookahead.specs.Settled.{KindSettled}
@@ -22,11 +23,11 @@ use Rattle.root.proofs.beginning.settle_first.Statement.{statement}
 use Rattle.root.proofs.beginning.settle_first.Tie as tie
 
 abbrev Inv-loop : tie.InvT-loop
-Inv-loop job view boxes plan work₀ kinds copies u₀ work u =
-    ((u ≤ kinds) × (kinds ≡ kindCount (content job .kinds)) × (kinds ≤ 8)) × (length work ≡ length work₀) × Settling (planned job plan) (replicate 12 0) 0 (content job .sheet .L + 1) (setWords (content job .sheet)) u work₀ work
+Inv-loop job view boxes plan bound work₀ kinds copies u₀ work u =
+    ((u ≤ kinds) × (kinds ≡ kindCount (content job .kinds)) × (kinds ≤ 8)) × (length work ≡ length work₀) × Settling (planned job plan) (replicate 12 0) 0 bound (setWords (content job .sheet)) u work₀ work
 
 abbrev μ-loop : tie.MeasureT-loop
-μ-loop job view boxes plan work₀ kinds copies u₀ work u = kinds - u
+μ-loop job view boxes plan bound work₀ kinds copies u₀ work u = kinds - u
 
 -- There is a piece.
 some-piece : (c : tie.Start Inv-loop μ-loop) → 0 < pieceCount (content (c .args .job .now) .kinds)
@@ -55,8 +56,8 @@ array-read-has-members : tie.Need-array-read-has-members Inv-loop μ-loop
 array-read-has-members c = omega (arith, c .before .before .before .before .before .before .before .loop .inv .0)
 
 -- The work words are as many as they were.
-room : (c : tie.After-fill Inv-loop μ-loop) → length (c .fill .last .1 .1 .1 .1 .0) ≡ length (c .before .before .before .before .before .before .before .before .args .work .now)
-room c = c .fill .kept .1 .1 .1 .1 .0 ∙ c .before .before .before .before .loop .inv .1
+room : (c : tie.After-fill Inv-loop μ-loop) → length (c .fill .last .1 .1 .1 .1 .1 .0) ≡ length (c .before .before .before .before .before .before .before .before .args .work .now)
+room c = c .fill .kept .1 .1 .1 .1 .1 .0 ∙ c .before .before .before .before .loop .inv .1
 
 has-members-requires : tie.Need-has-members-requires Inv-loop μ-loop
 has-members-requires c κs = (words-few (c .before .before .before .before .before .before .before .before .before .before .before .args .job .now) (c .before .before .before .before .before .before .before .before .before .before .before .args .plan) (c .before .before .before .before .before .before .before .before .before .before .before .pre .0 .0 .2), c .before .before .before .before .before .set-start .ensures .few, omega (arith, within (c .before .before .before .before .before), room (c .before .before .before)))
@@ -67,25 +68,25 @@ told c =
     subst (λ (x : ℕ). getD (c .before .before .before .before .before .args .plan .copies) x 0 ≡ copiesLeft (c .before .loop .u) (piecesFrom (content (c .before .before .before .before .before .args .job .now) .kinds) 0)) (omega arith)
     (c .before .before .before .before .before .pre .0 .0 .2 .copies 0 (c .before .loop .u) (some-piece (c .before .before .before .before .before)) (omega (arith, c .before .loop .inv .0)))
 
--- The set is that of the candidates under the plan's margin, which is the view's.
-candidates-alike : (c : tie.After-has-members Inv-loop μ-loop) →
+-- The set is that of the members under the plan's margin, which is the view's.
+members-alike : (c : tie.After-has-members Inv-loop μ-loop) →
     let start = c .before .before .before .before .before .before .before .before .before .before .before .before in
     Filled (c .before .before .before .before .before .before .set-start .result) (start .args .plan .words)
-    (isCandidate (planned (start .args .job .now) (start .args .plan)) (c .before .before .before .before .before .before .before .before .loop .u))
-    (c .before .before .before .before .before .before .before .before .loop .work) (c .before .before .before .before .fill .last .1 .1 .1 .1 .0)
-candidates-alike c =
+    (setOf (planned (start .args .job .now) (start .args .plan)) [] (start .args .bound) (c .before .before .before .before .before .before .before .before .loop .u))
+    (c .before .before .before .before .before .before .before .before .loop .work) (c .before .before .before .before .fill .last .1 .1 .1 .1 .1 .0)
+members-alike c =
     let start = c .before .before .before .before .before .before .before .before .before .before .before .before in
     subst (λ (m : ℕ). Filled (c .before .before .before .before .before .before .set-start .result) (start .args .plan .words)
-    (isCandidate (under m (content (start .args .job .now))) (c .before .before .before .before .before .before .before .before .loop .u))
-    (c .before .before .before .before .before .before .before .before .loop .work) (c .before .before .before .before .fill .last .1 .1 .1 .1 .0))
+    (setOf (under m (content (start .args .job .now))) [] (start .args .bound) (c .before .before .before .before .before .before .before .before .loop .u))
+    (c .before .before .before .before .before .before .before .before .loop .work) (c .before .before .before .before .fill .last .1 .1 .1 .1 .1 .0))
     (sym (start .pre .0 .1)) (c .before .before .before .before .fill .ensures)
 
 -- The kind is settled.
-settled : (c : tie.After-has-members Inv-loop μ-loop) → KindSettled (planned (c .before .before .before .before .before .before .before .before .before .before .before .before .args .job .now) (c .before .before .before .before .before .before .before .before .before .before .before .before .args .plan)) (replicate 12 0) 0 (content (c .before .before .before .before .before .before .before .before .before .before .before .before .args .job .now) .sheet .L + 1) (setWords (content (c .before .before .before .before .before .before .before .before .before .before .before .before .args .job .now) .sheet)) (c .before .before .before .before .before .before .before .before .loop .u) (c .before .before .before .before .before .before .before .before .loop .work) (c .before .before .before .before .fill .last .1 .1 .1 .1 .0) (c .has-members .result)
+settled : (c : tie.After-has-members Inv-loop μ-loop) → KindSettled (planned (c .before .before .before .before .before .before .before .before .before .before .before .before .args .job .now) (c .before .before .before .before .before .before .before .before .before .before .before .before .args .plan)) (replicate 12 0) 0 (c .before .before .before .before .before .before .before .before .before .before .before .before .args .bound) (setWords (content (c .before .before .before .before .before .before .before .before .before .before .before .before .args .job .now) .sheet)) (c .before .before .before .before .before .before .before .before .loop .u) (c .before .before .before .before .before .before .before .before .loop .work) (c .before .before .before .before .fill .last .1 .1 .1 .1 .1 .0) (c .has-members .result)
 settled c =
-    kind-made (planned (c .before .before .before .before .before .before .before .before .before .before .before .before .args .job .now) (c .before .before .before .before .before .before .before .before .before .before .before .before .args .plan)) (replicate 12 0) 0 (content (c .before .before .before .before .before .before .before .before .before .before .before .before .args .job .now) .sheet .L + 1) (setWords (content (c .before .before .before .before .before .before .before .before .before .before .before .before .args .job .now) .sheet)) (c .before .before .before .before .before .before .before .before .loop .u) (c .before .before .before .before .before .before .set-start .result) (c .before .before .before .before .before .before .before .before .before .before .before .before .args .plan .words) (getD (c .before .before .before .before .before .before .before .before .before .before .before .before .args .plan .copies) (c .before .before .before .before .before .before .before .before .loop .u) 0) (c .before .before .before .before .before .before .before .before .loop .work) (c .before .before .before .before .fill .last .1 .1 .1 .1 .0) (c .has-members .result) (c .before .before .before .before .before .before .set-start .ensures .place) (c .before .before .before .before .before .before .before .before .before .before .before .before .pre .0 .0 .2 .words) (spans-all _ _)
+    kind-made (planned (c .before .before .before .before .before .before .before .before .before .before .before .before .args .job .now) (c .before .before .before .before .before .before .before .before .before .before .before .before .args .plan)) (replicate 12 0) 0 (c .before .before .before .before .before .before .before .before .before .before .before .before .args .bound) (setWords (content (c .before .before .before .before .before .before .before .before .before .before .before .before .args .job .now) .sheet)) (c .before .before .before .before .before .before .before .before .loop .u) (c .before .before .before .before .before .before .set-start .result) (c .before .before .before .before .before .before .before .before .before .before .before .before .args .plan .words) (getD (c .before .before .before .before .before .before .before .before .before .before .before .before .args .plan .copies) (c .before .before .before .before .before .before .before .before .loop .u) 0) (c .before .before .before .before .before .before .before .before .loop .work) (c .before .before .before .before .fill .last .1 .1 .1 .1 .1 .0) (c .has-members .result) (c .before .before .before .before .before .before .set-start .ensures .place) (c .before .before .before .before .before .before .before .before .before .before .before .before .pre .0 .0 .2 .words) (spans-all _ _)
     (told (c .before .before .before .before .before .before .before))
-    (made-first (planned (c .before .before .before .before .before .before .before .before .before .before .before .before .args .job .now) (c .before .before .before .before .before .before .before .before .before .before .before .before .args .plan)) (replicate 12 0) (c .before .before .before .before .before .before .before .before .loop .u) (c .before .before .before .before .before .before .set-start .result) (c .before .before .before .before .before .before .before .before .before .before .before .before .args .plan .words) (c .before .before .before .before .before .before .before .before .loop .work) (c .before .before .before .before .fill .last .1 .1 .1 .1 .0) (c .before .before .before .before .before .before .set-start .ensures .place) (c .before .before .before .before .before .before .before .before .before .before .before .before .pre .0 .0 .2 .words) (some-piece (c .before .before .before .before .before .before .before .before .before .before .before .before)) (kind (c .before .before .before .before .before .before .before)) (candidates-alike c))
+    (made-first (planned (c .before .before .before .before .before .before .before .before .before .before .before .before .args .job .now) (c .before .before .before .before .before .before .before .before .before .before .before .before .args .plan)) (replicate 12 0) (c .before .before .before .before .before .before .before .before .before .before .before .before .args .bound) (c .before .before .before .before .before .before .before .before .loop .u) (c .before .before .before .before .before .before .set-start .result) (c .before .before .before .before .before .before .before .before .before .before .before .before .args .plan .words) (c .before .before .before .before .before .before .before .before .loop .work) (c .before .before .before .before .fill .last .1 .1 .1 .1 .1 .0) (c .before .before .before .before .before .before .set-start .ensures .place) (c .before .before .before .before .before .before .before .before .before .before .before .before .pre .0 .0 .2 .words) (some-piece (c .before .before .before .before .before .before .before .before .before .before .before .before)) (kind (c .before .before .before .before .before .before .before)) (members-alike c))
     (c .has-members .ensures)
 
 same-length : tie.Need-same-length Inv-loop μ-loop
@@ -114,7 +115,7 @@ same-length-2 c = c .before .loop .inv .1
 returns-2 : tie.Need-returns-2 Inv-loop μ-loop
 returns-2 c =
     let e : c .before .loop .u ≡ kindCount (content (c .before .before .before .before .before .args .job .now) .kinds) = omega (arith, c .before .loop .inv .0) in
-    settled-all _ _ _ _ _ _ _ (subst (λ (k : ℕ). Settling (planned (c .before .before .before .before .before .args .job .now) (c .before .before .before .before .before .args .plan)) (replicate 12 0) 0 (content (c .before .before .before .before .before .args .job .now) .sheet .L + 1) (setWords (content (c .before .before .before .before .before .args .job .now) .sheet)) k (c .before .before .before .before .before .args .work .now) (c .before .loop .work)) e (c .before .loop .inv .2))
+    settled-all _ _ _ _ _ _ _ (subst (λ (k : ℕ). Settling (planned (c .before .before .before .before .before .args .job .now) (c .before .before .before .before .before .args .plan)) (replicate 12 0) 0 (c .before .before .before .before .before .args .bound) (setWords (content (c .before .before .before .before .before .args .job .now) .sheet)) k (c .before .before .before .before .before .args .work .now) (c .before .loop .work)) e (c .before .loop .inv .2))
 
 pub settle-first-spec : {M : Type 1} → statement M
 settle-first-spec =

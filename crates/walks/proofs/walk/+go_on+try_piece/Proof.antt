@@ -68,10 +68,10 @@ few-kinds : (t : ℕ) (c : go-on-lts.Start (record-layout-reads.Asked, record-la
 few-kinds t c = accepted-kinds (c .args .job .now) (c .pre .1 .0 .plan .accepted) .few-kinds
 
 go-on-record-layout-requires : (t : ℕ) → go-on-lts.Need-record-layout-requires (record-layout-reads.Asked, record-layout-reads.Learnt, lower-reads.Asked, lower-reads.Learnt, complete-reads.Asked, complete-reads.Learnt, settle-reads.Asked, settle-reads.Learnt, try-piece-below t, try-piece.Post) (go-on-at t) go-on.Post
-go-on-record-layout-requires t c κs = (c .before .before .before .before .before .before .before .pre .1 .0 .plan, record-ready _ _ _ _ _ _ _ (c .before .before .before .before .before .before .before .pre .1 .1 .0) (c .before .before .before .before .before .before .before .pre .1 .1 .1 .below) (few-dots t (c .before .before .before .before .before .before .before)) (few-kinds t (c .before .before .before .before .before .before .before)) (c .before .if1 .taken ∙ c .before .before .before .before .before .before .before .pre .1 .0 .plan .pieces))
+go-on-record-layout-requires t c κs = (c .before .before .before .before .before .before .before .pre .1 .0 .plan, record-ready _ _ _ _ _ _ _ (c .before .before .before .before .before .before .before .pre .1 .1 .0) (λ h. c .before .before .before .before .before .before .before .pre .1 .1 .1 .below) (few-dots t (c .before .before .before .before .before .before .before)) (few-kinds t (c .before .before .before .before .before .before .before)) (c .before .if1 .taken ∙ c .before .before .before .before .before .before .before .pre .1 .0 .plan .pieces))
 
 go-on-lower-requires : (t : ℕ) → go-on-lts.Need-lower-requires (record-layout-reads.Asked, record-layout-reads.Learnt, lower-reads.Asked, lower-reads.Learnt, complete-reads.Asked, complete-reads.Learnt, settle-reads.Asked, settle-reads.Learnt, try-piece-below t, try-piece.Post) (go-on-at t) go-on.Post
-go-on-lower-requires t c κs = ((c .before .before .before .before .before .before .before .before .before .before .before .pre .1 .0 .plan, c .before .before .before .before .before .before .before .before .before .before .before .pre .1 .1 .0 .spans .within), (c .before .before .before .before .before .before .before .before .before .before .before .pre .1 .1 .0 .work-fits, lower-ready _ _ _ _ _ _ _ (c .before .before .before .before .before .before .before .before .before .before .before .pre .1 .1 .0) (c .before .before .before .before .before .before .before .before .before .before .before .pre .1 .1 .1 .below) (c .before .before .before .before .before .if1 .taken ∙ c .before .before .before .before .before .before .before .before .before .before .before .pre .1 .0 .plan .pieces)))
+go-on-lower-requires t c κs = ((c .before .before .before .before .before .before .before .before .before .before .before .pre .1 .0 .plan, c .before .before .before .before .before .before .before .before .before .before .before .pre .1 .1 .0 .spans .within), (c .before .before .before .before .before .before .before .before .before .before .before .pre .1 .1 .0 .work-fits, lower-ready _ _ _ _ _ _ _ (c .before .before .before .before .before .before .before .before .before .before .before .pre .1 .1 .0) (λ h. c .before .before .before .before .before .before .before .before .before .before .before .pre .1 .1 .1 .below) (c .before .before .before .before .before .if1 .taken ∙ c .before .before .before .before .before .before .before .before .before .before .before .pre .1 .0 .plan .pieces)))
 
 go-on-complete-requires : (t : ℕ) → go-on-lts.Need-complete-requires (record-layout-reads.Asked, record-layout-reads.Learnt, lower-reads.Asked, lower-reads.Learnt, complete-reads.Asked, complete-reads.Learnt, settle-reads.Asked, settle-reads.Learnt, try-piece-below t, try-piece.Post) (go-on-at t) go-on.Post
 go-on-complete-requires t c κs = search needs
@@ -83,17 +83,17 @@ go-on-same-length-2 : (t : ℕ) → go-on-lts.Need-same-length-2 (record-layout-
 go-on-same-length-2 t c = c .before .before .before .before .before .before .before .record-layout .kept .1 .1 .1 .0
 
 go-on-returns : (t : ℕ) → go-on-lts.Need-returns (record-layout-reads.Asked, record-layout-reads.Learnt, lower-reads.Asked, lower-reads.Learnt, complete-reads.Asked, complete-reads.Learnt, settle-reads.Asked, settle-reads.Learnt, try-piece-below t, try-piece.Post) (go-on-at t) go-on.Post
-go-on-returns t c = go-last _ _ _ _ _ _ _ (c .before .before .before .before .before .before .before .before .before .before .before .before .before .before .before .pre .1 .1 .0) (c .before .before .before .before .before .before .before .before .before .before .before .before .before .before .before .pre .1 .1 .1 .below) _ _ (c .before .before .before .lower .result) (c .complete .result) (c .complete .ensures) (few-dots t (c .before .before .before .before .before .before .before .before .before .before .before .before .before .before .before)) (few-kinds t (c .before .before .before .before .before .before .before .before .before .before .before .before .before .before .before)) (demanded (c .before .before .before .before .before .before .before .before .before .before .before .before .before .before .before .args .job .now) (c .before .before .before .before .before .before .before .before .before .before .before .before .before .before .before .pre .1 .0 .plan .accepted)) (c .before .before .before .before .before .before .before .before .before .before .before .before .before .before .before .pre .1 .1 .1 .some) (c .before .before .before .before .before .before .before .before .before .if1 .taken ∙ c .before .before .before .before .before .before .before .before .before .before .before .before .before .before .before .pre .1 .0 .plan .pieces) (c .before .before .before .before .before .before .before .record-layout .ensures) (c .before .before .before .lower .ensures)
+go-on-returns t c = go-last _ _ _ _ _ _ _ (c .before .before .before .before .before .before .before .before .before .before .before .before .before .before .before .pre .1 .1 .0) (λ h. c .before .before .before .before .before .before .before .before .before .before .before .before .before .before .before .pre .1 .1 .1 .below) _ _ (c .before .before .before .lower .result) (c .complete .result) (c .complete .ensures) (few-dots t (c .before .before .before .before .before .before .before .before .before .before .before .before .before .before .before)) (few-kinds t (c .before .before .before .before .before .before .before .before .before .before .before .before .before .before .before)) (demanded (c .before .before .before .before .before .before .before .before .before .before .before .before .before .before .before .args .job .now) (c .before .before .before .before .before .before .before .before .before .before .before .before .before .before .before .pre .1 .0 .plan .accepted)) (c .before .before .before .before .before .before .before .before .before .before .before .before .before .before .before .pre .1 .1 .1 .some) (c .before .before .before .before .before .before .before .before .before .if1 .taken ∙ c .before .before .before .before .before .before .before .before .before .before .before .before .before .before .before .pre .1 .0 .plan .pieces) (c .before .before .before .before .before .before .before .record-layout .ensures) (c .before .before .before .lower .ensures)
 
 -- A piece is left.
 unplaced : (t : ℕ) (c : go-on-lts.Else1 (record-layout-reads.Asked, record-layout-reads.Learnt, lower-reads.Asked, lower-reads.Learnt, complete-reads.Asked, complete-reads.Learnt, settle-reads.Asked, settle-reads.Learnt, try-piece-below t, try-piece.Post) (go-on-at t) go-on.Post) → c .before .before .before .before .before .before .args .level < pieceCount (content (c .before .before .before .before .before .before .args .job .now) .kinds)
 unplaced t c = unfinished (c .before .before .before .before .before .before .args .level) _ _ (c .before .before .before .before .before .before .pre .1 .1 .1 .within) (c .before .before .before .before .before .before .pre .1 .0 .plan .pieces) (c .if1 .left)
 
 go-on-settle-requires : (t : ℕ) → go-on-lts.Need-settle-requires (record-layout-reads.Asked, record-layout-reads.Learnt, lower-reads.Asked, lower-reads.Learnt, complete-reads.Asked, complete-reads.Learnt, settle-reads.Asked, settle-reads.Learnt, try-piece-below t, try-piece.Post) (go-on-at t) go-on.Post
-go-on-settle-requires t c κs = (c .before .before .before .before .before .before .before .pre .1 .0, settle-ready _ _ _ _ _ _ _ (c .before .before .before .before .before .before .before .pre .1 .1 .0) (c .before .before .before .before .before .before .before .pre .1 .1 .1 .below) (unplaced t (c .before)) (c .before .before .before .before .before .before .before .pre .1 .1 .1))
+go-on-settle-requires t c κs = (c .before .before .before .before .before .before .before .pre .1 .0, settle-ready _ _ _ _ _ _ _ (c .before .before .before .before .before .before .before .pre .1 .1 .0) (λ h. c .before .before .before .before .before .before .before .pre .1 .1 .1 .below) (unplaced t (c .before)) (c .before .before .before .before .before .before .before .pre .1 .1 .1))
 
 go-on-try-piece-requires : (t : ℕ) → go-on-lts.Need-try-piece-requires (record-layout-reads.Asked, record-layout-reads.Learnt, lower-reads.Asked, lower-reads.Learnt, complete-reads.Asked, complete-reads.Learnt, settle-reads.Asked, settle-reads.Learnt, try-piece-below t, try-piece.Post) (go-on-at t) go-on.Post
-go-on-try-piece-requires t c κs = (omega (arith, c .before .before .before .before .before .before .before .before .before .before .before .before .before .pre .0), ((c .before .before .before .before .before .before .before .before .before .before .before .before .before .pre .1 .0, unplaced t (c .before .before .before .before .before .before .before)), deep-ready _ _ _ _ _ _ _ (c .before .before .before .before .before .before .before .before .before .before .before .before .before .pre .1 .1 .0) (c .before .before .before .before .before .before .before .before .before .before .before .before .before .pre .1 .1 .1 .below) _ (c .before .before .before .before .before .settle .result) (c .before .before .if2 .taken) (c .before .before .before .before .before .settle .ensures) (c .before .before .before .before .before .settle .kept .1 .1 .1 .1 .1 .1 .1 .1 .0)))
+go-on-try-piece-requires t c κs = (omega (arith, c .before .before .before .before .before .before .before .before .before .before .before .before .before .pre .0), ((c .before .before .before .before .before .before .before .before .before .before .before .before .before .pre .1 .0, unplaced t (c .before .before .before .before .before .before .before)), deep-ready _ _ _ _ _ _ _ (c .before .before .before .before .before .before .before .before .before .before .before .before .before .pre .1 .1 .0) (λ h. c .before .before .before .before .before .before .before .before .before .before .before .before .before .pre .1 .1 .1 .below) _ (c .before .before .before .before .before .settle .result) (c .before .before .if2 .taken) (c .before .before .before .before .before .settle .ensures) (c .before .before .before .before .before .settle .kept .1 .1 .1 .1 .1 .1 .1 .1 .0)))
 
 go-on-same-length-3 : (t : ℕ) → go-on-lts.Need-same-length-3 (record-layout-reads.Asked, record-layout-reads.Learnt, lower-reads.Asked, lower-reads.Learnt, complete-reads.Asked, complete-reads.Learnt, settle-reads.Asked, settle-reads.Learnt, try-piece-below t, try-piece.Post) (go-on-at t) go-on.Post
 go-on-same-length-3 t c = c .before .before .before .before .try-piece .kept .1 .1 .1 .1 .1 .0 ∙ c .before .before .before .before .before .before .before .before .before .before .settle .kept .1 .1 .1 .1 .1 .1 .1 .1 .0
@@ -102,13 +102,13 @@ go-on-same-length-4 : (t : ℕ) → go-on-lts.Need-same-length-4 (record-layout-
 go-on-same-length-4 t c = c .before .before .before .before .try-piece .kept .1 .1 .1 .1 .1 .1 .0
 
 go-on-returns-2 : (t : ℕ) → go-on-lts.Need-returns-2 (record-layout-reads.Asked, record-layout-reads.Learnt, lower-reads.Asked, lower-reads.Learnt, complete-reads.Asked, complete-reads.Learnt, settle-reads.Asked, settle-reads.Learnt, try-piece-below t, try-piece.Post) (go-on-at t) go-on.Post
-go-on-returns-2 t c = go-deep _ _ _ _ _ _ _ (c .before .before .before .before .before .before .before .before .before .before .before .before .before .before .before .before .before .before .pre .1 .1 .0) (c .before .before .before .before .before .before .before .before .before .before .before .before .before .before .before .before .before .before .pre .1 .1 .1 .below) _ _ _ (c .before .before .before .before .try-piece .result) (c .before .before .before .before .before .before .before .before .before .before .settle .result) (unplaced t (c .before .before .before .before .before .before .before .before .before .before .before .before)) (c .before .before .before .before .before .before .before .if2 .taken) (c .before .before .before .before .before .before .before .before .before .before .settle .ensures) (c .before .before .before .before .try-piece .ensures)
+go-on-returns-2 t c = go-deep _ _ _ _ _ _ _ (c .before .before .before .before .before .before .before .before .before .before .before .before .before .before .before .before .before .before .pre .1 .1 .0) (λ h. c .before .before .before .before .before .before .before .before .before .before .before .before .before .before .before .before .before .before .pre .1 .1 .1 .below) _ _ _ (c .before .before .before .before .try-piece .result) (c .before .before .before .before .before .before .before .before .before .before .settle .result) (unplaced t (c .before .before .before .before .before .before .before .before .before .before .before .before)) (c .before .before .before .before .before .before .before .if2 .taken) (c .before .before .before .before .before .before .before .before .before .before .settle .ensures) (c .before .before .before .before .try-piece .ensures)
 
 go-on-same-length-5 : (t : ℕ) → go-on-lts.Need-same-length-5 (record-layout-reads.Asked, record-layout-reads.Learnt, lower-reads.Asked, lower-reads.Learnt, complete-reads.Asked, complete-reads.Learnt, settle-reads.Asked, settle-reads.Learnt, try-piece-below t, try-piece.Post) (go-on-at t) go-on.Post
 go-on-same-length-5 t c = c .before .before .before .settle .kept .1 .1 .1 .1 .1 .1 .1 .1 .0
 
 go-on-returns-3 : (t : ℕ) → go-on-lts.Need-returns-3 (record-layout-reads.Asked, record-layout-reads.Learnt, lower-reads.Asked, lower-reads.Learnt, complete-reads.Asked, complete-reads.Learnt, settle-reads.Asked, settle-reads.Learnt, try-piece-below t, try-piece.Post) (go-on-at t) go-on.Post
-go-on-returns-3 t c = go-back _ _ _ _ _ _ _ (c .before .before .before .before .before .before .before .before .before .before .before .pre .1 .1 .0) (c .before .before .before .before .before .before .before .before .before .before .before .pre .1 .1 .1 .below) _ (c .before .before .before .settle .result) (unplaced t (c .before .before .before .before .before)) (c .if2 .left) (c .before .before .before .settle .ensures)
+go-on-returns-3 t c = go-back _ _ _ _ _ _ _ (c .before .before .before .before .before .before .before .before .before .before .before .pre .1 .1 .0) (λ h. c .before .before .before .before .before .before .before .before .before .before .before .pre .1 .1 .1 .below) _ (c .before .before .before .settle .result) (unplaced t (c .before .before .before .before .before)) (c .if2 .left) (c .before .before .before .settle .ensures)
 
 -- ---- The loop of a piece
 

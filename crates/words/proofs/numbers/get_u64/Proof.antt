@@ -1,20 +1,9 @@
 -- `words::numbers::get_u64` meets its contract.
 use Rattle.words.proofs.numbers.get_u64.Statement.{statement}
 use Rattle.words.proofs.numbers.get_u64.Tie as tie
-use mathlib.Core.Path.{_≡_, sym}
-use mathlib.Core.List.{List}
-use Prim.Native.Nat.{ℕ, _+_, _*_}
+use mathlib.Core.Path.{sym}
 use native.Mathlib.Omega.{arith}
-use Rattle.words.specs.Number.{numberAt}
-use Rattle.words.proofs.Place.{numberAt-add}
-
--- A number of eight bytes, two bytes at a time.
-four-parts : (s : List ℕ) (i : ℕ)
-    → numberAt 8 s i ≡ numberAt 2 s i + 65536 * (numberAt 2 s (i + 2) + 65536 * (numberAt 2 s (i + 4) + 65536 * numberAt 2 s (i + 6)))
-four-parts s i =
-    let third : i + 2 + 2 ≡ i + 4 = omega arith in
-    let fourth : i + 4 + 2 ≡ i + 6 = omega arith in
-    rw (numberAt-add 2 6 s i, numberAt-add 2 4 s (i + 2), third, numberAt-add 2 2 s (i + 4), fourth)
+use Rattle.words.proofs.Place.{numberAt-four}
 
 get-u16-requires : tie.Need-get-u16-requires
 get-u16-requires c κs = omega arith
@@ -48,7 +37,7 @@ returns c =
     let first = second .before in
     let start = first .before .before in
     rw (c .joined .ensures, first .get-u16 .ensures, second .get-u162 .ensures, third .get-u163 .ensures, fourth .get-u164 .ensures)
-    (sym (four-parts (start .args .s .now) (start .args .i)))
+    (sym (numberAt-four (start .args .s .now) (start .args .i)))
 
 pub get-u64-spec : {M : Type 1} → statement M
 get-u64-spec =
