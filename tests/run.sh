@@ -152,7 +152,7 @@ nothing_kept() { # JOB PRINTED
 }
 
 # A job whose run holds a layout: its bytes are kept, eight for each entry. A run begun from them holds a layout too; after
-# a run that ended it is the same, and steps alone may differ.
+# a run that ended it is the same, and steps alone may differ; after one that stopped it is no longer.
 good_when_kept() { # JOB PRINTED
     rm -f "$build/kept" "$build/again"
     says "$2" --keep "$build/kept" "$1" || return 1
@@ -160,12 +160,16 @@ good_when_kept() { # JOB PRINTED
     "$build/nest" --from "$build/kept" --keep "$build/again" "$1" >"$build/begun" || return 1
     case $2 in
     shortest*) cmp "$build/again" "$build/kept" && [ "$(steps_left_out <"$build/begun")" = "$(echo "$2" | steps_left_out)" ] ;;
-    *) [ "$(wc -c <"$build/again")" -eq "$(wc -c <"$build/kept")" ] ;;
+    *) [ "$(wc -c <"$build/again")" -eq "$(wc -c <"$build/kept")" ] && [ "$(length_told <"$build/begun")" -le "$(echo "$2" | length_told)" ] ;;
     esac
 }
 
 steps_left_out() {
     sed '1s/ [0-9]*$//'
+}
+
+length_told() {
+    sed -n '1s/^[a-z]* \([0-9]*\) .*/\1/p'
 }
 
 # Every job of jobs/, by what is expected of its run.

@@ -1,4 +1,4 @@
--- The live sets once the bound falls.
+-- The live sets at a bound that leaves some of their members out.
 use mathlib.Core.Bool.{Bool, true, _&&_}
 use mathlib.Core.List.{List}
 use mathlib.Core.Logic.{_⊎_}

@@ -1,4 +1,4 @@
-// Bounding: what a new best takes from the live sets.
+// Bounding: what a bound takes from the live sets, at the beginning and at a new best.
 pub mod lowering;
 pub mod shrinking;
-mod trimming;
+pub mod trimming;

@@ -36,7 +36,7 @@ fn trim_word(job: &[u8], plan: Plan, u: usize, first: usize, w: u64, bound: usiz
 }
 
 // The set of so many words at word `at`: its members that end below the bound.
-fn trim_set(
+pub fn trim_set(
     job: &[u8],
     plan: Plan,
     u: usize,

@@ -15,7 +15,7 @@ use Rattle.model.specs.Problem.{Problem, under}
 use Rattle.model.specs.Search.{isStopped, held}
 use Rattle.model.specs.Layout.{Layout}
 use Rattle.model.specs.Saving.{written}
-use Rattle.model.specs.Services.{WriteOutcome, writeOutcome, withNumbers, contentNumbers, readContent, read, withBytes, saveContent, save, refusalUnder, cause12, rowContent, conflictRow, wordsIn, numbersIn, workWords, cleared, withLayout, heldAs, finishedAs, givenLayout, givenUnfit, verdict, stepCount, RunOutcome, runOutcome, walked, runFrom, runContent, run}
+use Rattle.model.specs.Services.{WriteOutcome, writeOutcome, withNumbers, contentNumbers, readContent, read, withBytes, saveContent, save, refusalUnder, cause12, rowContent, conflictRow, wordsIn, numbersIn, workWords, withLayout, heldAs, finishedAs, givenLayout, givenUnfit, verdict, stepCount, RunOutcome, runOutcome, walked, runFrom, runContent, run}
 use Rattle.model.specs.declared.Held.the-variants as HV
 use Rattle.model.specs.declared.RunAnswer.{RunAnswer}
 use Rattle.model.specs.declared.RunAnswer.the-variants as R

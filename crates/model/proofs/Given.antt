@@ -2,11 +2,11 @@
 use mathlib.Core.Bool.{Bool, true, false, cond}
 use mathlib.Core.List.{List, [], _∷_}
 use mathlib.Core.Option.{none, some}
-use mathlib.Core.Path.{_≡_, refl, sym, ap, _∙_}
+use mathlib.Core.Path.{_≡_, refl}
 use Prim.Native.Nat.{ℕ}
 use lib.Dec.{eqb}
 use Rattle.model.specs.Format.{content}
-use Rattle.model.specs.Problem.{Problem, under}
+use Rattle.model.specs.Problem.{under}
 use Rattle.model.specs.Services.{RunOutcome, runOutcome, refusalUnder, cause11, checkContent, check, layoutIn, givenLayout, givenUnfit, runFrom, runContent, run}
 use Rattle.model.specs.declared.Checked.{Checked}
 use Rattle.model.specs.declared.Checked.the-variants as C

@@ -2,11 +2,11 @@
 use mathlib.Core.Bool.{Bool, true, false, cond}
 use mathlib.Core.List.{List, [], _++_}
 use mathlib.Core.Option.{Option, none, some}
-use mathlib.Core.Path.{_≡_, refl, sym, ap, _∙_}
-use Prim.Native.Nat.{ℕ, _*_, _/_, _≤_}
+use mathlib.Core.Path.{_≡_, refl, ap}
+use Prim.Native.Nat.{ℕ, _*_}
 use native.Mathlib.Omega.{arith}
 use lib.Dec.{eqb}
-use lib.ListN.{length, replicate, length-replicate}
+use lib.ListN.{replicate, length-replicate}
 use Rattle.words.specs.Number.{count}
 use Rattle.model.specs.Content.{pieceCount}
 use Rattle.model.specs.Demand3.{Fit}
@@ -15,7 +15,7 @@ use Rattle.model.specs.Layout.{Layout}
 use Rattle.model.specs.Output.{firstLine, heldLines, layoutLines, printed, program}
 use Rattle.model.specs.Problem.{under}
 use Rattle.model.specs.Search.{isStopped, held}
-use Rattle.model.specs.Services.{numbersIn, wordsIn, workWords, cleared, layoutIn, withLayout, heldAs, finishedAs, givenLayout, givenUnfit, stepCount, verdict, run}
+use Rattle.model.specs.Services.{numbersIn, wordsIn, workWords, layoutIn, withLayout, heldAs, finishedAs, givenLayout, givenUnfit, stepCount, verdict, run}
 use Rattle.model.specs.declared.RunAnswer.the-variants as R
 use Rattle.model.proofs.Accepted.{accepted-sensible}
 use Rattle.model.proofs.Margin.{refusal-under-0}

@@ -512,7 +512,7 @@ carriedRuns =
     ∷ (carries (bytesOf 2 (0 ∷ 1 ∷ 0 ∷ 0 ∷ 0 ∷ 3 ∷ 0 ∷ 0 ∷ [])) (squares 2 6) 0 ⇒ says (Stopped (Layout 5) 0) true (0 ∷ 1 ∷ 0 ∷ 0 ∷ 0 ∷ 3 ∷ 0 ∷ 0 ∷ []))
     ∷ []
 
--- The same of two squares.
+-- "and otherwise the given layout", of two squares.
 unfoldable pub carriedKept : List Marked
 carriedKept =
     -- W 5, L 2: the rows 0 and 2, 0 and 3, and 1 and 3 are as short as each other. From the last of them nothing is live, and it stands, though the others come before it.
@@ -535,7 +535,7 @@ carriedClamped =
     ∷ (clamped 64 (carries (0 ∷ []) (squares 4 7) 0) ⇒ says (Refused 13) false untouched)
     ∷ []
 
--- The same of two squares: they overlap; they are out of order; "an incomplete last one does not count".
+-- "refused by 11 if it does not pass", of two squares: they overlap; they are out of order. With one byte behind it a layout passes: "an incomplete last one does not count".
 unfoldable pub carriedRefusals : List Marked
 carriedRefusals =
     (carries (bytesOf 2 (0 ∷ 0 ∷ 0 ∷ 0 ∷ 0 ∷ 1 ∷ 0 ∷ 0 ∷ [])) (squares 2 6) 0 ⇒ says (Refused 11) false untouched)

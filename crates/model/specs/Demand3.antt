@@ -1,10 +1,10 @@
 -- The third demand, sentence by sentence, as one record over a problem, the layout that a run is given to begin from, if it is given one, a budget and what
 -- the run leaves behind. The theorem `demand3` (proofs/Search/Demand3) says that what `run` leaves behind meets it, for every accepted job, every margin of 0
 -- to 63, every given layout that passes or none, every budget and long enough buffers, whatever these hold.
+use mathlib.Core.Bool.{false}
 use mathlib.Core.List.{List, List·Memᴰ}
 use mathlib.Core.Logic.{_↔_, _⊎_}
 use mathlib.Core.Option.{Option, none, some}
-use mathlib.Core.Bool.{false}
 use mathlib.Core.Path.{_≡_}
 use Prim.Native.Nat.{ℕ, _*_, _≤_, _<_, min}
 use lib.ListN.{length}

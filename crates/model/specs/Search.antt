@@ -2,12 +2,12 @@
 use mathlib.Core.Bool.{Bool, true, false, not, _&&_, cond}
 use mathlib.Core.List.{List, [], _∷_, _++_, map, reverse}
 use mathlib.Core.Option.{Option, none, some}
-use Prim.Native.Nat.{ℕ, max}
+use Prim.Native.Nat.{ℕ}
 use lib.Dec.{leb, ltb, eqb}
 use lib.ListN.{length, getD, take, replicate}
 use Rattle.model.specs.Candidate.{candidates}
 use Rattle.model.specs.Content.{Kind, kindAt, kindCount}
-use Rattle.model.specs.Layout.{Entry, Layout, entryOf, entryNumber, entryExtent, conflict, layoutLength}
+use Rattle.model.specs.Layout.{Entry, Layout, entryOf, entryNumber, conflict, layoutLength}
 use Rattle.model.specs.Lists.{all, any, countOf, concat, below}
 use Rattle.model.specs.Problem.{Problem}
 
@@ -148,6 +148,6 @@ unfoldable pub bestAfter : Option Layout → List Step → Option Layout
 bestAfter h [] = h
 bestAfter h (s ∷ ss) = bestAfter (latest h (s .completes)) ss
 
--- "The best layout of the steps taken"
+-- "The best layout of the steps taken". Document 02, 6/13: "a given layout counts with those".
 unfoldable pub held : Problem → Option Layout → ℕ → Option Layout
 held j begin budget = bestAfter begin (stepsTaken j begin budget)

@@ -1,31 +1,40 @@
--- The members of the first level's sets, as the code tests them.
-use mathlib.Core.Bool.{Bool, _&&_}
+-- The sets of the first level: filled with all candidates, and trimmed where the bound leaves some of them out.
+use mathlib.Core.Bool.{Bool, true, false, _&&_}
 use mathlib.Core.List.{List, []}
-use mathlib.Core.Path.{_≡_, sym, ap, ap₂, _∙_}
-use Prim.Native.Nat.{ℕ, _/_, _%_, _<_}
+use mathlib.Core.Path.{_≡_, refl, sym, ap, _∙_}
+use Prim.Native.Nat.{ℕ, _+_, _*_, _≤_, _<_}
 use native.Mathlib.Omega.{arith}
+use borrow.Author.Tests.{lt-ltb}
 use lib.Dec.{ltb}
-use Rattle.model.specs.Content.{kindCount}
-use Rattle.model.specs.Format.{content}
-use Rattle.model.specs.Grid.{rows, placementOf}
-use Rattle.model.specs.Layout.{entryOf, entryKind, entryExtent}
-use Rattle.job.specs.View.{problemOf, Viewed}
-use Rattle.job.specs.declared.View.{View}
-use Rattle.shapes.specs.Boxes.{BoxesOf}
-use Rattle.shapes.specs.declared.boxes.Boxes.{Boxes}
-use Rattle.candidates.specs.Placements.{offered, extentAt}
-use Rattle.candidates.proofs.PreparedLaws.{offered-is, extent-is}
+use lib.ListN.{length}
+use Rattle.words.specs.Sets.{member}
+use Rattle.model.specs.Candidate.{isCandidate}
+use Rattle.model.specs.Layout.{entryOf, entryExtent}
+use Rattle.model.specs.Problem.{Problem}
 use Rattle.stepping.specs.LiveSets.{setOf}
+use Rattle.stepping.proofs.Extents.{candidate-extent}
 use Rattle.stepping.proofs.LiveSets.{set-first}
+use Rattle.live_sets.specs.Narrowing.{Filled}
+use Rattle.bounding.specs.Trimmed.{endsBelow, Trimmable}
 
-module _ (s : List ℕ) (v : View) (b : Boxes) (x : Viewed s v) (y : BoxesOf s b) (u : ℕ) (h : u < kindCount (content s .kinds)) (bound n : ℕ) where
-  -- Where candidate n ends.
-  end-is : extentAt v b u (n / 4 / v .rows) (n % 4) ≡ entryExtent (problemOf s v) (entryOf (problemOf s v) u n)
-  unfolding entryExtent entryOf entryKind placementOf
-  end-is =
-      ap (λ r. extentAt v b u (n / 4 / r) (n % 4)) (x .view .rows)
-      ∙ extent-is s v b x y u h (n / 4 / rows (content s .sheet)) (n / 4 % rows (content s .sheet)) (n % 4) (omega arith)
+module _ (j : Problem) (bound u to words : ℕ) (work work₁ : List ℕ) (f : Filled to words (isCandidate j u) work work₁) where
+  -- A bound above L leaves every candidate in.
+  pub filled-all : j .sheet .L < bound → Filled to words (setOf j [] bound u) work work₁
+  filled-all h = record { inside = λ m l. f .inside m l ∙ sym (set-first j bound u m ∙ go m (isCandidate j u m) refl); outside = f .outside; behind = f .behind }
+    where
+      go : (m : ℕ) (c : Bool) → isCandidate j u m ≡ c → (c && ltb (entryExtent j (entryOf j u m)) bound) ≡ c
+      go m true e = lt-ltb (entryExtent j (entryOf j u m)) bound (omega (arith, candidate-extent j u m e))
+      go m false e = refl
 
-  -- A candidate that ends below the bound is a member where nothing is placed, and nothing else is.
-  pub member-is : (offered v b u n && ltb (extentAt v b u (n / 4 / v .rows) (n % 4)) bound) ≡ setOf (problemOf s v) [] bound u n
-  member-is = ap₂ (λ (a c : Bool). a && c) (offered-is s v b x y u h n) (ap (λ e. ltb e bound) end-is) ∙ sym (set-first (problemOf s v) bound u n)
+  -- The set can be trimmed: its members are candidates.
+  pub trimmable : words ≤ 64 → (to + words) * 8 ≤ length work₁ → Trimmable j u to words work₁
+  trimmable few fits = record { few = few; fits = fits; admitted = λ m l e. sym (f .inside m l) ∙ e }
+
+  -- Trimmed, it has those that end below the bound.
+  pub filled-trimmed : (work₂ : List ℕ) → Filled to words (λ m. member work₁ (to * 64 + m) && endsBelow j bound u m) work₁ work₂ → Filled to words (setOf j [] bound u) work work₂
+  filled-trimmed work₂ g =
+      record {
+        inside = λ m l. g .inside m l ∙ ap (λ (c : Bool). c && endsBelow j bound u m) (f .inside m l) ∙ sym (set-first j bound u m);
+        outside = λ m o. g .outside m o ∙ f .outside m o;
+        behind = g .behind ∙ f .behind;
+      }

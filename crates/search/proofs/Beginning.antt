@@ -1,17 +1,17 @@
 -- What the buffer of the given layout gives, by what check says of it; and the walk's beginning once the given layout stands in the answer numbers.
-use mathlib.Core.Bool.{Bool, true, false, not, cond, _||_}
+use mathlib.Core.Bool.{Bool, true, false, not, cond}
 use mathlib.Core.List.{List, [], _∷_}
-use mathlib.Core.Option.{Option, none, some, Option·some-injective, Option·some-ne-none}
-use mathlib.Core.Path.{_≡_, refl, sym, ap, _∙_, subst}
+use mathlib.Core.Option.{Option, none, some, Option·some-ne-none}
+use mathlib.Core.Path.{_≡_, refl, sym, ap, _∙_}
 use Prim.Native.Nat.{ℕ, _+_, _*_, _-_, _/_, _≤_}
 use native.Mathlib.Omega.{arith}
 use borrow.Author.Tests.{eqb-true, not-false}
 use lib.Dec.{eqb}
-use lib.ListN.{length, length-map}
+use lib.ListN.{length}
 use Rattle.words.specs.Number.{count}
 use Rattle.model.specs.Content.{pieceCount}
 use Rattle.model.specs.Format.{refusal, content}
-use Rattle.model.specs.Layout.{Layout, isEntry, ordered, demandMet, apart, passes, largestEnd, layoutLength}
+use Rattle.model.specs.Layout.{Layout, isEntry, ordered, demandMet, apart, passes, layoutLength}
 use Rattle.model.specs.Lists.{all}
 use Rattle.model.specs.Problem.{Problem, under}
 use Rattle.model.specs.Services.{numbersIn, layoutIn, withLayout, cause11, checkContent, givenLayout, givenUnfit}

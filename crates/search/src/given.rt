@@ -14,7 +14,7 @@ use model::Checked;
 use plans::recording::copy_layout;
 use shapes::boxes::Boxes;
 
-// The number by which it is refused, 0 if it is not; what an end has to stay below; whether there is a layout.
+// What the buffer of the layout gives: the number of its refusal, 0 if there is none; what an end has to stay below; whether there is a layout.
 pub struct Given {
     pub refusal: u8,
     pub bound: usize,

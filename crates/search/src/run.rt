@@ -1,4 +1,4 @@
-// The run service: a first of the shortest layouts, or the best of the steps that the budget allows.
+// The run service: the first of the shortest layouts or the given one; where the budget is spent, the best so far.
 ghost use mathlib.Core.Path.{_≡_};
 ghost use Rattle.model.specs.Services;
 ghost use Rattle.job.specs.View.{problemOf};
@@ -18,7 +18,7 @@ use shapes::boxes::boxes_of;
 use shapes::turned::turn_all;
 use words::sets;
 
-// The run of an accepted job from what the host gave it to begin with. Afterwards the needed work words are cleared.
+// The run of an accepted job from what the host gave it to begin with. Unless 8 or 9 refuses it, the needed work words are cleared afterwards.
 fn run_from(
     job: &[u8],
     view: View,

@@ -1,7 +1,7 @@
 -- The levels of the search, and the whole walk as what follows once nothing is placed.
 use mathlib.Core.Bool.{true, false, cond}
 use mathlib.Core.List.{List, [], _∷_, _++_, map, reverse, reverse-cons, map-append, List·Memᴰ, List·Memᴰ·head, List·Memᴰ·tail}
-use mathlib.Core.Option.{Option, none, some}
+use mathlib.Core.Option.{Option, some}
 use mathlib.Core.Path.{_≡_, refl, sym, ap, _∙_}
 use Prim.Native.Nat.{ℕ, zero, suc, _+_, _*_, _-_, _≤_, _<_}
 use native.Mathlib.Omega.{arith}
@@ -11,7 +11,7 @@ use lib.Seq.{drop-cons}
 use Rattle.model.specs.Content.{Kind, kindCount, pieceCount}
 use Rattle.model.specs.Grid.{numberLimit}
 use Rattle.model.specs.Layout.{Layout, entryOf, isEntry, largestEnd}
-use Rattle.model.specs.Lists.{all, countOf, largest, rising, below}
+use Rattle.model.specs.Lists.{all, countOf, rising, below}
 use Rattle.model.specs.Problem.{Problem}
 use Rattle.model.specs.Search.{pieces, completed, latest, searchFrom, stepsFrom, held, copiesLeft}
 use Rattle.model.specs.Services.{runOutcome, runFrom, verdict, wordsIn, numbersIn, workWords, cleared, withLayout}
@@ -173,6 +173,7 @@ module _ (j : Problem) where
       unfolding completed latest
       start-none = rw (pieces-next (j .kinds) 0 pieced)
 
+      -- Spending the budget on the steps of the definition is that walk.
       walk-spent : spend budget begin (stepsFrom j begin) ≡ walkSpent j begin budget
       unfolding walkSpent stepsFrom searchFrom goOn goOnSpent piecesFrom
       walk-spent = ap (λ (g : Option Layout). spend budget g (stepsFrom j begin)) (sym start-none)

@@ -126,7 +126,7 @@ module _ (j : Problem) where
 
   -- ---- Look-ahead by counting members
 
-  -- Where nothing is placed this is so, since a member ends below the bound itself.
+  -- Where nothing is placed, what is placed ends below the bound if there is a member (`Open`): 0 is no more than where the member ends.
   pub start-open : (bound : ℕ) → Open j [] bound
   unfolding largestEnd largest
   start-open bound u m e = omega (arith, ltb-true (entryExtent j (entryOf j u m)) bound (member-parts [] bound u m e .3))

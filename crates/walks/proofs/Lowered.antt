@@ -2,14 +2,12 @@
 use mathlib.Core.Bool.{Bool, true, false, _&&_}
 use mathlib.Core.List.{List, []}
 use mathlib.Core.Logic.{_⊎_, inl, inr}
-use mathlib.Core.Path.{_≡_, refl, sym, ap, _∙_}
+use mathlib.Core.Path.{_≡_, sym, ap, _∙_}
 use Prim.Native.Nat.{ℕ, suc, _+_, _*_, _/_, _%_, _≤_, _<_}
 use native.Mathlib.Nat.{suc-mul, mul-le-mul-right}
 use native.Mathlib.Omega.{arith}
 use borrow.Author.Tests.{lt-ltb}
-use lib.Dec.{ltb}
 use Rattle.words.specs.Bits.{testBit}
-use Rattle.words.specs.Number.{numberAt}
 use Rattle.words.specs.Sets.{member}
 use Rattle.words.proofs.Bit.{testBit-none}
 use Rattle.words.proofs.Cases.{le-or-lt}
@@ -26,7 +24,7 @@ use Rattle.lookahead.specs.Settled.{SetsKept}
 use Rattle.plans.proofs.PlanLaws.{candidate-kind}
 use Rattle.stepping.specs.LiveSets.{setOf, Spans}
 use Rattle.stepping.specs.Levels.{piecesFrom, placedBelow, placedOf}
-use Rattle.stepping.specs.Slots.{setStart, slotOf}
+use Rattle.stepping.specs.Slots.{setStart}
 use Rattle.stepping.proofs.LiveSets.{set-first, set-prune}
 use Rattle.stepping.proofs.PieceOrder.{copies-first}
 use Rattle.stepping.proofs.Slots.{slot-member}

@@ -4,8 +4,12 @@
 use super::*;
 use crate::reference::services::bytes_of;
 
+/// Two squares in one row, one column between them.
+const APART: &[u16] = &[0, 0, 0, 0, 0, 3, 0, 0];
+
 pub fn boards_with_a_given_layout() -> Vec<SmallBoard> {
     let mut boards = boards_in_one_row();
+    boards.push(board_in_one_row_with_a_gap());
     boards.extend(boards_with_equal_lengths());
     boards.push(board_under_a_margin());
     boards.extend(boards_made_by_squares());
@@ -23,14 +27,13 @@ fn begun_under(margin: u64, layout: &[u16], budget: u32, printed: &'static str) 
 
 /// On W 2 squares stand in one row, and what counts is their columns.
 fn boards_in_one_row() -> Vec<SmallBoard> {
-    let (apart, at_the_end) = (&[0, 0, 0, 0, 0, 3, 0, 0], &[0, 1, 0, 0, 0, 3, 0, 0]);
+    let at_the_end = &[0, 1, 0, 0, 0, 3, 0, 0];
     let touching = "shortest 4 2\n0 0 0 0\n0 2 0 0\n";
     // Below 4 there are columns 0 and 1: as many as copies. From neither is there room for a second square below 4.
     let kept = |budget| begun(TOUCHING, budget, touching);
     // Below 5 there are columns 0 to 2. From column 0 the second square has column 2, which completes length 4. Then the
     // first is tried on column 1 as well, and on no other, since it has to stay below 4.
     let shortened = |layout| begun(layout, u32::MAX, NESTED);
-    let one_row_of_gap_1 = squares_with_gap(2, 6, 1);
     vec![
         // The columns are 0 to 2, and 0 and 2 are the one layout that passes.
         board(
@@ -41,7 +44,7 @@ fn boards_in_one_row() -> Vec<SmallBoard> {
                 kept(2),
                 begun(TOUCHING, 1, "stopped 4 1\n0 0 0 0\n0 2 0 0\n"),
                 begun(TOUCHING, 0, "stopped 4 0\n0 0 0 0\n0 2 0 0\n"),
-                begun(apart, u32::MAX, "refused 11\n"),
+                begun(APART, u32::MAX, "refused 11\n"),
             ],
         ),
         // The columns are 0 to 3, and three layouts pass: 0 and 2 of length 4, 0 and 3, 1 and 3 of length 5.
@@ -50,28 +53,33 @@ fn boards_in_one_row() -> Vec<SmallBoard> {
             squares(2, 5),
             vec![
                 kept(u32::MAX),
-                shortened(apart),
+                shortened(APART),
                 shortened(at_the_end),
                 begun(at_the_end, 3, NESTED),
                 begun(at_the_end, 2, "stopped 4 2\n0 0 0 0\n0 2 0 0\n"),
                 begun(at_the_end, 1, "stopped 5 1\n0 1 0 0\n0 3 0 0\n"),
-                begun(apart, 0, "stopped 5 0\n0 0 0 0\n0 3 0 0\n"),
-            ],
-        ),
-        // The columns are 0 to 4, and three layouts pass: 0 and 3 of length 5, 0 and 4, 1 and 4 of length 6. Below 5
-        // the first square is tried on columns 0 to 2. Below 6 it is tried on column 0, completed by column 3, and then
-        // on columns 1 and 2 as well.
-        board(
-            "given, gap 1, L 6",
-            one_row_of_gap_1,
-            vec![
-                begun(apart, u32::MAX, "shortest 5 3\n0 0 0 0\n0 3 0 0\n"),
-                begun(&[0, 1, 0, 0, 0, 4, 0, 0], u32::MAX, "shortest 5 4\n0 0 0 0\n0 3 0 0\n"),
-                begun(&[0, 1, 0, 0, 0, 4, 0, 0], 1, "stopped 6 1\n0 1 0 0\n0 4 0 0\n"),
-                begun(TOUCHING, u32::MAX, "refused 11\n"),
+                begun(APART, 0, "stopped 5 0\n0 0 0 0\n0 3 0 0\n"),
             ],
         ),
     ]
+}
+
+/// The same row with a gap of 1.
+fn board_in_one_row_with_a_gap() -> SmallBoard {
+    let at_the_end = &[0, 1, 0, 0, 0, 4, 0, 0];
+    // The columns are 0 to 4, and three layouts pass: 0 and 3 of length 5, 0 and 4, 1 and 4 of length 6. Below 5 the
+    // first square is tried on columns 0 to 2. Below 6 it is tried on column 0, completed by column 3, and then on
+    // columns 1 and 2 as well.
+    board(
+        "given, gap 1, L 6",
+        squares_with_gap(2, 6, 1),
+        vec![
+            begun(APART, u32::MAX, "shortest 5 3\n0 0 0 0\n0 3 0 0\n"),
+            begun(at_the_end, u32::MAX, "shortest 5 4\n0 0 0 0\n0 3 0 0\n"),
+            begun(at_the_end, 1, "stopped 6 1\n0 1 0 0\n0 4 0 0\n"),
+            begun(TOUCHING, u32::MAX, "refused 11\n"),
+        ],
+    )
 }
 
 /// Where several layouts are as short as can be, a given one stands, though it is not the first of them.

@@ -9,7 +9,7 @@ use opponent::job::{read, Job};
 use opponent::mutant;
 use opponent::rows::{place, Board, Rows};
 use opponent::save::save;
-use opponent::walk::Walk;
+use opponent::walk::{Outcome, Walk};
 
 fn packed(number: u8, verdict: u8, count: usize, steps: u64) -> u64 {
     u64::from(number) | u64::from(verdict) << 8 | (count as u64) << 16 | steps << 32
@@ -376,8 +376,12 @@ fn run(job: &Job, margin: u64, budget: u32, layout: &[u8], work: &mut [u8], answ
         false => ["run_length_without_margin", "run_length_with_margin_twice"],
     };
     let length = out.best.map_or(0, |(length, _)| told(length, margin, mistakes));
-    let mut stopped = out.stopped;
-    let mut steps = out.steps;
+    packed_verdict(length, told_verdict(&out, stands, budget))
+}
+
+/// Whether the run stopped, its steps and whether it holds a layout, as they are told.
+fn told_verdict(out: &Outcome, stands: bool, budget: u32) -> (bool, u64, bool) {
+    let (mut stopped, mut steps) = (out.stopped, out.steps);
     if mutant::is("stopped_at_exact_budget") && steps == u64::from(budget) {
         stopped = true;
     }
@@ -387,13 +391,17 @@ fn run(job: &Job, margin: u64, budget: u32, layout: &[u8], work: &mut [u8], answ
     if mutant::is("invented_steps") && !stopped {
         steps /= 2;
     }
-    let mut held = out.best.is_some() && !(stands && given::overlooked(stopped));
+    let held = out.best.is_some() && !(stands && given::overlooked(stopped));
     if mutant::is("stopped_at_once") {
-        (stopped, steps, held) = (true, 0, false);
+        return (true, 0, false);
     }
     if mutant::is("none_to_all") {
-        (stopped, held) = (false, false);
+        return (false, steps, false);
     }
+    (stopped, steps, held)
+}
+
+fn packed_verdict(length: usize, (stopped, steps, held): (bool, u64, bool)) -> u64 {
     match (stopped, held) {
         (false, true) => packed(0, 0, length, steps),
         (false, false) => packed(10, 0, 0, steps),

@@ -33,7 +33,7 @@ module _ (j : Problem) (begin : Option Layout) (budget : ℕ) where
   unfolding stepsTaken stepsNeeded
   steps-taken = length-take budget (stepsFrom j begin) ∙ min-comm budget (length (stepsFrom j begin))
 
-  -- Where it is not stopped, it takes all its steps, and holds what the whole walk holds.
+  -- Where it is not stopped, it takes all its steps.
   pub all-taken : isStopped j begin budget ≡ false → stepsTaken j begin budget ≡ stepsFrom j begin
   unfolding stepsTaken stepsNeeded
   all-taken e = take-all budget (stepsFrom j begin) (not-stopped-exactly .0 e)
@@ -63,10 +63,12 @@ module _ (j : Problem) (ok : Sensible j) (begin : Option Layout) (budget : ℕ) 
       ))
       (held-or-completed begin (stepsTaken j begin budget))
 
-  -- What is held is what the walk began with, or a completed layout.
-  held-is : (es : Layout) → held j begin budget ≡ some es
-      → ((begin ≡ some es) × ((fs : Layout) → Completed (stepsTaken j begin budget) fs → ⊥))
-      ⊎ (Completed (stepsTaken j begin budget) es × ((fs : Layout) → Completed (stepsTaken j begin budget) fs → layoutLength j es ≤ layoutLength j fs) × Laid j es × Shorter j (layoutLength j es) begin)
+  -- The layout is the one that the walk began with, and the steps taken complete none, or it is the shortest that they complete.
+  abbrev Is : Option Layout → Layout → Type 0
+  Is h es = ((h ≡ some es) × ((fs : Layout) → Completed (stepsTaken j begin budget) fs → ⊥))
+      ⊎ (Completed (stepsTaken j begin budget) es × ((fs : Layout) → Completed (stepsTaken j begin budget) fs → layoutLength j es ≤ layoutLength j fs) × Laid j es × Shorter j (layoutLength j es) h)
+
+  held-is : (es : Layout) → held j begin budget ≡ some es → Is begin es
   held-is es e =
       ⊎-elim (λ r. inl (sym (r .0) ∙ e, r .1))
       (λ r.
@@ -82,11 +84,7 @@ module _ (j : Problem) (ok : Sensible j) (begin : Option Layout) (budget : ℕ) 
   pub held-best : (es : Layout) → held j begin budget ≡ some es → BestOf j begin (stepsTaken j begin budget) es
   held-best es e = go begin refl (held-is es e)
     where
-      Is : Option Layout → Type 0
-      Is h = ((h ≡ some es) × ((fs : Layout) → Completed (stepsTaken j begin budget) fs → ⊥))
-          ⊎ (Completed (stepsTaken j begin budget) es × ((fs : Layout) → Completed (stepsTaken j begin budget) fs → layoutLength j es ≤ layoutLength j fs) × Laid j es × Shorter j (layoutLength j es) h)
-
-      go : (h : Option Layout) → begin ≡ h → Is h → BestOf j h (stepsTaken j begin budget) es
+      go : (h : Option Layout) → begin ≡ h → Is h es → BestOf j h (stepsTaken j begin budget) es
       go none q (inl r) = absurd (Option·some-ne-none es (sym (r .0)))
       go none q (inr r) = record { counts = r .0; shortest = r .1 }
       go (some given) q (inl r) =

@@ -1,20 +1,20 @@
 -- The third demand: what `run` leaves behind meets it, for every accepted job, every margin of 0 to 63, every given layout that passes or none, every budget and
 -- long enough buffers, whatever these hold.
-use mathlib.Core.Bool.{Bool, true, false, not, cond, _||_}
+use mathlib.Core.Bool.{Bool, true, false, not, cond}
 use mathlib.Core.List.{List, [], _∷_}
-use mathlib.Core.Logic.{_⊎_, inl, inr, ⊎-elim}
-use mathlib.Core.Option.{Option, none, some, Option·some-injective, Option·some-ne-none}
+use mathlib.Core.Logic.{inl, ⊎-elim}
+use mathlib.Core.Option.{Option, none, some, Option·some-injective}
 use mathlib.Core.Path.{_≡_, refl, sym, ap, _∙_, subst}
 use Prim.Native.Nat.{ℕ, _*_, _≤_}
 use native.Mathlib.Omega.{arith}
 use borrow.Author.Tests.{le-ltb, eq-eqb, not-false}
 use lib.Dec.{eqb}
-use lib.ListN.{length, length-map}
+use lib.ListN.{length-map}
 use Rattle.model.specs.Content.{pieceCount}
-use Rattle.model.specs.Demand3.{SaysShortest, SaysStopped, SaysHeld, Completed, Counts, BestOf, SomethingShorter, StandsFirst, Fit, heldIn, Demand3}
+use Rattle.model.specs.Demand3.{SaysShortest, SaysStopped, SaysHeld, Completed, BestOf, SomethingShorter, StandsFirst, Fit, heldIn, Demand3}
 use Rattle.model.specs.Format.{refusal, content}
 use Rattle.model.specs.Grid.{columns, rows, dots}
-use Rattle.model.specs.Layout.{Entry, Layout, entryAt, entryKind, isEntry, passes, layoutLength, Passes, FirstOfShortest}
+use Rattle.model.specs.Layout.{Entry, Layout, entryAt, entryKind, isEntry, layoutLength, Passes, FirstOfShortest}
 use Rattle.model.specs.Lists.{below}
 use Rattle.model.specs.Problem.{Problem, under}
 use Rattle.model.specs.Search.{stepsFrom, stepsNeeded, isStopped, stepsTaken, bestAfter, held}
@@ -216,6 +216,11 @@ module _ (j : Problem) (given : Layout) (budget : ℕ) (r : RunOutcome) (d : Dem
   -- ".. and otherwise the given layout", whatever else is as short.
   pub finished-holds-given : SaysShortest (r .answer) → (SomethingShorter j given → ⊥) → heldIn j r ≡ given
   finished-holds-given x e = d .holds-first x .1 e
+
+-- Of a run that is given no layout: "a buffer of no bytes gives none".
+pub demand3-without : (s : List ℕ) (m budget : ℕ) (work out : List ℕ) → Fit s m [] work out → Demand3 (under m (content s)) none budget (run s m budget [] work out)
+unfolding givenLayout
+demand3-without s m budget work out fit = demand3 s m budget [] work out fit
 
 -- Without a given layout the demand is the one as it was: its sentences on the first of the shortest and on the best of the steps taken speak of the steps alone.
 -- (The others do not speak of a given layout.)

@@ -143,12 +143,7 @@ module _ (j : Problem) (ok : Sensible j) where
       shorter-lt j _ _ (bestAfter h before) (step-completes h before s after q es e .1)
       (falling-shortest j (Laid j) h before (falling-front j (Laid j) h before (s ∷ after) f) fs c)
 
-  -- The length of the best that the walk tells is that of the layout held.
-  pub best-told : (h : Option Layout) → searchFrom j (candidateTable j) (lengthOf j h) .best ≡ lengthOf j (bestAfter h (stepsFrom j h))
-  unfolding stepsFrom
-  best-told h = walk-ran h .told
-
-  -- So is every layout that the first k steps complete, and it is shorter than the best that the walk began with.
+  -- Every layout that the first k steps complete passes and has N entries, and it is shorter than the best that the walk began with.
   pub completed-laid : (h : Option Layout) (k : ℕ) (es : Layout) → Completed (take k (stepsFrom j h)) es → Laid j es × Shorter j (layoutLength j es) h
   completed-laid h k es c = falling-improves j (Laid j) h (take k (stepsFrom j h)) (falling-take j (Laid j) h k (stepsFrom j h) (walk-falls h)) es c
 
@@ -254,31 +249,12 @@ module _ (j : Problem) (ok : Sensible j) where
     none-passes h (λ ns c. ⊎-elim (λ s. absurd (not-both (forward-keeps j (candidateTable j) (lengthOf j h) (pieces (j .kinds)) [] ns c (shorter-beats j _ h s)) e)) (λ s. s) (shorter-or-not j _ h)),
   )
 
-  -- ---- With no best to begin with
-
-  -- If some layout passes, the walk completes one, and the last that it completes is the first of the shortest.
-  pub some-passes : (fs : Layout) → Passes j fs
-      → (es : Layout) × Completed (stepsFrom j none) es × (bestAfter none (stepsFrom j none) ≡ some es) × FirstOfShortest j es
-  some-passes fs p = walk-finds none fs p tt
-
-  -- If none passes, the walk completes none.
-  pub no-layout-passes : ((fs : Layout) → Passes j fs → ⊥) → (es : Layout) → Completed (stepsFrom j none) es → ⊥
-  no-layout-passes f = walk-keeps none f .1
-
-  -- ---- With a layout that passes to begin with (that it passes is not needed)
-
-  module _ (begin : Layout) where
-    -- If a shorter one passes, the walk completes one, and the last that it completes is the first of the shortest.
-    pub shorter-passes : (fs : Layout) → Passes j fs → layoutLength j fs < layoutLength j begin
-        → (es : Layout) × Completed (stepsFrom j (some begin)) es × (bestAfter (some begin) (stepsFrom j (some begin)) ≡ some es) × FirstOfShortest j es
-    shorter-passes fs q l = walk-finds (some begin) fs q l
-
-    -- Otherwise it completes none, and the one that it began with stays, which is as short as any.
-    pub none-shorter-passes : ((fs : Layout) → Passes j fs → layoutLength j fs < layoutLength j begin → ⊥)
-        → (bestAfter (some begin) (stepsFrom j (some begin)) ≡ some begin)
-        × ((es : Layout) → Completed (stepsFrom j (some begin)) es → ⊥)
-        × ((fs : Layout) → Passes j fs → layoutLength j begin ≤ layoutLength j fs)
-    none-shorter-passes f =
-        let l : (fs : Layout) → Passes j fs → layoutLength j begin ≤ layoutLength j fs =
-        λ fs q. ⊎-elim (λ s. absurd (f fs q s)) (λ s. s) (shorter-or-not j (layoutLength j fs) (some begin)) in
-        (walk-keeps (some begin) l .0, walk-keeps (some begin) l .1, l)
+  -- If no layout that passes is shorter than the one that the walk begins with, it completes none, and that one stays, which is as short as any.
+  pub none-shorter-passes : (begin : Layout) → ((fs : Layout) → Passes j fs → layoutLength j fs < layoutLength j begin → ⊥)
+      → (bestAfter (some begin) (stepsFrom j (some begin)) ≡ some begin)
+      × ((es : Layout) → Completed (stepsFrom j (some begin)) es → ⊥)
+      × ((fs : Layout) → Passes j fs → layoutLength j begin ≤ layoutLength j fs)
+  none-shorter-passes begin f =
+      let l : (fs : Layout) → Passes j fs → layoutLength j begin ≤ layoutLength j fs =
+      λ fs q. ⊎-elim (λ s. absurd (f fs q s)) (λ s. s) (shorter-or-not j (layoutLength j fs) (some begin)) in
+      (walk-keeps (some begin) l .0, walk-keeps (some begin) l .1, l)

@@ -20,7 +20,8 @@ impl Harness<'_> {
         let shortest = walked.best.as_ref().map(|best| board.length(best) as u16);
         let mut budget = self.noise.below(walked.steps as usize / 2 + 1) as u64;
         let mut given = None;
-        // From a layout the walk needs no more steps than from none.
+        // That the walk from a layout needs no more steps than the one from none is nowhere promised. If it did, the last
+        // run would stop, and be told.
         while budget < walked.steps {
             let (answer, held) = self.run_on(case, board, given.as_deref(), budget as u32);
             match answer.verdict {

@@ -1,14 +1,12 @@
 -- `plans::recording::copy_layout` meets its contract. The invariant: the entries passed are copied.
-use mathlib.Core.List.{map}
 use mathlib.Core.Path.{_≡_, refl, sym, ap, _∙_}
-use Prim.Native.Nat.{ℕ, _+_, _*_, _-_, _≤_, _<_}
+use Prim.Native.Nat.{ℕ, _*_, _-_, _≤_}
 use native.Mathlib.Omega.{arith}
 use lib.ListN.{length}
 use Rattle.words.specs.Bytes.{AreBytes}
 use Rattle.words.specs.Number.{withNumber}
 use Rattle.model.specs.Services.{entryIn, withLayout}
 use Rattle.plans.proofs.Writing.{written, written-none, entry-copied}
-use borrow.Author.Needs.{needs}
 use Rattle.plans.proofs.recording.copy_layout.Statement.{statement}
 use Rattle.plans.proofs.recording.copy_layout.Tie as tie
 

@@ -1,11 +1,10 @@
 -- `root::beginning::fill` meets its contract. The invariant: the words passed are made, and nothing else changed.
-use mathlib.Core.List.{[]}
 use mathlib.Core.Path.{_≡_, refl}
 use Prim.Native.Nat.{_+_, _-_, _*_, _^_, _≤_, _<_}
 use native.Mathlib.Omega.{arith}
 use lib.ListN.{length}
+use Rattle.model.specs.Candidate.{isCandidate}
 use Rattle.job.specs.View.{problemOf}
-use Rattle.stepping.specs.LiveSets.{setOf}
 use Rattle.live_sets.specs.Narrowing.{Filled}
 use Rattle.live_sets.proofs.Filling.{filled-begin, filled-next, bits-where}
 use borrow.Author.Needs.{needs}
@@ -13,14 +12,14 @@ use Rattle.root.proofs.beginning.fill.Statement.{statement}
 use Rattle.root.proofs.beginning.fill.Tie as tie
 
 abbrev Inv-loop : tie.InvT-loop
-Inv-loop job view boxes u bound work₀ to words k₀ work k =
-    (k ≤ words) × ((length work ≡ length work₀) × ((to + words) * 8 < 2 ^ 64)) × Filled to k (setOf (problemOf job view) [] bound u) work₀ work
+Inv-loop job view boxes u work₀ to words k₀ work k =
+    (k ≤ words) × ((length work ≡ length work₀) × ((to + words) * 8 < 2 ^ 64)) × Filled to k (isCandidate (problemOf job view) u) work₀ work
 
 abbrev μ-loop : tie.MeasureT-loop
-μ-loop job view boxes u bound work₀ to words k₀ work k = words - k
+μ-loop job view boxes u work₀ to words k₀ work k = words - k
 
 loop-holds : tie.Need-loop-holds Inv-loop μ-loop
-loop-holds c = (omega arith, (refl, omega (arith, c .before .before .pre .1 .fits, c .before .before .good .1 .1 .1 .1 .1 .0 .0)), filled-begin _ _ _)
+loop-holds c = (omega arith, (refl, omega (arith, c .before .before .pre .1 .fits, c .before .before .good .1 .1 .1 .1 .0 .0)), filled-begin _ _ _)
 
 mul-fill-word : tie.Need-mul-fill-word Inv-loop μ-loop
 mul-fill-word c = search needs
@@ -47,8 +46,8 @@ loop-again : tie.Need-loop-again Inv-loop μ-loop
 loop-again c = (
   omega arith,
   search needs,
-  rw (c .before .before .put-u64 .ensures) (filled-next (c .before .before .before .before .before .before .before .before .before .args .to) (c .before .before .before .before .before .before .loop .k) (setOf (problemOf (c .before .before .before .before .before .before .before .before .before .args .job .now) (c .before .before .before .before .before .before .before .before .before .args .view)) [] (c .before .before .before .before .before .before .before .before .before .args .bound) (c .before .before .before .before .before .before .before .before .before .args .u)) (c .before .before .before .before .before .before .before .before .before .args .work .now) (c .before .before .before .before .before .before .loop .work) (c .before .before .before .before .fill-word .result) (c .before .before .before .before .before .before .loop .inv .2) (omega arith) (search needs)
-      (bits-where (setOf (problemOf (c .before .before .before .before .before .before .before .before .before .args .job .now) (c .before .before .before .before .before .before .before .before .before .args .view)) [] (c .before .before .before .before .before .before .before .before .before .args .bound) (c .before .before .before .before .before .before .before .before .before .args .u)) (c .before .before .before .before .before .before .loop .k * 64) (c .before .before .before .before .fill-word .result) (c .before .before .before .before .fill-word .ensures))),
+  rw (c .before .before .put-u64 .ensures) (filled-next (c .before .before .before .before .before .before .before .before .before .args .to) (c .before .before .before .before .before .before .loop .k) (isCandidate (problemOf (c .before .before .before .before .before .before .before .before .before .args .job .now) (c .before .before .before .before .before .before .before .before .before .args .view)) (c .before .before .before .before .before .before .before .before .before .args .u)) (c .before .before .before .before .before .before .before .before .before .args .work .now) (c .before .before .before .before .before .before .loop .work) (c .before .before .before .before .fill-word .result) (c .before .before .before .before .before .before .loop .inv .2) (omega arith) (search needs)
+      (bits-where (isCandidate (problemOf (c .before .before .before .before .before .before .before .before .before .args .job .now) (c .before .before .before .before .before .before .before .before .before .args .view)) (c .before .before .before .before .before .before .before .before .before .args .u)) (c .before .before .before .before .before .before .loop .k * 64) (c .before .before .before .before .fill-word .result) (c .before .before .before .before .fill-word .ensures))),
 )
 
 same-length : tie.Need-same-length Inv-loop μ-loop

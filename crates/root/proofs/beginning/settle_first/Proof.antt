@@ -1,6 +1,5 @@
 -- `root::beginning::settle_first` meets its contract. The invariant: the kinds passed are settled and have enough members.
-use mathlib.Core.List.{[]}
-use mathlib.Core.Path.{_≡_, refl, sym, _∙_, subst}
+use mathlib.Core.Path.{_≡_, refl, _∙_, subst}
 use Prim.Native.Nat.{ℕ, _+_, _*_, _-_, _≤_, _<_}
 use native.Mathlib.Omega.{arith}
 use borrow.Author.Tests.{not-true, not-false}
@@ -8,15 +7,12 @@ use lib.ListN.{length, getD, replicate}
 use Rattle.model.specs.Content.{kindCount, pieceCount}
 use Rattle.model.specs.Format.{content}
 use Rattle.model.specs.Grid.{setWords}
-use Rattle.model.specs.Problem.{under}
 use Rattle.model.specs.Search.{copiesLeft}
 use Rattle.model.proofs.Accepted.{accepted-sensible}
 use Rattle.plans.proofs.PlanLaws.{kinds-few, words-few}
 use Rattle.plans.specs.Planned.{planned}
 use Rattle.stepping.specs.Levels.{piecesFrom}
-use Rattle.stepping.specs.LiveSets.{setOf}
 use Rattle.stepping.proofs.Kept.{spans-all}
-use Rattle.live_sets.specs.Narrowing.{Filled}
 use Rattle.lookahead.specs.Settled.{KindSettled}
 use Rattle.lookahead.proofs.Making.{made-first, kind-made, Settling, settling-begin, settling-next, settled-all, settled-few}
 use Rattle.root.proofs.beginning.settle_first.Statement.{statement}
@@ -49,15 +45,15 @@ set-start-requires c κs = (c .before .before .before .before .before .pre .0 .0
 within : (c : tie.After-set-start Inv-loop μ-loop) → (c .set-start .result + c .before .before .before .before .before .before .args .plan .words) * 8 ≤ length (c .before .before .before .before .before .before .args .work .now)
 within c = omega (arith, c .before .before .before .before .before .before .pre .0 .0 .2 .words, c .set-start .ensures .within, c .before .before .before .before .before .before .pre .1)
 
-fill-requires : tie.Need-fill-requires Inv-loop μ-loop
-fill-requires c κs = ((c .before .before .before .before .before .before .before .pre .0 .0 .0, c .before .before .before .before .before .before .before .pre .0 .0 .1), record { kind = kind (c .before .before); few = words-few (c .before .before .before .before .before .before .before .args .job .now) (c .before .before .before .before .before .before .before .args .plan) (c .before .before .before .before .before .before .before .pre .0 .0 .2); fits = omega (arith, within (c .before), c .before .before .before .loop .inv .1) })
+fill-below-requires : tie.Need-fill-below-requires Inv-loop μ-loop
+fill-below-requires c κs = (c .before .before .before .before .before .before .before .pre .0, record { kind = kind (c .before .before); few = words-few (c .before .before .before .before .before .before .before .args .job .now) (c .before .before .before .before .before .before .before .args .plan) (c .before .before .before .before .before .before .before .pre .0 .0 .2); fits = omega (arith, within (c .before), c .before .before .before .loop .inv .1) })
 
 array-read-has-members : tie.Need-array-read-has-members Inv-loop μ-loop
 array-read-has-members c = omega (arith, c .before .before .before .before .before .before .before .loop .inv .0)
 
 -- The work words are as many as they were.
-room : (c : tie.After-fill Inv-loop μ-loop) → length (c .fill .last .1 .1 .1 .1 .1 .0) ≡ length (c .before .before .before .before .before .before .before .before .args .work .now)
-room c = c .fill .kept .1 .1 .1 .1 .1 .0 ∙ c .before .before .before .before .loop .inv .1
+room : (c : tie.After-fill-below Inv-loop μ-loop) → length (c .fill-below .last .1 .1 .1 .1 .1 .1 .0) ≡ length (c .before .before .before .before .before .before .before .before .args .work .now)
+room c = c .fill-below .kept .1 .1 .1 .1 .1 .1 .0 ∙ c .before .before .before .before .loop .inv .1
 
 has-members-requires : tie.Need-has-members-requires Inv-loop μ-loop
 has-members-requires c κs = (words-few (c .before .before .before .before .before .before .before .before .before .before .before .args .job .now) (c .before .before .before .before .before .before .before .before .before .before .before .args .plan) (c .before .before .before .before .before .before .before .before .before .before .before .pre .0 .0 .2), c .before .before .before .before .before .set-start .ensures .few, omega (arith, within (c .before .before .before .before .before), room (c .before .before .before)))
@@ -68,25 +64,12 @@ told c =
     subst (λ (x : ℕ). getD (c .before .before .before .before .before .args .plan .copies) x 0 ≡ copiesLeft (c .before .loop .u) (piecesFrom (content (c .before .before .before .before .before .args .job .now) .kinds) 0)) (omega arith)
     (c .before .before .before .before .before .pre .0 .0 .2 .copies 0 (c .before .loop .u) (some-piece (c .before .before .before .before .before)) (omega (arith, c .before .loop .inv .0)))
 
--- The set is that of the members under the plan's margin, which is the view's.
-members-alike : (c : tie.After-has-members Inv-loop μ-loop) →
-    let start = c .before .before .before .before .before .before .before .before .before .before .before .before in
-    Filled (c .before .before .before .before .before .before .set-start .result) (start .args .plan .words)
-    (setOf (planned (start .args .job .now) (start .args .plan)) [] (start .args .bound) (c .before .before .before .before .before .before .before .before .loop .u))
-    (c .before .before .before .before .before .before .before .before .loop .work) (c .before .before .before .before .fill .last .1 .1 .1 .1 .1 .0)
-members-alike c =
-    let start = c .before .before .before .before .before .before .before .before .before .before .before .before in
-    subst (λ (m : ℕ). Filled (c .before .before .before .before .before .before .set-start .result) (start .args .plan .words)
-    (setOf (under m (content (start .args .job .now))) [] (start .args .bound) (c .before .before .before .before .before .before .before .before .loop .u))
-    (c .before .before .before .before .before .before .before .before .loop .work) (c .before .before .before .before .fill .last .1 .1 .1 .1 .1 .0))
-    (sym (start .pre .0 .1)) (c .before .before .before .before .fill .ensures)
-
 -- The kind is settled.
-settled : (c : tie.After-has-members Inv-loop μ-loop) → KindSettled (planned (c .before .before .before .before .before .before .before .before .before .before .before .before .args .job .now) (c .before .before .before .before .before .before .before .before .before .before .before .before .args .plan)) (replicate 12 0) 0 (c .before .before .before .before .before .before .before .before .before .before .before .before .args .bound) (setWords (content (c .before .before .before .before .before .before .before .before .before .before .before .before .args .job .now) .sheet)) (c .before .before .before .before .before .before .before .before .loop .u) (c .before .before .before .before .before .before .before .before .loop .work) (c .before .before .before .before .fill .last .1 .1 .1 .1 .1 .0) (c .has-members .result)
+settled : (c : tie.After-has-members Inv-loop μ-loop) → KindSettled (planned (c .before .before .before .before .before .before .before .before .before .before .before .before .args .job .now) (c .before .before .before .before .before .before .before .before .before .before .before .before .args .plan)) (replicate 12 0) 0 (c .before .before .before .before .before .before .before .before .before .before .before .before .args .bound) (setWords (content (c .before .before .before .before .before .before .before .before .before .before .before .before .args .job .now) .sheet)) (c .before .before .before .before .before .before .before .before .loop .u) (c .before .before .before .before .before .before .before .before .loop .work) (c .before .before .before .before .fill-below .last .1 .1 .1 .1 .1 .1 .0) (c .has-members .result)
 settled c =
-    kind-made (planned (c .before .before .before .before .before .before .before .before .before .before .before .before .args .job .now) (c .before .before .before .before .before .before .before .before .before .before .before .before .args .plan)) (replicate 12 0) 0 (c .before .before .before .before .before .before .before .before .before .before .before .before .args .bound) (setWords (content (c .before .before .before .before .before .before .before .before .before .before .before .before .args .job .now) .sheet)) (c .before .before .before .before .before .before .before .before .loop .u) (c .before .before .before .before .before .before .set-start .result) (c .before .before .before .before .before .before .before .before .before .before .before .before .args .plan .words) (getD (c .before .before .before .before .before .before .before .before .before .before .before .before .args .plan .copies) (c .before .before .before .before .before .before .before .before .loop .u) 0) (c .before .before .before .before .before .before .before .before .loop .work) (c .before .before .before .before .fill .last .1 .1 .1 .1 .1 .0) (c .has-members .result) (c .before .before .before .before .before .before .set-start .ensures .place) (c .before .before .before .before .before .before .before .before .before .before .before .before .pre .0 .0 .2 .words) (spans-all _ _)
+    kind-made (planned (c .before .before .before .before .before .before .before .before .before .before .before .before .args .job .now) (c .before .before .before .before .before .before .before .before .before .before .before .before .args .plan)) (replicate 12 0) 0 (c .before .before .before .before .before .before .before .before .before .before .before .before .args .bound) (setWords (content (c .before .before .before .before .before .before .before .before .before .before .before .before .args .job .now) .sheet)) (c .before .before .before .before .before .before .before .before .loop .u) (c .before .before .before .before .before .before .set-start .result) (c .before .before .before .before .before .before .before .before .before .before .before .before .args .plan .words) (getD (c .before .before .before .before .before .before .before .before .before .before .before .before .args .plan .copies) (c .before .before .before .before .before .before .before .before .loop .u) 0) (c .before .before .before .before .before .before .before .before .loop .work) (c .before .before .before .before .fill-below .last .1 .1 .1 .1 .1 .1 .0) (c .has-members .result) (c .before .before .before .before .before .before .set-start .ensures .place) (c .before .before .before .before .before .before .before .before .before .before .before .before .pre .0 .0 .2 .words) (spans-all _ _)
     (told (c .before .before .before .before .before .before .before))
-    (made-first (planned (c .before .before .before .before .before .before .before .before .before .before .before .before .args .job .now) (c .before .before .before .before .before .before .before .before .before .before .before .before .args .plan)) (replicate 12 0) (c .before .before .before .before .before .before .before .before .before .before .before .before .args .bound) (c .before .before .before .before .before .before .before .before .loop .u) (c .before .before .before .before .before .before .set-start .result) (c .before .before .before .before .before .before .before .before .before .before .before .before .args .plan .words) (c .before .before .before .before .before .before .before .before .loop .work) (c .before .before .before .before .fill .last .1 .1 .1 .1 .1 .0) (c .before .before .before .before .before .before .set-start .ensures .place) (c .before .before .before .before .before .before .before .before .before .before .before .before .pre .0 .0 .2 .words) (some-piece (c .before .before .before .before .before .before .before .before .before .before .before .before)) (kind (c .before .before .before .before .before .before .before)) (members-alike c))
+    (made-first (planned (c .before .before .before .before .before .before .before .before .before .before .before .before .args .job .now) (c .before .before .before .before .before .before .before .before .before .before .before .before .args .plan)) (replicate 12 0) (c .before .before .before .before .before .before .before .before .before .before .before .before .args .bound) (c .before .before .before .before .before .before .before .before .loop .u) (c .before .before .before .before .before .before .set-start .result) (c .before .before .before .before .before .before .before .before .before .before .before .before .args .plan .words) (c .before .before .before .before .before .before .before .before .loop .work) (c .before .before .before .before .fill-below .last .1 .1 .1 .1 .1 .1 .0) (c .before .before .before .before .before .before .set-start .ensures .place) (c .before .before .before .before .before .before .before .before .before .before .before .before .pre .0 .0 .2 .words) (some-piece (c .before .before .before .before .before .before .before .before .before .before .before .before)) (kind (c .before .before .before .before .before .before .before)) (c .before .before .before .before .fill-below .ensures))
     (c .has-members .ensures)
 
 same-length : tie.Need-same-length Inv-loop μ-loop
@@ -125,7 +108,7 @@ settle-first-spec =
     μ-loop
     loop-holds
     set-start-requires
-    fill-requires
+    fill-below-requires
     array-read-has-members
     has-members-requires
     same-length

@@ -1,9 +1,7 @@
 -- `search::given::given_layout` meets its contract.
-use mathlib.Core.Path.{_≡_, refl, sym, ap, _∙_}
-use Prim.Native.Nat.{ℕ, _+_, _≤_}
+use mathlib.Core.Path.{refl, sym, _∙_}
 use native.Mathlib.Omega.{arith}
 use borrow.Author.Needs.{needs}
-use Rattle.model.specs.Services.{checkContent}
 use Rattle.job.specs.View.{problemOf}
 use Rattle.stepping.proofs.Limits.{short-board}
 use Rattle.search.proofs.Beginning.{gives-none, passed-margin, gives-refusal, gives-layout}

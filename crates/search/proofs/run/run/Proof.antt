@@ -1,12 +1,11 @@
 -- `search::run::run` meets its contract: it answers and leaves what the model says, at all inputs.
-use mathlib.Core.Path.{_≡_, refl, sym, ap, _∙_, subst}
+use mathlib.Core.Path.{_≡_, refl, sym, _∙_, subst}
 use Prim.Native.Nat.{ℕ}
 use borrow.Author.Needs.{needs}
 use Rattle.model.specs.Format.{content}
 use Rattle.model.specs.Problem.{under}
 use Rattle.model.specs.Services.{refusalUnder}
-use Rattle.job.specs.View.{problemOf, Viewed}
-use Rattle.candidates.specs.Conflicts.{Prepared}
+use Rattle.job.specs.View.{Viewed}
 use Rattle.search.specs.Begin.{GivenBy}
 use Rattle.search.proofs.Beginning.{not-unfit}
 use Rattle.search.proofs.Running.{run-refuses, run-unfit, run-goes}
