@@ -15,7 +15,7 @@ pub struct Progress {
     pub stopped: bool,
 }
 
-// At the beginning: the whole budget is left, an end has to stay below this bound, a layout is held or not, and the words of a set are so many.
+// At the beginning: the whole budget is left, an end has to stay below this bound, a layout is held or not, and candidates that stay below it lie in so many words of a set.
 pub fn begin(budget: u32, bound: usize, found: bool, span: usize) -> Progress
     ensures { λ r. ⌜ r ≡ begun budget bound found span ⌝ }
 {
