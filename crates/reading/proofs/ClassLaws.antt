@@ -14,9 +14,10 @@ use Rattle.model.specs.Services.{classNumbers}
 use Rattle.model.proofs.Folds.{concat-below-more}
 use Rattle.records.specs.Classes.{classesFrom}
 use Rattle.records.specs.Rising.{classesAtFirst, ByRisingId}
-use Rattle.reading.specs.Write.{withNumbersAt, asNumber, bytesFrom, gapNumbers, classesNumbers}
+use Rattle.reading.specs.Write.{gapNumbers, classesNumbers}
+use Rattle.writing.specs.Numbers.{withNumbersAt, asNumber, bytesFrom}
 use Rattle.records.proofs.RisingLaws.{length-first}
-use Rattle.reading.proofs.WriteLaws.{numbers-none, numbers-then, length-row, numbers-length}
+use Rattle.writing.proofs.NumberLaws.{numbers-none, numbers-then, length-row, numbers-length}
 
 -- ---- Gap and mark
 

@@ -17,13 +17,15 @@ use Rattle.model.proofs.Readers.{many-sum, many-least}
 use Rattle.model.proofs.Records.{kind-read}
 use Rattle.model.proofs.Saving.Kept.{classes-count}
 use Rattle.records.specs.Classes.{classesFrom}
-use Rattle.reading.specs.Write.{withNumbersAt, wordsFrom, frontNumbers, backNumbers, classesNumbers, kindsNumbers}
+use Rattle.reading.specs.Write.{frontNumbers, backNumbers, classesNumbers, kindsNumbers}
+use Rattle.writing.specs.Numbers.{withNumbersAt, wordsFrom}
 use Rattle.job.proofs.CauseLaws.{classes-are}
 use Rattle.reading.proofs.ListingLaws.{kind-each}
 use Rattle.records.proofs.RecordLaws.{values-from}
 use Rattle.reading.proofs.ClassLaws.{length-classes}
 use Rattle.job.proofs.ViewLaws.{six-none, kinds-in, got-list, kind-count, length-list, list-reads}
-use Rattle.reading.proofs.WriteLaws.{numbers-then, numbers-all, records-length}
+use Rattle.reading.proofs.WriteLaws.{records-length}
+use Rattle.writing.proofs.NumberLaws.{numbers-then, numbers-all}
 
 -- The three numbers of the board record at byte o.
 abbrev boardNumbers : ℕ → List ℕ → List ℕ

@@ -19,8 +19,10 @@ use Rattle.records.specs.Records.{Reads}
 use Rattle.records.proofs.NextLaws.{PartNext, nextKind, kind-next, kind-values, kind-parts}
 use Rattle.records.proofs.PartLaws.{part-corners}
 use Rattle.records.proofs.RecordLaws.{values-from}
-use Rattle.reading.specs.Write.{withNumbersAt, asNumber, bytesFrom, partsNumbers, kindsNumbers}
-use Rattle.reading.proofs.WriteLaws.{numbers-then, corner-numbers, length-vertex, length-row, numbers-length, records-more}
+use Rattle.reading.specs.Write.{partsNumbers, kindsNumbers}
+use Rattle.writing.specs.Numbers.{withNumbersAt, asNumber, bytesFrom}
+use Rattle.reading.proofs.WriteLaws.{corner-numbers, records-more}
+use Rattle.writing.proofs.NumberLaws.{numbers-then, length-vertex, length-row, numbers-length}
 
 -- ---- Parts
 

@@ -1,5 +1,4 @@
 // The numbers of an accepted job's content: board and classes in front, types and the number of pieces behind them.
-use crate::answer;
 use crate::classes;
 use crate::listing;
 use frame::trailer;
@@ -10,7 +9,8 @@ ghost use lib.ListN.{length};
 ghost use Rattle.model.specs.Content.{pieceCount};
 ghost use Rattle.model.specs.Format.{classesStated, content, kindsLength, refusal};
 ghost use Rattle.model.specs.Services.{readContent};
-ghost use Rattle.reading.specs.Write.{withNumbersAt, frontNumbers, backNumbers};
+ghost use Rattle.reading.specs.Write.{frontNumbers, backNumbers};
+ghost use Rattle.writing.specs.Numbers.{withNumbersAt};
 
 // The board and the classes behind their count.
 pub fn put_front(job: &[u8], answer: &mut [u8])
@@ -18,8 +18,8 @@ pub fn put_front(job: &[u8], answer: &mut [u8])
     ensures { λ _. ⌜ now (answer .exit) ≡ withNumbersAt 0 (frontNumbers (content (now (job .entry)))) (now (answer .entry)) ⌝ }
 {
     let t = trailer::read_trailer(job);
-    answer::put_words(job, t.board, 3, answer);
-    answer::put(answer, 3, t.class_count);
+    writing::put_words(job, t.board, 3, answer);
+    writing::put(answer, 3, t.class_count);
     classes::put_classes(job, t.classes, t.class_count, answer, 4);
 }
 
@@ -31,9 +31,9 @@ pub fn put_back(job: &[u8], pieces: usize, answer: &mut [u8], at: usize)
     let t = trailer::read_trailer(job);
     let base = t.kinds;
     let end = base + t.kinds_length;
-    answer::put(answer, at, t.kind_count);
+    writing::put(answer, at, t.kind_count);
     listing::put_kinds(&job[base..end], t.kind_count, answer, at + 1);
-    answer::put(answer, at + 1 + t.kinds_length, pieces);
+    writing::put(answer, at + 1 + t.kinds_length, pieces);
 }
 
 // Read, of an accepted job. Too small an answer is refused before anything is written.

@@ -3,7 +3,6 @@ ghost use mathlib.Core.Path.{_≡_};
 ghost use Rattle.model.specs.Services as Services;
 use model::Written;
 
-mod answer;
 mod classes;
 mod content;
 mod listing;

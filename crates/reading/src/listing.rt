@@ -1,13 +1,13 @@
 // The numbers of an accepted job's type list. Each byte of the list becomes one number, so the numbers' places follow the bytes' places: the
 // list's byte 0 stands at number `at` of the answer.
-use crate::answer;
 use frame::fields;
 ghost use mathlib.Core.Path.{_≡_};
 ghost use Prim.Native.Nat.{_+_, _*_, _≤_, _<_};
 ghost use lib.ListN.{length, drop};
 ghost use Rattle.model.specs.Format.{many, readPart, readKind};
 ghost use Rattle.records.specs.Records.{Reads, sizeOf};
-ghost use Rattle.reading.specs.Write.{withNumbersAt, partsNumbers, kindsNumbers};
+ghost use Rattle.reading.specs.Write.{partsNumbers, kindsNumbers};
+ghost use Rattle.writing.specs.Numbers.{withNumbersAt};
 
 // The n parts that stand from byte `from` on: of each the number of corners, then x and y of each corner. The result is where they end.
 fn put_parts(list: &[u8], from: usize, n: usize, answer: &mut [u8], at: usize) -> usize
@@ -19,8 +19,8 @@ fn put_parts(list: &[u8], from: usize, n: usize, answer: &mut [u8], at: usize) -
     let mut i = 0;
     while i < n {
         let corners = fields::byte(list, here);
-        answer::put(answer, at + here, corners);
-        answer::put_bytes(list, here + 1, corners * 2, true, answer, at + here + 1);
+        writing::put(answer, at + here, corners);
+        writing::put_bytes(list, here + 1, corners * 2, true, answer, at + here + 1);
         here += corners * 2 + 1;
         i += 1;
     }
@@ -35,7 +35,7 @@ pub fn put_kinds(list: &[u8], n: usize, answer: &mut [u8], at: usize)
     let mut here = 0;
     let mut t = 0;
     while t < n {
-        answer::put_bytes(list, here, 4, false, answer, at + here);
+        writing::put_bytes(list, here, 4, false, answer, at + here);
         here = put_parts(list, here + 4, fields::byte(list, here + 3), answer, at);
         t += 1;
     }

@@ -1,4 +1,4 @@
-mod Loops
+pub mod Loops
 pub mod ClassLaws
 pub mod RisingLaws
 pub mod KindLaws

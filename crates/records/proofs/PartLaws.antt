@@ -2,13 +2,12 @@
 use mathlib.Core.Bool.{Bool, true, false, not, cond, _||_}
 use mathlib.Core.List.{List}
 use mathlib.Core.Path.{_≡_, refl, sym, ap, _∙_}
-use Prim.Native.Nat.{ℕ, _+_, _*_, _-_, _<_}
+use Prim.Native.Nat.{ℕ, _+_, _*_, _<_}
 use native.Mathlib.Numerals.{add-one}
 use native.Mathlib.Omega.{arith}
 use borrow.Author.Tests.{eqb-false}
 use lib.Dec.{eqb}
-use lib.IntN.{ℤ, pos, _-ℤ_, _*ℤ_}
-use lib.Signed.{ltZ}
+use lib.IntN.{ℤ, _-ℤ_, _*ℤ_}
 use lib.ListN.{getD, drop, length-map}
 use lib.Seq.{ext-getD}
 use mir.Syntax.{w8, w16}
@@ -57,7 +56,7 @@ module _ (s : List ℕ) (n : ℕ) where
       there i l =
           getD-map-at (vertexFrom s) (below n) i 0 origin (rw (length-below n) l) ∙ ap (vertexFrom s) (getD-below n i 0 l)
 
-  next-lt : (i : ℕ) → i < n → nextOf n i < n
+  pub next-lt : (i : ℕ) → i < n → nextOf n i < n
   unfolding nextOf
   next-lt i h = go (eqb (i + 1) n) refl
     where
@@ -103,8 +102,8 @@ module _ (x y : ℤ) (a b : ℕ) (ex : x ≡ signed a) (ey : y ≡ signed b) (fa
   pub difference-is : toZ w16 (ofZ w16 (toZ w16 (ofZ w16 x) -ℤ toZ w16 (ofZ w16 y))) ≡ signed a -ℤ signed b
   difference-is = gives₂ w16 x y wide-x wide-y (λ v w. v -ℤ w) fits ∙ rw (ex, ey)
 
--- The sign of the area, from its four differences.
-pub left-is : (p q r : Vertex) (area ax ay bx by : ℤ) → area ≡ ax *ℤ by -ℤ ay *ℤ bx
-    → ax ≡ q .x -ℤ p .x → ay ≡ q .y -ℤ p .y → bx ≡ r .x -ℤ p .x → by ≡ r .y -ℤ p .y → ltZ (pos 0) area ≡ strictlyLeft p q r
-unfolding strictlyLeft Geometry.cross
-left-is p q r area ax ay bx by e a b c d = rw (e, a, b, c, d)
+-- The turn at a corner, from its four differences.
+pub turn-is : (p q r : Vertex) (area ax ay bx by : ℤ) → area ≡ ax *ℤ by -ℤ ay *ℤ bx
+    → ax ≡ q .x -ℤ p .x → ay ≡ q .y -ℤ p .y → bx ≡ r .x -ℤ p .x → by ≡ r .y -ℤ p .y → area ≡ Geometry.cross p q r
+unfolding Geometry.cross
+turn-is p q r area ax ay bx by e a b c d = rw (e, a, b, c, d)

@@ -1,6 +1,5 @@
 // Soundness of a part: cause 7 of refusal. Each function receives a piece of the job that begins at the part's first byte: the number
 // of corners, then x and y of each.
-use frame::fields;
 ghost use mathlib.Core.Bool.{_||_};
 ghost use mathlib.Core.Path.{_≡_};
 ghost use Prim.Native.Nat.{_+_, _*_, _≤_, _<_};
@@ -10,33 +9,40 @@ ghost use lib.ListN.{length};
 ghost use lib.Signed.{leZ};
 ghost use Rattle.integers.specs.Byte.{signed};
 ghost use Rattle.model.specs.Format.{byteAt};
-ghost use Rattle.model.specs.Geometry.{strictlyLeft};
+ghost use Rattle.model.specs.Geometry.{cross, strictlyLeft};
 ghost use Rattle.records.specs.Parts.{vertexFrom, nextOf, edgeSoundFrom, soundFrom, inRangeFrom, unfitFrom};
 
 // A coordinate of corner q less that of corner p: x where `axis` is 1, y where it is 2.
-fn difference(part: &[u8], q: usize, p: usize, axis: usize) -> i16
+pub fn difference(part: &[u8], q: usize, p: usize, axis: usize) -> i16
     requires { ⌜ ((p < 8) × (q < 8) × (axis ≤ 2)) × ((p * 2 + 3 ≤ length (now part)) × (q * 2 + 3 ≤ length (now part))) ⌝ }
     ensures { λ r. ⌜ r ≡ signed (byteAt (now (part .entry)) (q * 2 + axis)) -ℤ signed (byteAt (now (part .entry)) (p * 2 + axis)) ⌝ }
 {
     integers::signed_byte(part, q * 2 + axis) - integers::signed_byte(part, p * 2 + axis)
 }
 
-// Corner r lies strictly left of the line from corner p to corner q.
-fn strictly_left(part: &[u8], p: usize, q: usize, r: usize) -> bool
+// How corner r lies to the line from corner p to corner q: twice the area of the three, above 0 where r is left of it.
+pub fn turn(part: &[u8], p: usize, q: usize, r: usize) -> i64
     requires { ⌜ ((p < 8) × (q < 8) × (r < 8)) × ((p * 2 + 3 ≤ length (now part)) × (q * 2 + 3 ≤ length (now part)) × (r * 2 + 3 ≤ length (now part))) ⌝ }
-    ensures { λ b. ⌜ b ≡ strictlyLeft (vertexFrom (now (part .entry)) p) (vertexFrom (now (part .entry)) q) (vertexFrom (now (part .entry)) r) ⌝ }
+    ensures { λ a. ⌜ a ≡ cross (vertexFrom (now (part .entry)) p) (vertexFrom (now (part .entry)) q) (vertexFrom (now (part .entry)) r) ⌝ }
 {
-    let area = integers::cross(
+    integers::cross(
         difference(part, q, p, 1),
         difference(part, q, p, 2),
         difference(part, r, p, 1),
         difference(part, r, p, 2),
-    );
-    0 < area
+    )
+}
+
+// Corner r lies strictly left of the line from corner p to corner q.
+pub fn strictly_left(part: &[u8], p: usize, q: usize, r: usize) -> bool
+    requires { ⌜ ((p < 8) × (q < 8) × (r < 8)) × ((p * 2 + 3 ≤ length (now part)) × (q * 2 + 3 ≤ length (now part)) × (r * 2 + 3 ≤ length (now part))) ⌝ }
+    ensures { λ b. ⌜ b ≡ strictlyLeft (vertexFrom (now (part .entry)) p) (vertexFrom (now (part .entry)) q) (vertexFrom (now (part .entry)) r) ⌝ }
+{
+    0 < turn(part, p, q, r)
 }
 
 // The corner after corner i of n: the first one after the last.
-fn next(i: usize, n: usize) -> usize
+pub fn next(i: usize, n: usize) -> usize
     requires { ⌜ i < n ⌝ }
     ensures { λ r. ⌜ (r ≡ nextOf n i) × (r < n) ⌝ }
 {
@@ -88,7 +94,7 @@ fn above_least(part: &[u8], k: usize, axis: usize) -> bool
 }
 
 // No corner has a coordinate of -128.
-fn in_range(part: &[u8], n: usize) -> bool
+pub fn in_range(part: &[u8], n: usize) -> bool
     requires { ⌜ (n ≤ 8) × (n * 2 + 1 ≤ length (now part)) ⌝ }
     ensures { λ r. ⌜ r ≡ inRangeFrom (now (part .entry)) n ⌝ }
 {

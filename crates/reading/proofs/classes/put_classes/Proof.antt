@@ -4,7 +4,8 @@ use native.Mathlib.Omega.{arith}
 use lib.ListN.{length}
 use Rattle.records.specs.Rising.{classesAtFirst}
 use Rattle.records.proofs.RisingLaws.{at-most-eight}
-use Rattle.reading.specs.Write.{withNumbersAt, classesNumbers}
+use Rattle.reading.specs.Write.{classesNumbers}
+use Rattle.writing.specs.Numbers.{withNumbersAt}
 use Rattle.reading.proofs.ClassLaws.{classes-none, classes-more, classes-all}
 use borrow.Author.Needs.{needs}
 use Rattle.reading.proofs.classes.put_classes.Statement.{statement}

@@ -7,7 +7,8 @@ use Rattle.model.specs.Services.{kindNumbers}
 use Rattle.records.specs.Records.{Reads}
 use Rattle.records.proofs.RecordLaws.{reads-none}
 use Rattle.records.proofs.NextLaws.{kind-begins, kind-ends, parts-read}
-use Rattle.reading.specs.Write.{withNumbersAt, kindsNumbers}
+use Rattle.reading.specs.Write.{kindsNumbers}
+use Rattle.writing.specs.Numbers.{withNumbersAt}
 use Rattle.reading.proofs.ListingLaws.{kind-each, kinds-more}
 use Rattle.reading.proofs.WriteLaws.{records-none}
 use borrow.Author.Needs.{needs}

@@ -6,7 +6,8 @@ use Rattle.model.specs.Format.{many, readPart}
 use Rattle.model.specs.Services.{partNumbers}
 use Rattle.records.specs.Records.{Reads}
 use Rattle.records.proofs.NextLaws.{parts-start, parts-end, part-begins, part-next}
-use Rattle.reading.specs.Write.{withNumbersAt, partsNumbers}
+use Rattle.reading.specs.Write.{partsNumbers}
+use Rattle.writing.specs.Numbers.{withNumbersAt}
 use Rattle.reading.proofs.ListingLaws.{part-each, parts-more, parts-done}
 use Rattle.reading.proofs.WriteLaws.{records-none}
 use borrow.Author.Needs.{needs}

@@ -1,8 +1,8 @@
 use mathlib.Core.Path.{_∙_}
-use Rattle.reading.proofs.WriteLaws.{numbers-one}
+use Rattle.writing.proofs.NumberLaws.{numbers-one}
 use borrow.Author.Needs.{needs}
-use Rattle.reading.proofs.answer.put.Statement.{statement}
-use Rattle.reading.proofs.answer.put.Tie as tie
+use Rattle.writing.proofs.put.Statement.{statement}
+use Rattle.writing.proofs.put.Tie as tie
 
 mul-put-u16 : tie.Need-mul-put-u16
 mul-put-u16 c = search needs

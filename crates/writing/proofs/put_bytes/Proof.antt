@@ -3,11 +3,11 @@ use Prim.Native.Nat.{_≤_, _+_, _-_}
 use native.Mathlib.Omega.{arith}
 use lib.ListN.{length}
 use Rattle.model.specs.Format.{byteAt}
-use Rattle.reading.specs.Write.{withNumbersAt, asNumber, bytesFrom}
-use Rattle.reading.proofs.WriteLaws.{row-none, row-more, row-end}
+use Rattle.writing.specs.Numbers.{withNumbersAt, asNumber, bytesFrom}
+use Rattle.writing.proofs.NumberLaws.{row-none, row-more, row-end}
 use borrow.Author.Needs.{needs}
-use Rattle.reading.proofs.answer.put_bytes.Statement.{statement}
-use Rattle.reading.proofs.answer.put_bytes.Tie as tie
+use Rattle.writing.proofs.put_bytes.Statement.{statement}
+use Rattle.writing.proofs.put_bytes.Tie as tie
 
 abbrev Inv-loop : tie.InvT-loop
 Inv-loop s from n coordinates answer₀ at k₀ answer k = ((k ≤ n) × (length answer ≡ length answer₀)) × (answer ≡ withNumbersAt at (bytesFrom coordinates from k s) answer₀)

@@ -4,7 +4,7 @@ ghost use mathlib.Core.List.{[], _∷_};
 ghost use mathlib.Core.Path.{_≡_};
 ghost use Prim.Native.Nat.{_+_, _*_, _≤_, _<_};
 ghost use lib.ListN.{length};
-ghost use Rattle.reading.specs.Write.{withNumbersAt, asNumber, bytesFrom, wordsFrom};
+ghost use Rattle.writing.specs.Numbers.{withNumbersAt, asNumber, bytesFrom, wordsFrom};
 
 // One number.
 pub fn put(answer: &mut [u8], at: usize, n: usize)

@@ -1,8 +1,8 @@
 use native.Mathlib.Omega.{arith}
-use Rattle.reading.proofs.WriteLaws.{number-high, number-low}
+use Rattle.writing.proofs.NumberLaws.{number-high, number-low}
 use borrow.Author.Needs.{needs}
-use Rattle.reading.proofs.answer.to_number.Statement.{statement}
-use Rattle.reading.proofs.answer.to_number.Tie as tie
+use Rattle.writing.proofs.to_number.Statement.{statement}
+use Rattle.writing.proofs.to_number.Tie as tie
 
 add-result : tie.Need-add-result
 add-result c = search needs

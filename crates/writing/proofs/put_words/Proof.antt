@@ -3,11 +3,11 @@ use Prim.Native.Nat.{_≤_, _+_, _*_, _-_}
 use native.Mathlib.Omega.{arith}
 use lib.ListN.{length}
 use Rattle.model.specs.Format.{wordAt}
-use Rattle.reading.specs.Write.{withNumbersAt, wordsFrom}
-use Rattle.reading.proofs.WriteLaws.{row-none, row-more, row-end}
+use Rattle.writing.specs.Numbers.{withNumbersAt, wordsFrom}
+use Rattle.writing.proofs.NumberLaws.{row-none, row-more, row-end}
 use borrow.Author.Needs.{needs}
-use Rattle.reading.proofs.answer.put_words.Statement.{statement}
-use Rattle.reading.proofs.answer.put_words.Tie as tie
+use Rattle.writing.proofs.put_words.Statement.{statement}
+use Rattle.writing.proofs.put_words.Tie as tie
 
 abbrev Inv-loop : tie.InvT-loop
 Inv-loop s from n answer₀ k₀ answer k = ((k ≤ n) × (length answer ≡ length answer₀)) × (answer ≡ withNumbersAt 0 (wordsFrom from k s) answer₀)
