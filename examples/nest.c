@@ -10,8 +10,13 @@
  *
  * With --save it runs nothing, but writes the job to another file as the engine saves it, and prints `saved` and
  * the number of bytes; or `refused` and number, and then that file is neither created nor changed.
+ *
+ * With --cut it takes no job, but cuts the outline in the file given into triangles, and prints `cut` and their
+ * number; or `refused` and number. The triangles follow, one a line: x and y of the corner that was cut off, of its
+ * successor and of its predecessor.
  * usage: nest [--from LAYOUT] [--keep FILE] JOB [MARGIN]
  *        nest --save FILE JOB
+ *        nest --cut OUTLINE
  */
 #include <errno.h>
 #include <inttypes.h>
@@ -30,10 +35,21 @@ static uint8_t work[NEST_MAX_WORK_BYTES];
 static uint8_t answer[NEST_MAX_LAYOUT_BYTES];
 static uint8_t content[NEST_MAX_READ_BYTES];
 static uint8_t saved[NEST_MAX_SAVE_BYTES];
+/* One byte more than an outline may have: left over, it is refused. */
+static uint8_t outline[NEST_MAX_OUTLINE_BYTES + 1];
+static uint8_t triangles[NEST_CUT_BYTES];
 
 static unsigned number_at(const uint8_t *buffer, size_t index)
 {
     return buffer[2 * index] + 256u * buffer[2 * index + 1];
+}
+
+/* A negative number is written as 65,536 plus it. */
+static long signed_at(const uint8_t *buffer, size_t index)
+{
+    long number = (long)number_at(buffer, index);
+
+    return number < 32768 ? number : number - 65536;
 }
 
 /* N is the last number that read writes. */
@@ -129,7 +145,9 @@ static int file_failed(const char *path)
 
 static int usage(void)
 {
-    fprintf(stderr, "usage: nest [--from LAYOUT] [--keep FILE] JOB [MARGIN]\n       nest --save FILE JOB\n");
+    fprintf(stderr, "usage: nest [--from LAYOUT] [--keep FILE] JOB [MARGIN]\n"
+                    "       nest --save FILE JOB\n"
+                    "       nest --cut OUTLINE\n");
     return 2;
 }
 
@@ -175,6 +193,15 @@ static int run_job(const struct request *request)
     return 0;
 }
 
+/* Whether the result of a service other than run is a refusal, which is then printed. */
+static int told_refusal(uint64_t result)
+{
+    if (NEST_NUMBER(result) == NEST_OK)
+        return 0;
+    printf("refused %u\n", NEST_NUMBER(result));
+    return 1;
+}
+
 static int save_job(const char *target, const char *path)
 {
     size_t job_len;
@@ -183,13 +210,38 @@ static int save_job(const char *target, const char *path)
     if (!read_file(path, job, sizeof job, &job_len))
         return file_failed(path);
     result = nest_save(job, job_len, saved, sizeof saved);
-    if (NEST_NUMBER(result) != NEST_OK) {
-        printf("refused %u\n", NEST_NUMBER(result));
+    if (told_refusal(result))
         return 0;
-    }
     if (!write_file(target, saved, NEST_COUNT(result)))
         return file_failed(target);
     printf("saved %u\n", NEST_COUNT(result));
+    return 0;
+}
+
+/* The numbers of a triangle on a line of their own. */
+static void print_triangle(size_t first)
+{
+    size_t i;
+
+    for (i = 0; i < NEST_TRIANGLE_NUMBERS; i++)
+        printf(i == 0 ? "%ld" : " %ld", signed_at(triangles, first + i));
+    printf("\n");
+}
+
+static int cut_outline(const char *path)
+{
+    size_t outline_len;
+    uint64_t result;
+    unsigned i;
+
+    if (!read_file(path, outline, sizeof outline, &outline_len))
+        return file_failed(path);
+    result = nest_cut(outline, outline_len, triangles, sizeof triangles);
+    if (told_refusal(result))
+        return 0;
+    printf("cut %u\n", NEST_COUNT(result));
+    for (i = 0; i < NEST_COUNT(result); i++)
+        print_triangle((size_t)NEST_TRIANGLE_NUMBERS * i);
     return 0;
 }
 
@@ -199,6 +251,8 @@ int main(int argc, char **argv)
 
     if (argc >= 2 && strcmp(argv[1], "--save") == 0)
         return argc == 4 ? save_job(argv[2], argv[3]) : usage();
+    if (argc >= 2 && strcmp(argv[1], "--cut") == 0)
+        return argc == 3 ? cut_outline(argv[2]) : usage();
     if (argc < 2 || !read_request(argv + 1, &request))
         return usage();
     return run_job(&request);

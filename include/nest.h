@@ -1,9 +1,10 @@
 /*
  * nest.h - the dotted-board nesting engine.
  *
- * Five services: read a job, save a job, give a row of conflicts, check a layout, run the search for a shortest
- * layout. Every one takes bytes and numbers only, keeps no state, allocates nothing and always returns. What is
- * unfit is refused by a number; nothing is assumed of the caller but this:
+ * Six services: read a job, save a job, give a row of conflicts, check a layout, run the search for a shortest
+ * layout; and, without a job, cut an outline into triangles. Every one takes bytes and numbers only, keeps no
+ * state, allocates nothing and always returns. What is unfit is refused by a number; nothing is assumed of the
+ * caller but this:
  *
  *   - each pointer names as many bytes as the length beside it says, at any alignment; a buffer of length 0
  *     may have any pointer, null too;
@@ -40,7 +41,7 @@ extern "C" {
 #define NEST_MAX_TYPES         8
 #define NEST_MAX_PIECES       12
 #define NEST_MAX_PARTS         6 /* of a type, at least 1 */
-#define NEST_MIN_CORNERS       3 /* of a part */
+#define NEST_MIN_CORNERS       3 /* of a part, and of an outline */
 #define NEST_MAX_CORNERS       8
 #define NEST_MAX_COORDINATE  127 /* -127 to 127 */
 
@@ -90,6 +91,19 @@ extern "C" {
 #define NEST_CLASS_NUMBERS         4 /* that read gives of a class: id, rank, gap, mark */
 
 /* ------------------------------------------------------------------------------------------------------
+ * The outline's bytes
+ *
+ * A piece drawn as one outline, which need not be convex: 3 to 8 corners, anticlockwise, x and y of each as signed
+ * bytes, -127 to 127, and nothing else; how many they are is told by the length alone. Two neighbouring edges have
+ * the corner between them in common and no other point, any other two edges have none: none cross, touch or double
+ * back. Corners are numbered in the order given. An outline is no part of a job, and no service takes both.
+ * ------------------------------------------------------------------------------------------------------ */
+
+#define NEST_CORNER_BYTES       2 /* x and y */
+#define NEST_MAX_OUTLINE_BYTES (NEST_MAX_CORNERS * NEST_CORNER_BYTES)
+#define NEST_MAX_TRIANGLES     (NEST_MAX_CORNERS - 2)
+
+/* ------------------------------------------------------------------------------------------------------
  * Candidates
  *
  * A candidate of a type is a column, a row and an allowed turn with the whole piece in m to L - m by m to
@@ -128,6 +142,7 @@ extern "C" {
 #define NEST_WORD_BYTES         8
 #define NEST_NUMBER_BYTES       2
 #define NEST_ENTRY_NUMBERS      4 /* type, column, row, turn */
+#define NEST_TRIANGLE_NUMBERS   6 /* x and y of three corners */
 #define NEST_MAX_SET_WORDS     64
 
 /* Bytes that a call on a given job needs, and bytes that are enough for every job. */
@@ -142,6 +157,8 @@ extern "C" {
 #define NEST_MAX_READ_BYTES   ((6 + NEST_CLASS_NUMBERS * NEST_MAX_CLASSES + NEST_MAX_JOB_BYTES) * NEST_NUMBER_BYTES)
 /* A saved job is never longer than the job that it was made from. */
 #define NEST_MAX_SAVE_BYTES   NEST_MAX_JOB_BYTES
+/* Cut needs 36 numbers, however few triangles an outline gives. */
+#define NEST_CUT_BYTES        (NEST_MAX_TRIANGLES * NEST_TRIANGLE_NUMBERS * NEST_NUMBER_BYTES)
 
 /* ------------------------------------------------------------------------------------------------------
  * Results
@@ -150,8 +167,8 @@ extern "C" {
  *
  *   bits  0 to  7   the number: NEST_OK, or why the call was refused (enum nest_number)
  *   bits  8 to 15   the verdict of a run (enum nest_verdict); 0 for the other services
- *   bits 16 to 31   read: numbers written; save: bytes written; row: words written; check and run: the
- *                   layout's length
+ *   bits 16 to 31   read: numbers written; save: bytes written; row: words written; cut: triangles written; check
+ *                   and run: the layout's length
  *   bits 32 to 63   the steps that a run took; 0 for the other services
  *
  * A refusal has verdict, count and steps 0 and changes no buffer, except NEST_NONE, which tells its steps and
@@ -160,15 +177,15 @@ extern "C" {
 
 #define NEST_NUMBER(result)  ((unsigned)((result) & 0xFF))
 #define NEST_VERDICT(result) ((unsigned)((result) >> 8 & 0xFF))
-#define NEST_COUNT(result)   ((unsigned)((result) >> 16 & 0xFFFF)) /* of read, save and row */
+#define NEST_COUNT(result)   ((unsigned)((result) >> 16 & 0xFFFF)) /* of read, save, row and cut */
 #define NEST_LENGTH(result)  NEST_COUNT(result)                    /* of check and run */
 #define NEST_STEPS(result)   ((uint32_t)((result) >> 32))
 
-/* Causes are tested as 1 to 7, then 13, 12, 11, 8, 9, then 10, each only after those before it. */
+/* Causes are tested as 1 to 7, then 13, 12, 14, 11, 8, 9, then 10, each only after those before it. */
 enum nest_number {
     NEST_OK = 0,
 
-    /* The job's sender; any service. */
+    /* The job's sender; any service that is handed a job. */
     NEST_BAD_SIZE = 1,     /* fewer than 14 or more than 1024 bytes */
     NEST_BAD_MARK = 2,     /* wrong mark or stated length */
     NEST_BAD_SECTIONS = 3, /* a section ends past the trailer's offset, or two sections share a byte */
@@ -180,11 +197,14 @@ enum nest_number {
 
     /* The host. */
     NEST_SHORT_WORK = 8,    /* run: work words too few */
-    NEST_SHORT_ANSWER = 9,  /* read, run: answer numbers too few; save: answer bytes; row: row words */
+    NEST_SHORT_ANSWER = 9,  /* read, run, cut: answer numbers too few; save: answer bytes; row: row words */
     NEST_BAD_LAYOUT = 11,   /* check, run: the layout handed in has another count of numbers, is out of order, or
                                does not pass */
     NEST_NO_CANDIDATE = 12, /* row: the candidate or one of the two types does not exist */
     NEST_BAD_MARGIN = 13,   /* row, check, run: a margin above 63 */
+    NEST_BAD_OUTLINE = 14,  /* cut: a corner count out of range or an odd byte left over, a coordinate of -128, a
+                               doubled area that is not positive, or two edges that meet anywhere but at the
+                               corner shared by neighbours */
 
     /* The job as a whole. */
     NEST_NONE = 10 /* run, not stopped: no layout passes */
@@ -221,9 +241,10 @@ uint64_t nest_read(const uint8_t *job, size_t job_len, uint8_t *answer, size_t a
  * there are none, the types as given, then the trailer, with no skipped bytes. The gap byte of a class is its gap,
  * and 128 plus its gap where it is marked as common cut.
  *
- * A saved job is accepted, and every service answers it as it answers the job that it was made from: read gives
- * the same numbers, and saving it again gives the same bytes. Two accepted jobs are saved to equal bytes exactly if
- * their contents are equal; content is all that read gives, so that the order of the classes does not count.
+ * A saved job is accepted, and every service that is handed a job answers it as it answers the job that it was
+ * made from: read gives the same numbers, and saving it again gives the same bytes. Two accepted jobs are saved to
+ * equal bytes exactly if their contents are equal; content is all that read gives, so that the order of the classes
+ * does not count.
  *
  * Result: NEST_COUNT is how many bytes were written.
  * Refusals: 1 to 7; 9 if the answer buffer has fewer bytes than these (nothing is written then). A saved job is
@@ -288,6 +309,28 @@ uint64_t nest_check(const uint8_t *job, size_t job_len, uint64_t margin, const u
  */
 uint64_t nest_run(const uint8_t *job, size_t job_len, uint64_t margin, uint32_t budget, const uint8_t *layout,
                   size_t layout_len, uint8_t *work, size_t work_len, uint8_t *answer, size_t answer_len);
+
+/*
+ * Cut an outline into triangles. A corner in line with its two neighbours is dropped first, the lowest numbered if
+ * there are several; that gives no triangle. Otherwise the lowest-numbered left turn is cut off whose triangle with
+ * its two neighbours, border included, holds no other remaining corner. The corners that remain keep their numbers
+ * and are cut likewise, until two are left.
+ *
+ * Writes six numbers for each triangle, in the order they are cut off: x and y of the corner cut off, of its
+ * successor and of its predecessor among the corners that remained, a negative one as 65,536 plus it. It is proved
+ * that:
+ *
+ *   - There are 1 to 6 triangles, each anticlockwise, and their doubled areas sum to the outline's.
+ *   - Around each point with fractional coordinates that lies on none of the lines through triangle edges or
+ *     outline edges, there are as many triangles as a ray towards larger x crosses the outline: a rising edge
+ *     counts plus one and a falling one minus one, an edge counts its lower end and not its upper.
+ *   - Every outline without cause for 14 is cut.
+ *
+ * Result: NEST_COUNT is how many triangles were written, 1 to 6; numbers past theirs stay as they were.
+ * Refusals: 14; 9 if the answer buffer holds fewer than 36 numbers, however few triangles there are. NEST_CUT_BYTES
+ * are enough for every outline.
+ */
+uint64_t nest_cut(const uint8_t *outline, size_t outline_len, uint8_t *answer, size_t answer_len);
 
 #ifdef __cplusplus
 }

@@ -273,7 +273,7 @@ TOP = """# Sample jobs
 Each `NAME.job` is a job as the engine reads it, `NAME.out` is what the command program prints for it (budget
 1,000,000, margin 0). `make.py` holds a readable description of each and writes the jobs and this table; the
 expected outputs come from the reference in `tests/`, which was written from documents 01 and 02 alone. A margin
-is no part of a job: the C example takes one behind the job's name.
+is no part of a job: the C example takes one behind the job's name. Outlines, which no job holds, are in `outlines/`.
 
 Gaps are those of a round cutter. Measured as a square, as document 01 had it, `round-gap` would be 9 long,
 `round-gap-slanting` 15 and `carried-shortened` 16; no other job here would have another output.

@@ -1,7 +1,7 @@
 #!/bin/sh
 # Links everything on this side of the C interface with a libnest.a and runs it: the comparison tests, the stack that a
 # run takes, then the C example on every job of jobs/, held to the expected outputs, with margins, saving each job, and
-# begun from layouts.
+# begun from layouts, and on every outline of outlines/.
 # Needs no network.
 # usage: tests/run.sh FOLDER_OF_LIBNEST [COUNT]
 # CC, CFLAGS and NEST_LDLIBS (libraries that libnest.a itself needs) may be given. NEST_PROGRAM is the command
@@ -205,6 +205,31 @@ over_layout_sizes() {
     echo "C example: layouts of other sizes as expected"
 }
 
+# Every outline of outlines/: what is printed for it is expected.
+over_outlines() {
+    cut=0
+    for outline in "$root"/outlines/*.outline; do
+        cut=$((cut + 1))
+        says "$(cat "${outline%.outline}.cut")" --cut "$outline" || return 1
+    done
+    echo "C example: $cut outlines as expected"
+    [ "$cut" -gt 0 ] && [ "$cut" -eq "$(find "$root/outlines" -name '*.cut' | wc -l)" ]
+}
+
+# Files of other sizes than an outline's: no bytes, and more than eight corners have, also more than are read of them.
+over_outline_sizes() {
+    slot="$root/outlines/slot"
+    : >"$build/outline"
+    says "refused 14" --cut "$build/outline" || return 1
+    cat "$slot.outline" >"$build/outline"
+    says "$(cat "$slot.cut")" --cut "$build/outline" || return 1
+    for more in 1 1 1 1000; do
+        head -c "$more" /dev/zero >>"$build/outline"
+        says "refused 14" --cut "$build/outline" || return 1
+    done
+    echo "C example: outlines of other sizes as expected"
+}
+
 over_jobs "C example" "$build/nest"
 under_margin clamped-squares 0 "$(cat "$root/jobs/clamped-squares.out")"
 under_margin clamped-squares 1 "shortest 6 3
@@ -258,6 +283,12 @@ fails 'no-such.job' --from "$build/kept" "$root/jobs/no-such.job"
 fails_having_said "$(cat "$root/jobs/printed.out")" 'no-such-folder' --keep "$build/no-such-folder/kept" "$root/jobs/printed.job"
 [ ! -e /dev/full ] || fails_having_said "$(cat "$root/jobs/printed.out")" '/dev/full' --keep /dev/full "$root/jobs/printed.job"
 echo "C example: layouts that cannot be had or kept are told"
+over_outlines
+over_outline_sizes
+fails '^usage' --cut
+fails '^usage' --cut "$root/outlines/slot.outline" 1
+fails 'no-such.outline' --cut "$root/outlines/no-such.outline"
+echo "C example: outlines that cannot be had are told"
 if [ -n "${NEST_PROGRAM:-}" ]; then
     over_jobs "command program" "$NEST_PROGRAM"
     # 1024 bytes are the most that a job may have; a file may be longer than what one read gives.

@@ -12,7 +12,8 @@ pub struct Answer {
     /// 0, or the refusal number.
     pub number: u8,
     pub verdict: u8,
-    /// A length (check, run), numbers written (read), bytes written (save) or words written (row).
+    /// A length (check, run), numbers written (read), bytes written (save), words written (row) or triangles
+    /// written (cut).
     pub count: u16,
     pub steps: u32,
 }

@@ -31,6 +31,7 @@ extern "C" {
         answer: *mut u8,
         answer_len: usize,
     ) -> u64;
+    fn nest_cut(outline: *const u8, outline_len: usize, answer: *mut u8, answer_len: usize) -> u64;
 }
 
 /// A buffer by its first byte's place and its length. One of no bytes may have any place, which a slice may not.
@@ -67,6 +68,12 @@ pub unsafe fn run_at(job: Given, margin: u64, budget: u32, layout: Given, work: 
     Answer::unpack(nest_run(job.0, job.1, margin, budget, layout, layout_len, work.0, work.1, answer.0, answer.1))
 }
 
+/// # Safety
+/// As for the first.
+pub unsafe fn cut_at(outline: Given, answer: Given) -> Answer {
+    Answer::unpack(nest_cut(outline.0, outline.1, answer.0, answer.1))
+}
+
 fn kept(bytes: &[u8]) -> Given {
     (bytes.as_ptr().cast_mut(), bytes.len())
 }
@@ -98,4 +105,9 @@ pub fn check(job: &[u8], margin: u64, layout: &[u8]) -> Answer {
 pub fn run(job: &[u8], margin: u64, budget: u32, layout: &[u8], work: &mut [u8], answer: &mut [u8]) -> Answer {
     // SAFETY: as above; the two changed ones are borrowed apart.
     unsafe { run_at(kept(job), margin, budget, kept(layout), changed(work), changed(answer)) }
+}
+
+pub fn cut(outline: &[u8], answer: &mut [u8]) -> Answer {
+    // SAFETY: as for read.
+    unsafe { cut_at(kept(outline), changed(answer)) }
 }

@@ -29,7 +29,7 @@ pub fn written_number(a: Written) -> u8
     }
 }
 
-// How many numbers, bytes or words were written.
+// How many numbers, bytes, words or triangles were written.
 pub fn written_count(a: Written) -> u16
     ensures { λ r. ⌜ r ≡ writtenCount a ⌝ }
 {
@@ -120,7 +120,7 @@ fn pack(number: u8, verdict: u8, length: u16, steps: u32) -> u64
     (number as u64) + 256 * (verdict as u64) + 65536 * (length as u64) + 4294967296 * (steps as u64)
 }
 
-// An answer of read, save or row as one number.
+// An answer of read, save, row or cut as one number.
 pub fn written_word(a: Written) -> u64
     ensures { λ r. ⌜ r ≡ writtenWord a ⌝ }
 {

@@ -14,7 +14,7 @@ fn budget_of(given: usize, number: u8) -> u32 {
     if given == 0 { 1000000 } else { number as u32 }
 }
 
-// The bytes that save is lent: as many as are given, or else enough for every job.
+// The bytes that save or cut is lent: as many as are given, or else enough for every job and outline.
 fn room_of(given: usize, number: u8) -> usize
     ensures { λ r. ⌜ r ≤ 1024 ⌝ }
 {
@@ -28,7 +28,8 @@ fn behind_budget(given: usize) -> usize
     if given == 0 { 0 } else { 1 }
 }
 
-// The question of this word about a job under a margin: read, write, row, check, run from a given layout or run from none, told by its second letter.
+// The question of this word about a job under a margin: read, write, row, check, run from a given layout or run from none; or, where the bytes are an
+// outline, split it into triangles. It is told by its second letter.
 fn ask(word: u8, margin: usize, job: Numbers, asked: Numbers)
     requires { ⌜ (job .count ≤ length (job .bytes)) × (asked .count ≤ length (asked .bytes)) ⌝ }
 {
@@ -40,6 +41,7 @@ fn ask(word: u8, margin: usize, job: Numbers, asked: Numbers)
     match word {
         b'e' => show::read(job),
         b'r' => show::save(job, room_of(count, given[0])),
+        b'p' => show::cut(job, room_of(count, given[0])),
         b'o' => show::row(job, margin, given[0]),
         b'h' => show::check(job, margin, &given[0..count]),
         b'i' => show::run(
@@ -81,7 +83,7 @@ fn answer_all(text: &[u8]) {
                 margin = 0;
             }
             b'l' => margin = input::margin_at(text, at + 5),
-            b'e' | b'r' | b'o' | b'h' | b'i' | b'u' => answer(text, name, margin, at, word),
+            b'e' | b'r' | b'p' | b'o' | b'h' | b'i' | b'u' => answer(text, name, margin, at, word),
             _ => (),
         }
         at = bytes::scan::find(text, at, text.len(), b'\n') + 1;

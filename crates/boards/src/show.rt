@@ -1,4 +1,4 @@
-// What each service says of a job, behind the name of the board.
+// What each service says of a job or an outline, behind the name of the board.
 use libc::STDOUT_FILENO;
 use model::Checked;
 use model::Written;
@@ -49,7 +49,6 @@ pub fn check(job: &[u8], margin: usize, layout: &[u8]) {
 
 // The first n of the numbers of two bytes.
 fn say_all(numbers: &[u8], n: usize) {
-    io::write_all(STDOUT_FILENO, b": read");
     let mut i = 0;
     while i < n {
         if numbers.len() / 2 <= i {
@@ -66,7 +65,10 @@ pub fn read(job: &[u8]) {
     let mut numbers = [0u8; 2048];
     match reading::read(job, &mut numbers) {
         Written::Refused(n) => say_last(b": read refused ", n as u64),
-        Written::Count(n) => say_all(&numbers, n as usize),
+        Written::Count(n) => {
+            io::write_all(STDOUT_FILENO, b": read");
+            say_all(&numbers, n as usize);
+        }
     }
 }
 
@@ -132,4 +134,24 @@ pub fn row(job: &[u8], margin: usize, number: u8) {
         Written::Refused(n) => say_last(b": row refused ", n as u64),
         Written::Count(_) => say_conflict(number, row[number as usize / 8]),
     }
+}
+
+// How many triangles an outline is cut into, their numbers and the one behind them, or the refusal.
+fn cut_into(outline: &[u8], answer: &mut [u8]) {
+    match cutting::cut(outline, answer) {
+        Written::Refused(n) => say_last(b": cut refused ", n as u64),
+        Written::Count(n) => {
+            say(b": triangles ", n as u64);
+            io::write_all(STDOUT_FILENO, b":");
+            say_all(answer, n as usize * 6 + 1);
+        }
+    }
+}
+
+// What cut says and leaves where so many bytes are lent, each of them 7.
+pub fn cut(outline: &[u8], room: usize)
+    requires { ⌜ room ≤ 1024 ⌝ }
+{
+    let mut answer = [7u8; 1024];
+    cut_into(outline, &mut answer[0..room]);
 }

@@ -10,12 +10,12 @@ use Rattle.model.specs.declared.RunAnswer.the-variants.{Refused, Shortes
 use Rattle.model.specs.declared.Written.{Written}
 use Rattle.model.specs.declared.Written.the-variants as W
 
--- read, save and row: the number of the refusal.
+-- read, save, row and cut: the number of the refusal.
 abbrev pub writtenNumber : Written → ℕ
 writtenNumber (W.Refused n) = n
 writtenNumber (W.Count k) = 0
 
--- read, save and row: how many numbers, bytes or words were written.
+-- read, save, row and cut: how many numbers, bytes, words or triangles were written.
 abbrev pub writtenCount : Written → ℕ
 writtenCount (W.Refused n) = 0
 writtenCount (W.Count k) = k
@@ -74,7 +74,7 @@ runVerdict (Infeasible steps) = 0
 abbrev pub fields : ℕ → ℕ → ℕ → ℕ → ℕ
 fields number verdict len steps = number + 256 * verdict + 65536 * len + 4294967296 * steps
 
--- read, save and row.
+-- read, save, row and cut.
 abbrev pub writtenWord : Written → ℕ
 writtenWord a = fields (writtenNumber a) 0 (writtenCount a) 0
 

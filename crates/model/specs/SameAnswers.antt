@@ -1,4 +1,4 @@
--- Demand 2: "changes no result". What it is for two jobs to get the same results: whatever is handed in beside them, every service says the same of both and leaves the same in every buffer.
+-- Demand 2: "changes no result". What it is for two jobs to get the same results: whatever is handed in beside them, every service that is handed a job says the same of both and leaves the same in every buffer.
 use mathlib.Core.List.{List}
 use mathlib.Core.Path.{_≡_}
 use Prim.Native.Nat.{ℕ}

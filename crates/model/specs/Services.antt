@@ -1,6 +1,6 @@
 -- Document 01, "Services" and "Who can cause a refusal": what each service answers, and what it leaves in every buffer handed in.
 -- "They are tested as 1 to 7, then 12, 11, 8, 9, then 10, each only after those before it." Document 02: "13 .., tested after 7".
--- So the order is 1 to 7, 13, 12, 11, 8, 9, 10, as far as a service has them. "Saving, like every later service that is handed a job, refuses it by 1 to 7 as read does."
+-- So the order is 1 to 7, 13, 12, 11, 8, 9, 10, as far as a service has them. (Cut, which is handed no job, stands with its 14 and 9 in the crate `outlines`.) "Saving, like every later service that is handed a job, refuses it by 1 to 7 as read does."
 use mathlib.Core.Bool.{Bool, true, false, not, _&&_, _||_, cond}
 use mathlib.Core.List.{List, [], _∷_, _++_, map}
 use mathlib.Core.Option.{Option, none, some}

@@ -1,6 +1,6 @@
 // The answers of the services. What the paper's number and values of each are, `specs/Answers` says.
 
-// What read, save and row answer: the number of a refusal, or how many numbers, bytes or words they wrote.
+// What read, save, row and cut answer: the number of a refusal, or how many numbers, bytes, words or triangles they wrote.
 pub enum Written {
     Refused(u8),
     Count(u16),

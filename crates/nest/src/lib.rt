@@ -1,8 +1,9 @@
-// The engine for programs in C: the five services on numbers and byte slices, each with its answer in one 64-bit number.
+// The engine for programs in C: the six services on numbers and byte slices, each with its answer in one 64-bit number.
 // include/nest.h declares them. A slice passes as a pointer and a length.
 ghost use mathlib.Core.Path.{_≡_};
 ghost use Rattle.model.specs.Answers.{writtenWord, checkWord, runWord};
 ghost use Rattle.model.specs.Services;
+ghost use Rattle.outlines.specs.Service as Outlines;
 
 // "Read gives W, L, g, the classes by rising id, the types and N."
 #[no_mangle]
@@ -58,4 +59,12 @@ pub extern "C" fn nest_run(
     ensures { λ _. ⌜ now (answer .exit) ≡ Services.run (now (job .entry)) margin budget (now (layout .entry)) (now (work .entry)) (now (answer .entry)) .out ⌝ }
 {
     answers::run_word(search::run::run(job, margin, budget, layout, work, answer))
+}
+
+// "A new service takes 3 to 8 corners anticlockwise, x and y as signed bytes, and gives at most 6 triangles in the order they are cut off, and their number ..".
+#[no_mangle]
+pub extern "C" fn nest_cut(outline: &[u8], answer: &mut [u8]) -> u64
+    ensures { λ r. ⌜ (r ≡ writtenWord (Outlines.cut (now (outline .entry)) (now (answer .entry)) .answer)) × (now (answer .exit) ≡ Outlines.cut (now (outline .entry)) (now (answer .entry)) .buffer) ⌝ }
+{
+    answers::written_word(cutting::cut(outline, answer))
 }

@@ -3,11 +3,13 @@
 //! With the feature `mutants` it can be told to make one of a list of mistakes, which the comparison
 //! tests must catch.
 
+pub mod cut;
 pub mod distance;
 pub mod geometry;
 pub mod job;
 mod mistaken;
 pub mod mutant;
+mod outline;
 pub mod rows;
 pub mod save;
 pub mod walk;

@@ -2,6 +2,7 @@
 //! none of the engine's code. It is slow on purpose: each rule stands where it can be read beside its sentence.
 
 pub mod board;
+pub mod cutting;
 pub mod exhaustive;
 pub mod geometry;
 pub mod layout;

@@ -1,6 +1,8 @@
-//! The five services: each gives its answer and changes the lent buffers as documents 01 and 02 say.
+//! The six services: each gives its answer and changes the lent buffers as documents 01 and 02 say.
 
 use super::board::{Board, Piece};
+use super::cutting::{CutOff, MOST_TRIANGLES};
+use super::geometry::Point;
 use super::layout::{passing, to_numbers};
 use super::reader::Job;
 use super::walk::walk;
@@ -23,11 +25,16 @@ pub fn content(job: &Job) -> Vec<u16> {
         out.extend([kind.demand, kind.turn_mask, kind.class_mask, kind.parts.len() as u8].map(u16::from));
         for part in &kind.parts {
             out.push(part.len() as u16);
-            out.extend(part.iter().flat_map(|c| [c.x, c.y].map(|n| n.rem_euclid(65_536) as u16)));
+            out.extend(part.iter().flat_map(coordinates));
         }
     }
     out.push(job.pieces() as u16);
     out
+}
+
+/// x and y, a negative one as 65,536 plus it.
+fn coordinates(corner: &Point) -> [u16; 2] {
+    [corner.x, corner.y].map(|n| n.rem_euclid(65_536) as u16)
 }
 
 pub fn read(reading: &Reading, answer: &mut [u8]) -> Answer {
@@ -134,6 +141,20 @@ pub fn run(clamped: &Clamped, budget: u32, layout: &[u8], work: &mut [u8], answe
         (true, None) => (0, STOPPED_WITH_NOTHING),
     };
     Answer { number, verdict, count, steps }
+}
+
+/// The answer is counted in triangles, six numbers each.
+pub fn cut(cut_off: &CutOff, answer: &mut [u8]) -> Answer {
+    let triangles = match cut_off {
+        Err(number) => return Answer::refused(*number),
+        Ok(triangles) => triangles,
+    };
+    if answer.len() / 2 < 6 * MOST_TRIANGLES {
+        return Answer::refused(9);
+    }
+    let numbers: Vec<u16> = triangles.as_flattened().iter().flat_map(coordinates).collect();
+    write_numbers(answer, &numbers);
+    Answer::counted(triangles.len())
 }
 
 /// T × N × ceil(D / 16).

@@ -1,10 +1,11 @@
-//! The five services over the unverified opponent: what the comparison tests are tried on, as it is and
+//! The six services over the unverified opponent: what the comparison tests are tried on, as it is and
 //! with each of the deliberate mistakes.
 
 mod given;
 
 use std::slice;
 
+use opponent::cut::cut;
 use opponent::job::{read, Job};
 use opponent::mutant;
 use opponent::rows::{place, Board, Rows};
@@ -433,4 +434,25 @@ fn write_layout(job: &Job, margin: i32, numbers: &[u16; 12], answer: &mut [u8]) 
             piece += 1;
         }
     }
+}
+
+/// # Safety
+/// Pointers and lengths name the caller's buffers.
+#[no_mangle]
+pub unsafe extern "C" fn nest_cut(outline: *const u8, outline_len: usize, answer: *mut u8, answer_len: usize) -> u64 {
+    if mutant::is("cut_null_refused") && answer.is_null() {
+        return refused(14);
+    }
+    let told = match cut(lent(outline, outline_len), lent_mut(answer, answer_len)) {
+        Err(number) => refused(number),
+        Ok(count) => packed(0, 0, count, 0),
+    };
+    if mutant::is("cut_outline_cleared") && outline_len > 0 {
+        outline.cast_mut().write_bytes(0, outline_len);
+    }
+    if mutant::is("cut_guard_written") && answer_len > 0 {
+        // The byte past the lent ones.
+        answer.add(answer_len).write(0xA5);
+    }
+    told
 }

@@ -46,7 +46,7 @@ loop-less c = search needs
 loop-again : tie.Need-loop-again Inv-loop μ-loop
 loop-again c =
     let named : c .before .match .name ≤ length (c .before .before .before .before .before .before .args .text .now) =
-    ⊎-elim (λ w. omega (arith, w)) (⊎-elim (λ w. omega (arith, w)) (⊎-elim (λ w. omega (arith, w)) (⊎-elim (λ w. omega (arith, w)) (λ w. omega (arith, w))))) (c .before .match .came) in
+    ⊎-elim (λ w. omega (arith, w)) (⊎-elim (λ w. omega (arith, w)) (⊎-elim (λ w. omega (arith, w)) (⊎-elim (λ w. omega (arith, w)) (⊎-elim (λ w. omega (arith, w)) (λ w. omega (arith, w)))))) (c .before .match .came) in
     (named, omega (arith, c .find .ensures))
 
 returns : tie.Need-returns Inv-loop μ-loop

@@ -5,8 +5,8 @@ use nest_tests::answer::Answer;
 use nest_tests::noise::Noise;
 use nest_tests::small_boards::PRINTED;
 
-use crate::nest::{check_at, read_at, row_at, run_at, save_at, Given};
-use crate::report::Report;
+use crate::nest::{check_at, cut_at, read_at, row_at, run_at, save_at, Given};
+use crate::report::{hexadecimal, Report};
 
 /// Null, and two places where no byte can be read: the second, and the last of all.
 const PLACES: [usize; 3] = [0, 1, usize::MAX];
@@ -21,11 +21,12 @@ struct Service {
     call: fn(&[Given], u64) -> Answer,
 }
 
-/// The services on the job that document 01 prints, each with buffers that are long enough.
-fn services(noise: &mut Noise) -> [Service; 5] {
+/// The services on the job that document 01 prints, and on its piece as an outline, each with buffers that are long enough.
+fn services(noise: &mut Noise) -> [Service; 6] {
     let job = PRINTED.to_vec();
     let layout = vec![0, 0, 0, 0, 0, 0, 0, 0, 0, 0, 2, 0, 0, 0, 0, 0];
     let (numbers, saved, words, answer) = (noise.bytes(100), noise.bytes(33), noise.bytes(64), noise.bytes(16));
+    let (outline, triangles) = (vec![0, 0, 2, 0, 2, 2, 0, 2], noise.bytes(72));
     // SAFETY of the calls: `asked` gives places in buffers of its own, or a length of 0.
     [
         Service { name: "read", buffers: vec![job.clone(), numbers], call: |b, _| unsafe { read_at(b[0], b[1]) } },
@@ -45,6 +46,7 @@ fn services(noise: &mut Noise) -> [Service; 5] {
             buffers: vec![job, layout, words, answer],
             call: |b, margin| unsafe { run_at(b[0], margin, 1_000_000, b[1], b[2], b[3]) },
         },
+        Service { name: "cut", buffers: vec![outline, triangles], call: |b, _| unsafe { cut_at(b[0], b[1]) } },
     ]
 }
 
@@ -83,7 +85,7 @@ fn at_every_place(service: &Service, margin: u64, empty: usize, report: &mut Rep
         if got != expected || now != left {
             let name = service.name;
             let what = format!("{name}, buffers {empty:b} empty at {place:#x}: {got:?}, expected {expected:?}");
-            report.mismatch(&what, &PRINTED, margin);
+            report.mismatch_of(&what, &format!("margin {margin}, first buffer {}", hexadecimal(&service.buffers[0])));
         }
     }
 }

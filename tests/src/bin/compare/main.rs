@@ -5,14 +5,18 @@
 mod carried;
 mod case;
 mod common_cut;
+mod covering;
+mod cutting;
 mod empties;
 mod given;
+mod grids;
 mod harness;
 mod layouts;
 mod lent;
 mod margins;
 #[path = "../../nest.rs"]
 mod nest;
+mod outline_counts;
 mod paper;
 mod report;
 mod round_gap;
@@ -27,8 +31,8 @@ use nest_tests::noise::Noise;
 use report::Report;
 
 const DEFAULT_COUNT: u64 = 4000;
-/// From the default count on, each refusal and each thing counted of common cut, of the round gap, of saving and of given
-/// layouts must have been seen this often.
+/// From the default count on, each refusal and each thing counted of common cut, of the round gap, of saving, of given
+/// layouts and of outlines must have been seen this often.
 const SEEN_AT_LEAST: u64 = 100;
 
 fn main() {
@@ -39,12 +43,15 @@ fn main() {
     let mut report = Report::default();
     report.first_only = first_only;
     let mut noise = Noise::new(0);
-    paper::small_board_cases(&mut Harness { noise: &mut noise, report: &mut report });
+    let mut harness = Harness { noise: &mut noise, report: &mut report };
+    paper::small_board_cases(&mut harness);
+    harness.small_outlines();
     empties::empty_buffers(&mut noise, &mut report);
     for case_seed in seed..seed + count {
         random_case(case_seed, &mut report);
     }
-    println!("{count} random jobs from seed {seed}, and the small boards");
+    Harness { noise: &mut noise, report: &mut report }.every_outline_on_grids();
+    println!("{count} random jobs with their outlines from seed {seed}, the small boards and outlines, and the grids");
     report.print();
     let missed = rarely_seen(&report);
     if count >= DEFAULT_COUNT && !missed.is_empty() {
@@ -58,13 +65,17 @@ fn main() {
 
 /// What a run of the default count should have seen more often.
 fn rarely_seen(report: &Report) -> Vec<String> {
-    let refusals = (1..=13).filter(|&n| report.seen(n) < SEEN_AT_LEAST).map(|n| format!("refusal {n}"));
-    let of_save = (1..=7).chain([9]).filter(|&n| report.seen_of("save", n) < SEEN_AT_LEAST);
-    let of_run = [8, 9, 11, 13].into_iter().filter(|&n| report.seen_of("run", n) < SEEN_AT_LEAST);
-    let counted = common_cut::COUNTED.into_iter().chain(round_gap::COUNTED).chain(saving::counted_things());
-    let things = counted.chain(given::COUNTED).filter(|what| report.noted(what) < SEEN_AT_LEAST).map(str::to_string);
-    let named = of_save.map(|n| format!("refusal {n} of save")).chain(of_run.map(|n| format!("refusal {n} of run")));
-    refusals.chain(named).chain(things).collect()
+    let refusals = (1..=14).filter(|&n| report.seen(n) < SEEN_AT_LEAST).map(|n| format!("refusal {n}"));
+    let answers: [(&str, &[u8]); 3] =
+        [("save", &[1, 2, 3, 4, 5, 6, 7, 9]), ("run", &[8, 9, 11, 13]), ("cut", &[0, 9, 14])];
+    let of_services = answers.into_iter().flat_map(|(service, numbers)| {
+        let rare = numbers.iter().filter(move |&&n| report.seen_of(service, n) < SEEN_AT_LEAST);
+        rare.map(move |n| format!("answer {n} of {service}"))
+    });
+    let of_jobs = common_cut::COUNTED.into_iter().chain(round_gap::COUNTED).chain(saving::counted_things());
+    let counted = of_jobs.chain(given::COUNTED).chain(outline_counts::counted_things());
+    let things = counted.filter(|what| report.noted(what) < SEEN_AT_LEAST).map(str::to_string);
+    refusals.chain(of_services).chain(things).collect()
 }
 
 struct Arguments {
@@ -100,5 +111,7 @@ fn random_case(seed: u64, report: &mut Report) {
     common_cut::count(&case, report);
     round_gap::count_job(&case, report);
     saving::count(&case, report);
-    Harness { noise: &mut noise, report }.every_service(&case);
+    let mut harness = Harness { noise: &mut noise, report };
+    harness.every_service(&case);
+    harness.random_outlines();
 }

@@ -30,14 +30,23 @@ impl Report {
     }
 
     pub fn note(&mut self, what: &'static str) {
-        *self.notes.entry(what).or_default() += 1;
+        self.note_many(what, 1);
+    }
+
+    pub fn note_many(&mut self, what: &'static str, times: u64) {
+        *self.notes.entry(what).or_default() += times;
     }
 
     pub fn mismatch(&mut self, what: &str, job: &[u8], margin: u64) {
+        self.mismatch_of(what, &format!("margin {margin}, job {}", hexadecimal(job)));
+    }
+
+    /// Told with what is needed to see it again: the bytes of all that was handed over, or of what it was made from.
+    pub fn mismatch_of(&mut self, what: &str, handed: &str) {
         self.mismatches += 1;
         if self.shown < SHOWN_AT_MOST {
             self.shown += 1;
-            println!("MISMATCH {}\n  {what}\n  margin {margin}, job {}", self.origin, hexadecimal(job));
+            println!("MISMATCH {}\n  {what}\n  {handed}", self.origin);
         }
         if self.first_only {
             std::process::exit(1);

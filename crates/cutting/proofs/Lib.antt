@@ -1,0 +1,4 @@
+pub mod ChoiceLaws
+pub mod RestLaws
+pub mod TriangleLaws
+pub mod ServiceLaws
