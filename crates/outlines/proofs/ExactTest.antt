@@ -11,11 +11,11 @@ use Rattle.integers.proofs.Order as Order
 use Rattle.integers.proofs.Order.{≤ℤ-antisym, <ℤ-≤ℤ, <ℤ-trans, ≤ℤ-<ℤ-trans, le-or-lt}
 use Rattle.integers.proofs.Slack.{le-slack}
 use Rattle.model.specs.Content.{Vertex, vertex}
-use Rattle.model.specs.Geometry.{cross, strictlyLeft}
+use Rattle.model.specs.Geometry.{cross, strictlyLeft, alongEdge}
 use Rattle.model.proofs.Lists.{and-left, and-right, and-both, or-left, or-right}
 use Rattle.outlines.specs.Outline.{Place, firstWhere, isZero, sameSide, lessThan, meet, doublesBack, meetsPath, edgeMeets, edgesMeet, lastOf}
-use Rattle.outlines.specs.Simple.{Meet, dot, ShareOnly, PathEdge, IsSimple}
-use Rattle.outlines.proofs.Tools.{_≼_, _≺_, #, _⊞_, _⊟_, _⊠_, ⊖_, _≲_, _⋖_, _≈_, never, hyp, _⊕_, _⊢_by_, order, neg-lt, neg-zero, ring, times, or-l, or-r, or-case}
+use Rattle.outlines.specs.Simple.{Meet, ShareOnly, PathEdge, IsSimple}
+use Rattle.outlines.proofs.Tools.{dot, _≼_, _≺_, #, _⊞_, _⊟_, _⊠_, ⊖_, _≲_, _⋖_, _≈_, never, hyp, _⊕_, _⊢_by_, order, neg-lt, neg-zero, ring, times, or-l, or-r, or-case}
 use Rattle.outlines.proofs.Crossing.{crossE, cross-anti}
 use Rattle.outlines.proofs.Winding.Telescope.{meet+, meet-, four, Meet-uw, ltD+, ltD-, Meet-swap, Meet-ab}
 use Rattle.outlines.proofs.Winding.Turning.{Three, not-on-path}
@@ -278,7 +278,7 @@ path-met c s m (n ∷ N) e = ⊎-elim (λ i. (m, n, inl (refl, refl), met c s m 
 
 -- Neighbours that double back share more than their corner.
 back-not : (p c s : Vertex) → doublesBack p c s ≡ true → ShareOnly p c s → ⊥
-unfolding doublesBack
+unfolding doublesBack alongEdge
 back-not p c s e a = clashℤ (a .apart (zero-is (cross p c s) (and-left (isZero (cross p c s)) (leZ (pos 0) (dot p c s)) e))) (Order.leZ-true (pos 0) (dot p c s) (and-right (isZero (cross p c s)) (leZ (pos 0) (dot p c s)) e))
 
 -- The first corner of a simple outline passes.

@@ -9,11 +9,11 @@ use lib.IntN.{ℤ, pos, negsuc, _+ℤ_, _-ℤ_, _*ℤ_}
 use lib.Signed.{clashℤ, ≤ℤ-refl}
 use Rattle.integers.proofs.Order.{ltZ-true, leZ-false}
 use Rattle.model.specs.Content.{Vertex}
-use Rattle.model.specs.Geometry.{cross, strictlyLeft}
+use Rattle.model.specs.Geometry.{cross, strictlyLeft, alongEdge}
 use Rattle.model.proofs.Lists.{and-left, and-right, or-left, or-right, and-four}
 use Rattle.outlines.specs.Outline.{Place, firstWhere, isZero, sameSide, lessThan, meet, doublesBack, meetsPath, edgeMeets, edgesMeet, lastOf}
-use Rattle.outlines.specs.Simple.{Meet, dot, ShareOnly, PathEdge, Edge, NotIn, Distinct, IsSimple}
-use Rattle.outlines.proofs.Tools.{_≼_, _≺_, #, _⊞_, _⊟_, _⊠_, ⊖_, _≲_, _⋖_, _≈_, never, hyp, num, _⊕_, _⊗_, _⊢_by_, order, ring, times, or-case}
+use Rattle.outlines.specs.Simple.{Meet, ShareOnly, PathEdge, Edge, NotIn, Distinct, IsSimple}
+use Rattle.outlines.proofs.Tools.{dot, _≼_, _≺_, #, _⊞_, _⊟_, _⊠_, ⊖_, _≲_, _⋖_, _≈_, never, hyp, num, _⊕_, _⊗_, _⊢_by_, order, ring, times, or-case}
 use Rattle.outlines.proofs.Crossing.{cross-1, cross-2}
 use Rattle.outlines.proofs.Winding.Cone.{share-sym}
 use Rattle.outlines.proofs.Winding.Telescope.{Meet-swap}
@@ -78,7 +78,7 @@ clear a b u t e M = six (not-false _ e)
 
 -- ---- neighbours
 adj-is : (p c s : Vertex) → doublesBack p c s ≡ false → ShareOnly p c s
-unfolding doublesBack
+unfolding doublesBack alongEdge
 adj-is p c s e = record { apart = λ z. leZ-false (pos 0) (dot p c s) (second (isZero (cross p c s)) _ (is-zero (cross p c s) z) e) }
   where
     second : (a b : Bool) → a ≡ true → (a && b) ≡ false → b ≡ false
@@ -87,6 +87,7 @@ adj-is p c s e = record { apart = λ z. leZ-false (pos 0) (dot p c s) (second (i
 
 -- Neighbours that share their corner alone have a length.
 adj-ne : (p c s : Vertex) → ShareOnly p c s → c ≡ s → ⊥
+unfolding alongEdge
 adj-ne p c s a e = clashℤ (subst (λ q. dot p c q ≺ pos 0) (sym e) (a .apart (ap (λ q. cross p c q) (sym e) ∙ cross-2 p c))) (subst (λ q. pos 0 ≼ q) (sym (z (p .x) (p .y) (c .x) (c .y))) (≤ℤ-refl (pos 0)))
   where
     z : (px py cx cy : ℤ) → (px -ℤ cx) *ℤ (cx -ℤ cx) +ℤ (py -ℤ cy) *ℤ (cy -ℤ cy) ≡ pos 0

@@ -5,9 +5,10 @@ use mathlib.Core.Logic.{_⊎_, inl, inr, ⊎-elim}
 use mathlib.Core.Path.{_≡_, refl, sym}
 use lib.IntN.{ℤ, pos, negsuc, negℤ, _+ℤ_, _-ℤ_, _*ℤ_}
 use lib.Signed.{_≤ℤ_, _<ℤ_}
-pub use Rattle.integers.proofs.Certificates.{Certificate, order, hyp, sqr, num, times, _⊕_, _⊗_, _⊢_by_}
+pub use Rattle.integers.proofs.Certificates.{order, hyp, sqr, num, times, _⊕_, _⊗_, _⊢_by_}
 use Rattle.integers.proofs.Order.{le-or-lt}
 pub use Rattle.integers.proofs.Solver.{Expr, ring, #, _⊞_, _⊟_, _⊠_, ⊖_, _≲_, _≺_ as _⋖_, _≈_, never}
+use Rattle.model.specs.Content.{Vertex}
 
 infix 4 _≼_ _≺_
 -- At most, binding looser than a sum.
@@ -17,6 +18,10 @@ a ≼ b = a ≤ℤ b
 -- Less, binding looser than a sum.
 abbrev pub _≺_ : ℤ → ℤ → Type 0
 a ≺ b = a <ℤ b
+
+-- The inner product of the edges from a to p and from a to b: the model's `alongEdge a p b`, written out for the solver.
+abbrev pub dot : Vertex → Vertex → Vertex → ℤ
+dot p a b = (p .x -ℤ a .x) *ℤ (b .x -ℤ a .x) +ℤ (p .y -ℤ a .y) *ℤ (b .y -ℤ a .y)
 
 -- ---- small facts
 

@@ -9,7 +9,7 @@ use lib.ListN.{length}
 use lib.Signed.{leZ, ltZ}
 use Rattle.model.specs.Content.{Vertex, vertex}
 use Rattle.model.specs.Format.{vertices, vertexInRange}
-use Rattle.model.specs.Geometry.{cross, strictlyLeft}
+use Rattle.model.specs.Geometry.{cross, strictlyLeft, alongEdge}
 use Rattle.model.specs.Lists.{all, between}
 
 -- ---- going round
@@ -199,7 +199,7 @@ meet a b u t =
 -- The edges p c and c s of neighbours meet elsewhere than "at the corner shared by neighbours", c: they lie in one line, on one side of c. An edge of no length is counted here too. That
 -- refuses nothing more: then two other edges meet as well, or the area is 0.
 unfoldable pub doublesBack : Vertex → Vertex → Vertex → Bool
-doublesBack p c s = isZero (cross p c s) && leZ (pos 0) ((p .x -ℤ c .x) *ℤ (s .x -ℤ c .x) +ℤ (p .y -ℤ c .y) *ℤ (s .y -ℤ c .y))
+doublesBack p c s = isZero (cross p c s) && leZ (pos 0) (alongEdge c p s)
 
 -- The edge c s meets an edge of the path u, t, ..
 unfoldable pub meetsPath : Vertex → Vertex → List Vertex → Bool

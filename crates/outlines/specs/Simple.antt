@@ -3,10 +3,10 @@
 use mathlib.Core.List.{List, [], _∷_}
 use mathlib.Core.Logic.{_⊎_}
 use mathlib.Core.Path.{_≡_}
-use lib.IntN.{ℤ, pos, _+ℤ_, _-ℤ_, _*ℤ_}
+use lib.IntN.{ℤ, pos, _+ℤ_, _*ℤ_}
 use lib.Signed.{_≤ℤ_, _<ℤ_}
 use Rattle.model.specs.Content.{Vertex}
-use Rattle.model.specs.Geometry.{cross}
+use Rattle.model.specs.Geometry.{cross, alongEdge}
 use Rattle.outlines.specs.Outline.{lastOf}
 
 -- The edges a b and u w have a point in common, ends included: the mean of a and b with the weights m and n is the mean of u and w with the weights k and l. The weights are whole numbers, none
@@ -25,13 +25,9 @@ pub record Meet (a b u w : Vertex) : Type 0 where
   pub atx : m *ℤ a .x +ℤ n *ℤ b .x ≡ k *ℤ u .x +ℤ l *ℤ w .x
   pub aty : m *ℤ a .y +ℤ n *ℤ b .y ≡ k *ℤ u .y +ℤ l *ℤ w .y
 
--- The inner product of the edges from a to p and from a to b.
-abbrev pub dot : Vertex → Vertex → Vertex → ℤ
-dot p a b = (p .x -ℤ a .x) *ℤ (b .x -ℤ a .x) +ℤ (p .y -ℤ a .y) *ℤ (b .y -ℤ a .y)
-
--- The neighbours p a and a b have only a in common: they lie in no line, or in one with a between p and b.
+-- The neighbours p a and a b have only a in common: they lie in no line, or in one with a between p and b, so that b stands before a, seen along the edge from a to p.
 pub record ShareOnly (p a b : Vertex) : Type 0 where
-  pub apart : cross p a b ≡ pos 0 → dot p a b <ℤ pos 0
+  pub apart : cross p a b ≡ pos 0 → alongEdge a p b <ℤ pos 0
 
 -- On the path a, b, .. the corner u is followed by t.
 abbrev pub PathEdge : Vertex → List Vertex → Vertex → Vertex → Type 0

@@ -12,7 +12,7 @@ use mir.Syntax.{w64}
 use mir.Val.{SFits, toZ, ofZ}
 use mir.ValLaws.{toZ-ofZ}
 use Rattle.model.specs.Content.{Vertex}
-use Rattle.model.specs.Geometry.{cross, vertexAt}
+use Rattle.model.specs.Geometry.{cross, alongEdge, vertexAt}
 use Rattle.model.specs.Lists.{any, below}
 use Rattle.model.proofs.Folds.{map-below-same}
 use Rattle.model.proofs.Tests.{any-map}
@@ -78,7 +78,7 @@ zero-bits z h = go (isZero z) refl
 -- The edges from p to c and from c to s double back.
 pub doubles-is : (p c s : Vertex) (line : Bool) (z ax ay bx by : ℤ) → line ≡ isZero (cross p c s) → z ≡ ax *ℤ bx +ℤ ay *ℤ by
     → ax ≡ p .x -ℤ c .x → ay ≡ p .y -ℤ c .y → bx ≡ s .x -ℤ c .x → by ≡ s .y -ℤ c .y → (line && leZ (pos 0) z) ≡ doublesBack p c s
-unfolding doublesBack
+unfolding doublesBack alongEdge
 doubles-is p c s line z ax ay bx by l e a b d f = rw (l, e, a, b, d, f)
 
 -- ---- All edges

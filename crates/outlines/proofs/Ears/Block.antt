@@ -7,10 +7,10 @@ use lib.Signed.{clashℤ, ≤ℤ-refl}
 use Rattle.integers.proofs.Order.{≤ℤ-trans, ≤ℤ-antisym, <ℤ-≤ℤ, le-or-lt}
 use Rattle.integers.proofs.Slack.{le-slack}
 use Rattle.model.specs.Content.{Vertex}
-use Rattle.model.specs.Geometry.{cross}
+use Rattle.model.specs.Geometry.{cross, alongEdge}
 use Rattle.outlines.specs.Outline.{lastOf}
-use Rattle.outlines.specs.Simple.{Meet, dot, ShareOnly, PathEdge, Edge, NotIn, Distinct, IsSimple}
-use Rattle.outlines.proofs.Tools.{_≼_, _≺_, #, _⊞_, _⊟_, _⊠_, ⊖_, _≲_, _⋖_, _≈_, never, hyp, num, _⊕_, _⊗_, _⊢_by_, order, refilled, minus-zero, square-flip, ring, times}
+use Rattle.outlines.specs.Simple.{Meet, ShareOnly, PathEdge, Edge, NotIn, Distinct, IsSimple}
+use Rattle.outlines.proofs.Tools.{dot, _≼_, _≺_, #, _⊞_, _⊟_, _⊠_, ⊖_, _≲_, _⋖_, _≈_, never, hyp, num, _⊕_, _⊗_, _⊢_by_, order, refilled, minus-zero, square-flip, ring, times}
 use Rattle.outlines.proofs.Crossing.{crossed, crossed-anti, cross-rot, cross-1, cross-2}
 use Rattle.outlines.proofs.EdgeSums.{lastOf-append}
 use Rattle.outlines.proofs.Winding.Cone.{share-sym, cross-from}
@@ -83,6 +83,7 @@ away = order 5 (λ N d h z q. (N ⊠ (q ⊟ z) ≈ d ⊠ (h ⊟ z)) ∷ [] ⊢ d
 
 -- An edge q z that meets the diagonal in z alone shares z alone with it.
 adj-dia : (q z h : Vertex) → pos 0 ≺ Nsq (h .x -ℤ z .x) (h .y -ℤ z .y) → (q ≡ z → ⊥) → ((M : Meet h z q z) → M .m ≡ pos 0) → ShareOnly q z h
+unfolding alongEdge
 adj-dia q z h n ne f = record { apart = λ e. ⊎-elim (λ i. absurd (no (sym (cross-from q z h) ∙ e) i)) (λ i. i) (le-or-lt (pos 0) (dot q z h)) }
   where
     a : ℤ

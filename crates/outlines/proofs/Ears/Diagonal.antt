@@ -6,7 +6,7 @@ use lib.IntN.{ℤ, pos, negsuc, _+ℤ_, _-ℤ_, _*ℤ_, +ℤ-idl, +ℤ-idr, +ℤ
 use lib.Signed.{clashℤ, ≤ℤ-refl}
 use Rattle.integers.proofs.Order.{≤ℤ-trans, ≤ℤ-antisym, <ℤ-≤ℤ, le-or-lt}
 use Rattle.model.specs.Content.{Vertex}
-use Rattle.model.specs.Geometry.{cross}
+use Rattle.model.specs.Geometry.{cross, alongEdge}
 use Rattle.outlines.specs.Simple.{Meet, ShareOnly, Edge, IsSimple}
 use Rattle.outlines.proofs.Tools.{_≼_, _≺_, #, _⊞_, _⊟_, _⊠_, ⊖_, _≲_, _⋖_, _≈_, never, hyp, sqr, _⊕_, _⊗_, _⊢_by_, order, refilled, summand, le-minus, plus-lt, ring, times}
 use Rattle.outlines.proofs.Crossing.{cross-rot, cross-1, cross-2}
@@ -87,6 +87,7 @@ on-swap {z} {u} {t} o = record { k = o .l; l = o .k; k0 = o .l0; l0 = o .k0; som
 
 -- With z on u t, the neighbours z u and u t share more than u.
 on-adj : (z u t : Vertex) → On z u t → ShareOnly z u t → ⊥
+unfolding alongEdge
 on-adj z u t o a = bad (o .k +ℤ o .l) (o .l) (z .x -ℤ u .x) (z .y -ℤ u .y) (t .x -ℤ u .x) (t .y -ℤ u .y) (o .some) (o .l0) ex ey (a .apart (cross-from z u t ∙ zero))
   where
     dif : (k l z u t : ℤ) → (k +ℤ l) *ℤ z ≡ k *ℤ u +ℤ l *ℤ t → (k +ℤ l) *ℤ (z -ℤ u) ≡ l *ℤ (t -ℤ u)

@@ -7,10 +7,10 @@ use lib.Signed.{≤ℤ-refl}
 use Rattle.integers.proofs.Order.{≤ℤ-antisym, <ℤ-≤ℤ, <ℤ-trans, le-or-lt}
 use Rattle.integers.proofs.Slack.{le-slack}
 use Rattle.model.specs.Content.{Vertex}
-use Rattle.model.specs.Geometry.{cross}
+use Rattle.model.specs.Geometry.{cross, alongEdge}
 use Rattle.outlines.specs.Outline.{lastOf}
-use Rattle.outlines.specs.Simple.{dot, ShareOnly, IsSimple}
-use Rattle.outlines.proofs.Tools.{_≼_, _≺_, #, _⊞_, _⊟_, _⊠_, ⊖_, _≲_, _⋖_, _≈_, never, hyp, sqr, num, _⊕_, _⊗_, _⊢_by_, order, lt-minus, le-minus, minus-lt, ring, times}
+use Rattle.outlines.specs.Simple.{ShareOnly, IsSimple}
+use Rattle.outlines.proofs.Tools.{dot, _≼_, _≺_, #, _⊞_, _⊟_, _⊠_, ⊖_, _≲_, _⋖_, _≈_, never, hyp, sqr, num, _⊕_, _⊗_, _⊢_by_, order, lt-minus, le-minus, minus-lt, ring, times}
 use Rattle.outlines.proofs.Winding.Cone.{cone, cross-from}
 use Rattle.outlines.proofs.Winding.CornerRule.{winding}
 use Rattle.outlines.proofs.Winding.Turning.{κ, Three}
@@ -102,6 +102,7 @@ straight p h s (inr i) (inr j) e d = s3 (p .x -ℤ h .x) (p .y -ℤ h .y) (s .x 
 
 -- Between two corners that come before h, a turn at h that is not to the right is to the left.
 pub left-of : (p h s : Vertex) → Lex p h → Lex s h → ShareOnly p h s → pos 0 ≼ cross p h s → pos 0 ≺ cross p h s
+unfolding alongEdge
 left-of p h s i j a c = ⊎-elim (λ k. let e : cross p h s ≡ pos 0 = ≤ℤ-antisym k c in absurd (straight p h s i j e (a .apart e))) (λ k. k) (le-or-lt (cross p h s) (pos 0))
 
 -- ---- in no triangle

@@ -6,10 +6,10 @@ use lib.IntN.{ℤ, pos, negsuc, negℤ, _+ℤ_, _-ℤ_, _*ℤ_, +ℤ-idl, +ℤ-i
 use lib.Signed.{clashℤ, ≤ℤ-refl}
 use Rattle.integers.proofs.Order.{<ℤ-≤ℤ, le-or-lt}
 use Rattle.model.specs.Content.{Vertex}
-use Rattle.model.specs.Geometry.{cross}
+use Rattle.model.specs.Geometry.{cross, alongEdge}
 use Rattle.outlines.specs.Outline.{lastOf, edgeSum}
-use Rattle.outlines.specs.Simple.{Meet, dot, ShareOnly, PathEdge, Edge, IsSimple}
-use Rattle.outlines.proofs.Tools.{_≼_, _≺_, #, _⊞_, _⊟_, _⊠_, ⊖_, _≲_, _⋖_, _≈_, never, hyp, sqr, num, _⊕_, _⊗_, _⊢_by_, order, square-flip, neg-zero, third-lt, ring, times, neg-lt}
+use Rattle.outlines.specs.Simple.{Meet, ShareOnly, PathEdge, Edge, IsSimple}
+use Rattle.outlines.proofs.Tools.{dot, _≼_, _≺_, #, _⊞_, _⊟_, _⊠_, ⊖_, _≲_, _⋖_, _≈_, never, hyp, sqr, num, _⊕_, _⊗_, _⊢_by_, order, square-flip, neg-zero, third-lt, ring, times, neg-lt}
 use Rattle.outlines.proofs.Crossing.{crossE, crossed, crossed-anti, sum-cross, tri-out, Neg3, cross-rot, cross-anti}
 use Rattle.outlines.proofs.EdgeSums.{edgeSum-cut, lastOf-append}
 use Rattle.outlines.proofs.Winding.Cone.{cone, share-sym}
@@ -84,10 +84,12 @@ away h p s q D a b cx cy d sq o nm f = ⊎-elim (λ i. ⊎-elim (λ j. absurd (n
 
 -- q before p, outside the triangle: if the edge q p does not meet h s, then q p and the new side p s share p alone.
 pub adj-ear : (p h s q : Vertex) → pos 0 ≺ cross p h s → Outside p h s q → (Meet h s q p → ⊥) → ShareOnly q p s
+unfolding alongEdge
 adj-ear p h s q d o nm = record { apart = λ e. away h p s q (cross p h s) (cross h s q) (cross p h q) (coord-x p h s q) (coord-y p h s q) d (side-positive p h s d) o nm (depth-flat p h s q e) }
 
 -- q after s: the same at the other end.
 pub adj-ear′ : (p h s q : Vertex) → pos 0 ≺ cross p h s → Outside p h s q → (Meet h p q s → ⊥) → ShareOnly p s q
+unfolding alongEdge
 adj-ear′ p h s q d o nm = share-sym (record {
   apart = λ e. away h s p q (cross p h s) (cross p h q) (cross h s q)
       (coord-x p h s q ∙ +ℤ-comm (cross h s q *ℤ (p .x -ℤ h .x)) (cross p h q *ℤ (s .x -ℤ h .x))) (coord-y p h s q ∙ +ℤ-comm (cross h s q *ℤ (p .y -ℤ h .y)) (cross p h q *ℤ (s .y -ℤ h .y))) d

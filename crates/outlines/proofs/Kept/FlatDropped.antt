@@ -6,10 +6,10 @@ use lib.IntN.{ℤ, pos, negsuc, negℤ, _+ℤ_, _-ℤ_, _*ℤ_}
 use Rattle.integers.proofs.Order.{≤ℤ-antisym, <ℤ-≤ℤ, le-or-lt}
 use Rattle.integers.proofs.Slack.{le-slack, nonneg-*ℤ}
 use Rattle.model.specs.Content.{Vertex}
-use Rattle.model.specs.Geometry.{cross}
+use Rattle.model.specs.Geometry.{cross, alongEdge}
 use Rattle.outlines.specs.Outline.{lastOf}
-use Rattle.outlines.specs.Simple.{Meet, dot, ShareOnly, PathEdge, IsSimple}
-use Rattle.outlines.proofs.Tools.{_≼_, _≺_, #, _⊞_, _⊟_, _⊠_, ⊖_, _≲_, _⋖_, _≈_, never, hyp, sqr, num, _⊕_, _⊗_, _⊢_by_, order, neg-lt, plus-lt, times}
+use Rattle.outlines.specs.Simple.{Meet, ShareOnly, PathEdge, IsSimple}
+use Rattle.outlines.proofs.Tools.{dot, _≼_, _≺_, #, _⊞_, _⊟_, _⊠_, ⊖_, _≲_, _⋖_, _≈_, never, hyp, sqr, num, _⊕_, _⊗_, _⊢_by_, order, neg-lt, plus-lt, times}
 use Rattle.outlines.proofs.Crossing.{tri-flat}
 use Rattle.outlines.proofs.Winding.Cone.{share-sym, cross-from}
 use Rattle.outlines.proofs.Winding.Turning.{κ, not-on-path}
@@ -42,6 +42,7 @@ sq X Y U K d = ⊎-elim (λ i. absurd (bad X Y U K d i)) (λ i. i) (le-or-lt (U 
 
 -- Neighbours in line that share their corner alone have it between them.
 between : (p h s : Vertex) → ShareOnly p h s → cross p h s ≡ pos 0 → Between p h s
+unfolding alongEdge
 between p h s adj e = record {
   a = U *ℤ U +ℤ K *ℤ K;
   b = negℤ (dot p h s);
@@ -137,6 +138,7 @@ d+ = order 8 (λ K b X Y u v′ U W. (# (pos 0) ⋖ K) ∷ (K ⊠ u ≈ b ⊠ U)
 
 -- Neighbours that share their corner alone do so where the second is made longer.
 adj-scale : (q p h s : Vertex) (K b : ℤ) → pos 0 ≺ K → pos 0 ≺ b → K *ℤ (h .x -ℤ p .x) ≡ b *ℤ (s .x -ℤ p .x) → K *ℤ (h .y -ℤ p .y) ≡ b *ℤ (s .y -ℤ p .y) → ShareOnly q p h → ShareOnly q p s
+unfolding alongEdge
 adj-scale q p h s K b k0 b0 ex ey adj = record {
   apart = λ e. ⊎-elim
       (λ i. absurd (d+ K b X Y (h .x -ℤ p .x) (h .y -ℤ p .y) (s .x -ℤ p .x) (s .y -ℤ p .y) k0 ex ey b0 (adj .apart (zero (sym (cross-from q p s) ∙ e))) i)) (λ i. i) (le-or-lt (pos 0) (dot q p s));

@@ -10,9 +10,9 @@ use lib.Signed.{ltZ, ltZ-yes, ltZ-no, clashℤ}
 use Rattle.integers.proofs.Order.{≤ℤ-antisym, <ℤ-≤ℤ, le-or-lt}
 use Rattle.integers.proofs.Slack.{le-slack, nonneg-pos}
 use Rattle.model.specs.Content.{Vertex}
-use Rattle.model.specs.Geometry.{cross}
-use Rattle.outlines.specs.Simple.{dot, ShareOnly}
-use Rattle.outlines.proofs.Tools.{_≼_, _≺_, #, _⊞_, _⊟_, _⊠_, ⊖_, _≲_, _⋖_, _≈_, never, hyp, sqr, num, _⊕_, _⊗_, _⊢_by_, order, lt-minus, ring, times, neg-zero}
+use Rattle.model.specs.Geometry.{cross, alongEdge}
+use Rattle.outlines.specs.Simple.{ShareOnly}
+use Rattle.outlines.proofs.Tools.{dot, _≼_, _≺_, #, _⊞_, _⊟_, _⊠_, ⊖_, _≲_, _⋖_, _≈_, never, hyp, sqr, num, _⊕_, _⊗_, _⊢_by_, order, lt-minus, ring, times, neg-zero}
 use Rattle.outlines.proofs.Crossing.{crossE, crossed, crossed-anti, cross-anti, NotZero, edgeCrossing, onePositive, minusNegative, above, Positive, positive-is, suc-positive, mid-0, first-0, edgeCrossing-anti, cross-rot}
 
 -- 1 if t is negative, else 0.
@@ -223,7 +223,7 @@ cross-from′ p a b = ring 6 (λ px py ax ay qx qy. crossE ax ay qx qy px py ≈
 
 -- At the edge's first corner a, after p: the crossing of p a with the ray from b, the crossing back, and the cone.
 pub corner-in : (p a b : Vertex) → ShareOnly p a b → crossed p a b +ℤ crossedBack a b p +ℤ cone p a b ≡ lowerHalf (upperHalf a b)
-unfolding crossed crossedBack cone upperHalf
+unfolding crossed crossedBack cone upperHalf alongEdge
 corner-in p a b h = ap₂ (λ s t. edgeCrossing (above b p) (above b a) s +ℤ edgeCrossing (above a p) (above b p) t +ℤ coneBy (upperHalf a b) (upperHalf a p) s) (cross-from p a b) (cross-from′ p a b)
     ∙ coreA (ltZ (a .y) (b .y)) (ltZ (b .y) (a .y)) (ltZ (a .y) (p .y)) (ltZ (p .y) (a .y)) (ltZ (b .y) (p .y)) (ltZ (b .x) (a .x)) (ltZ (p .x) (a .x))
     (b .y -ℤ a .y) (p .y -ℤ a .y) (b .x -ℤ a .x) (p .x -ℤ a .x)
@@ -277,7 +277,7 @@ turned-back p a b = cross-anti a b p ∙ ap negℤ (sym (cross-rot p a b))
 
 -- The cone and the cone of the other side are 1 together.
 pub both-ways : (p a b : Vertex) → ShareOnly p a b → cone p a b +ℤ cone b a p ≡ pos 1
-unfolding cone upperHalf
+unfolding cone upperHalf alongEdge
 both-ways p a b h = ap (λ t. coneBy (upperHalf a b) (upperHalf a p) (cross p a b) +ℤ coneBy (upperHalf a p) (upperHalf a b) t) (turned-back p a b)
     ∙ ap (λ t. coneBy (upperHalf a b) (upperHalf a p) t +ℤ coneBy (upperHalf a p) (upperHalf a b) (negℤ t)) (cross-from p a b)
     ∙ coreC (ltZ (a .y) (b .y)) (ltZ (b .y) (a .y)) (ltZ (a .y) (p .y)) (ltZ (p .y) (a .y)) (ltZ (b .x) (a .x)) (ltZ (p .x) (a .x))
@@ -297,7 +297,7 @@ coreD false false false false α X a b c d h = absurd (h (≤ℤ-antisym a b) (�
 
 -- An edge goes up one way and down the other.
 pub up-down : (p a b : Vertex) → ShareOnly p a b → lowerHalf (upperHalf a b) +ℤ lowerHalf (upperHalf b a) ≡ pos 1
-unfolding upperHalf
+unfolding upperHalf alongEdge
 up-down p a b h = coreD (ltZ (a .y) (b .y)) (ltZ (b .y) (a .y)) (ltZ (b .x) (a .x)) (ltZ (a .x) (b .x)) (b .y -ℤ a .y) (b .x -ℤ a .x)
     (positive-is (a .y) (b .y)) (negative-is (b .y) (a .y)) (negative-is (b .x) (a .x)) (positive-is (a .x) (b .x))
     (λ i j. d1 (b .y -ℤ a .y) (p .y -ℤ a .y) (b .x -ℤ a .x) (p .x -ℤ a .x) i j (h .apart (cross-from p a b ∙ cz (b .y -ℤ a .y) (p .y -ℤ a .y) (b .x -ℤ a .x) (p .x -ℤ a .x) i j)))
@@ -313,6 +313,7 @@ dot-sym p a b = ring 6 (λ px py ax ay qx qy. (qx ⊟ ax) ⊠ (px ⊟ ax) ⊞ (q
 
 -- Neighbours share their corner alone, in either order.
 pub share-sym : {p a b : Vertex} → ShareOnly p a b → ShareOnly b a p
+unfolding alongEdge
 share-sym {p} {a} {b} h = record { apart = λ z. subst (λ t. t ≺ pos 0) (sym (dot-sym p a b)) (h .apart (neg-zero (cross b a p) (cross p a b) (turned-back b a p) z)) }
 
 -- At the edge's last corner b, before q: the same.
