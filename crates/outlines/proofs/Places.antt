@@ -70,7 +70,7 @@ first-getD c [] l = absurd (omega arith)
 first-getD c (a ∷ L) l = refl
 
 -- The last of a list by its number.
-last-getD : (c : Vertex) (L : List Vertex) (n : ℕ) → length L ≡ suc n → lastOf c L ≡ getD L n origin
+pub last-getD : (c : Vertex) (L : List Vertex) (n : ℕ) → length L ≡ suc n → lastOf c L ≡ getD L n origin
 last-getD c [] n l = absurd (omega arith)
 last-getD c (a ∷ []) zero l = refl
 last-getD c (a ∷ []) (suc n) l = absurd (omega arith)

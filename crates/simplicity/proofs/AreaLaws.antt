@@ -19,7 +19,7 @@ use Rattle.model.specs.Content.{Vertex, origin}
 use Rattle.model.specs.Format.{byteAt}
 use Rattle.model.specs.Geometry.{vertexAt, following}
 use Rattle.outlines.specs.Outline.{lastOf, pathSum, edgeSum, det, doubledArea}
-use Rattle.outlines.proofs.Places.{following-is}
+use Rattle.outlines.proofs.Places.{last-getD, following-is}
 use Rattle.records.specs.Parts.{vertexFrom, partFrom, nextOf}
 use Rattle.simplicity.specs.Corners.{sumBelow, edgeArea}
 use Rattle.simplicity.proofs.CornerLaws.{part-length, corner-at, next-corner}
@@ -42,10 +42,6 @@ sum-same f g (suc k) h = ap₂ (λ a b. a +ℤ b) (sum-same f g k (λ i l. h i (
 
 -- ---- Sums over the edges
 
-last-at : (a : Vertex) (bs : List Vertex) → lastOf a bs ≡ getD (a ∷ bs) (length bs) origin
-last-at a [] = refl
-last-at a (b ∷ bs) = last-at b bs
-
 module _ (F : Vertex → Vertex → ℤ) where
   path-sum : (a : Vertex) (bs : List Vertex) → pathSum F a bs ≡ sumBelow (λ i. F (getD (a ∷ bs) i origin) (getD (a ∷ bs) (suc i) origin)) (length bs)
   unfolding sumBelow
@@ -67,7 +63,7 @@ module _ (F : Vertex → Vertex → ℤ) where
       inner i h = ⊎-elim (λ r. absurd (omega (arith, r .0, h))) (λ r. ap (λ j. F (getD P i origin) (getD P j origin)) (sym (r .1))) (following-is P i)
 
       outer : F (lastOf a bs) a ≡ F (getD P (length bs) origin) (getD P (following P (length bs)) origin)
-      outer = ⊎-elim (λ r. ap₂ F (last-at a bs) (ap (λ j. getD P j origin) (sym (r .1)))) (λ r. absurd (r .0 refl)) (following-is P (length bs))
+      outer = ⊎-elim (λ r. ap₂ F (last-getD a (a ∷ bs) (length bs) refl) (ap (λ j. getD P j origin) (sym (r .1)))) (λ r. absurd (r .0 refl)) (following-is P (length bs))
 
 -- The doubled area of the outline that stands in a part.
 pub area-is : (s : List ℕ) (n : ℕ) → sumBelow (edgeArea s n) n ≡ doubledArea (partFrom s n)

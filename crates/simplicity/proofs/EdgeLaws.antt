@@ -1,16 +1,16 @@
 -- The refusal by the corner numbers of a part: each test is the definition's.
-use mathlib.Core.Bool.{Bool, true, false, not, _&&_, _||_, and-assoc, or-assoc, true≢false}
+use mathlib.Core.Bool.{Bool, not, _&&_, _||_, and-assoc, or-assoc}
 use mathlib.Core.List.{List}
-use mathlib.Core.Path.{_≡_, refl, sym, ap, _∙_}
-use Prim.Native.Nat.{ℕ, zero, suc, _≤_, _<_}
+use mathlib.Core.Path.{_≡_, sym, ap, _∙_}
+use Prim.Native.Nat.{ℕ, _≤_, _<_}
 use native.Mathlib.Omega.{arith}
-use borrow.Author.Tests.{eq-eqb, ne-eqb}
-use lib.Dec.{eqb}
-use lib.IntN.{ℤ, pos, negsuc, _+ℤ_, _-ℤ_, _*ℤ_}
+use borrow.Author.Tests.{eq-eqb, eqb-true}
+use lib.Dec.{eqb, lit<}
+use lib.IntN.{ℤ, pos, _+ℤ_, _-ℤ_, _*ℤ_}
 use lib.Signed.{leZ, ltZ}
 use mir.Syntax.{w64}
-use mir.Val.{SFits, toZ, ofZ}
-use mir.ValLaws.{toZ-ofZ}
+use mir.Val.{SFits, ofZ}
+use Rattle.integers.proofs.Machine.{same-bits}
 use Rattle.model.specs.Content.{Vertex}
 use Rattle.model.specs.Geometry.{cross, alongEdge, vertexAt}
 use Rattle.model.specs.Lists.{any, below}
@@ -18,6 +18,8 @@ use Rattle.model.proofs.Folds.{map-below-same}
 use Rattle.model.proofs.Tests.{any-map}
 use Rattle.outlines.specs.Outline.{isZero, lessThan, sameSide, meet, doublesBack, edgeMeets, edgesMeet}
 use Rattle.outlines.specs.Numbered.{others}
+use Rattle.outlines.proofs.Rule.{zero-is, is-zero}
+use Rattle.outlines.proofs.Places.{same-bool}
 use Rattle.outlines.proofs.EdgePlaces.{strikes, edge-at, edges-at}
 use Rattle.records.specs.Parts.{vertexFrom, partFrom, nextOf}
 use Rattle.simplicity.specs.Corners.{coordinateFrom, lessFrom, apartFrom, previousOf, neighbours, strikesFrom, edgeMeetsFrom}
@@ -58,22 +60,11 @@ module _ (s : List ℕ) (a b u t : ℕ) where
       (lessThan (A .y) (B .y) (U .y) (T .y)) (lessThan (U .y) (T .y) (A .y) (B .y)))
 
 -- A number is 0 exactly if its 64 bits are: what `== 0` says.
-is-zero : (z : ℤ) → isZero z ≡ true → ofZ w64 z ≡ 0
-unfolding isZero
-is-zero (pos zero) e = refl
-is-zero (pos (suc n)) e = absurd (true≢false (sym e))
-is-zero (negsuc n) e = absurd (true≢false (sym e))
-
-zero-is : (z : ℤ) → SFits w64 z → ofZ w64 z ≡ 0 → isZero z ≡ true
-unfolding isZero
-zero-is z h e = ap isZero (sym (toZ-ofZ w64 z h) ∙ ap (toZ w64) e)
-
 pub zero-bits : (z : ℤ) → SFits w64 z → eqb (ofZ w64 z) 0 ≡ isZero z
-zero-bits z h = go (isZero z) refl
-  where
-    go : (b : Bool) → isZero z ≡ b → eqb (ofZ w64 z) 0 ≡ b
-    go true e = eq-eqb (ofZ w64 z) 0 (is-zero z e)
-    go false e = ne-eqb (ofZ w64 z) 0 (λ q. true≢false (sym (zero-is z h q) ∙ e))
+zero-bits z h =
+    same-bool (eqb (ofZ w64 z) 0) (isZero z)
+    (λ q. is-zero z (same-bits w64 z (pos 0) h (record { sfits = lit< tt }) (eqb-true (ofZ w64 z) 0 q)))
+    (λ q. eq-eqb (ofZ w64 z) 0 (ap (ofZ w64) (zero-is z q)))
 
 -- The edges from p to c and from c to s double back.
 pub doubles-is : (p c s : Vertex) (line : Bool) (z ax ay bx by : ℤ) → line ≡ isZero (cross p c s) → z ≡ ax *ℤ bx +ℤ ay *ℤ by
