@@ -80,6 +80,11 @@ COATING, PACKING = (4, 2, 1), (1, 7, 3)
 TWO_CLASSES = 1 << 4 | 1 << 1
 
 
+# Coating again, which comes before a common cut.
+COATED, CUT = (0, 1, 3), (2, 9, COMMON_CUT + 1)
+COATED_AND_CUT = 1 << 0 | 1 << 2
+
+
 def brackets(classes):
     return Job(5, 14, 1, [piece(3, BRACKET, turns=5, classes=TWO_CLASSES)], classes)
 
@@ -143,6 +148,14 @@ JOBS = {
     "common-cut-and-another": (
         "Two squares in a common cut of gap 2 and one in no class: the two touch, the third stands 2 apart.",
         Job(2, 8, 1, [piece(2, [SQUARE], classes=1), piece(1, [SQUARE])], [(0, 5, COMMON_CUT + 2)]),
+    ),
+    "common-cut-outranked": (
+        "Two squares in a common cut of rank 9 and in coating, which has rank 1 and gap 3: the rank counts, they stand 3 apart.",
+        Job(2, 7, 1, [piece(2, [SQUARE], classes=COATED_AND_CUT)], [COATED, CUT]),
+    ),
+    "common-cut-outranked-by-one": (
+        "One square in both and two in the common cut alone, of gap 1: the two touch, the coated one stands 3 apart.",
+        Job(2, 9, 1, [piece(1, [SQUARE], classes=COATED_AND_CUT), piece(2, [SQUARE], classes=1 << 2)], [COATED, CUT]),
     ),
     "round-gap": (
         "Two squares with a gap of 5 on a board that leaves 4 between them across: 3 along it are enough, corner to corner.",
@@ -266,6 +279,10 @@ GIVEN = {
         "Two squares that touch, although their gap is 1.",
         [(0, 0, 0, 0), (0, 2, 0, 0)],
     ),
+    "common-cut-outranked": (
+        "Two squares that touch: held by a run from before coating came first.",
+        [(0, 0, 0, 0), (0, 2, 0, 0)],
+    ),
 }
 
 TOP = """# Sample jobs
@@ -276,7 +293,9 @@ expected outputs come from the reference in `tests/`, which was written from doc
 is no part of a job: the C example takes one behind the job's name. Outlines, which no job holds, are in `outlines/`.
 
 Gaps are those of a round cutter. Measured as a square, as document 01 had it, `round-gap` would be 9 long,
-`round-gap-slanting` 15 and `carried-shortened` 16; no other job here would have another output.
+`round-gap-slanting` 15 and `carried-shortened` 16; no other job here would have another output. And a common cut is the
+best-ranked class of both pieces. If any marked class that they share would do, as before request 8/13 of document 02,
+`common-cut-outranked` would be 4 long and `common-cut-outranked-by-one` 6; no other would have another output.
 
 `NAME.saved`, for five of them, is the job as the engine saves it: board, classes by rising id, types, trailer.
 `make.py` puts it together from the job's description alone. `classes-one-order` and `classes-other-order` are saved

@@ -19,17 +19,17 @@ pub struct Made {
 }
 
 pub fn make(noise: &mut Noise) -> Made {
-    match noise.below(30) {
+    match noise.below(33) {
         0..=5 => sound(noise, small_draft, usual_margin),
         6 => sound(noise, narrow_draft, margin_past_a_side),
         7 => sound(noise, roomy_draft, usual_margin),
         8..=9 => sound(noise, crowded_draft, usual_margin),
         10 => sound(noise, large_draft, usual_margin),
-        11..=13 => sound(noise, common_cut_draft, usual_margin),
-        14..=18 => sound(noise, round_gap_draft, seldom_a_margin),
-        19..=20 => sound(noise, strip_draft, seldom_a_margin),
-        21..=25 => spoilt(noise),
-        26..=28 => spoilt_twice(noise),
+        11..=16 => sound(noise, common_cut_draft, usual_margin),
+        17..=21 => sound(noise, round_gap_draft, seldom_a_margin),
+        22..=23 => sound(noise, strip_draft, seldom_a_margin),
+        24..=28 => spoilt(noise),
+        29..=31 => spoilt_twice(noise),
         _ => hit_at_random(noise),
     }
 }
@@ -174,16 +174,18 @@ pub fn crowded_draft(noise: &mut Noise) -> Draft {
     draft
 }
 
-/// One type of several copies, or two types, on a board where a gap soon takes too much room. Which classes they name
-/// is picked from a list; ranks and gaps fall as they may.
+/// One type of several copies, or two types, on a board where a gap soon takes too much room. Which classes are marked,
+/// and which of them each type names, is picked from a list; ids, gaps and the order of the classes fall as they may.
 pub fn common_cut_draft(noise: &mut Noise) -> Draft {
     let (width, length) = (noise.between(1, 3) as u16, noise.between(4, 9) as u16);
     let mut draft = Draft::new(width, length, 1);
-    let classes = ids_and_ranks(noise, 4);
-    let with_marks = classes.iter().zip([MARK_OF_A_CUT, MARK_OF_A_CUT, 0, 0]);
-    draft.classes = with_marks.map(|(&[id, rank], mark)| [id, rank, mark + noise.pick(&[0, 1, 1, 2, 3])]).collect();
-    let kinds = noise.pick(&[1, 2, 2, 2]);
-    for places in &NAMED_BY_TWO[noise.below(NAMED_BY_TWO.len())][..kinds] {
+    let Cuts { marked, mut named } = noise.pick(&CUTS);
+    let mut classes = ids_and_ranks(noise, 4);
+    classes.sort_unstable_by_key(|&[_, rank]| rank);
+    draft.classes = (0..4).map(|place| cut_class(noise, classes[place], marked.contains(&place))).collect();
+    noise.shuffle(&mut named);
+    let kinds = noise.pick(&[1, 2, 2, 2, 2]);
+    for places in &named[..kinds] {
         let size = noise.between(1, 2);
         let mut kind = random_type(noise, size, |noise, size| vec![random_part(noise, size, 0, 0)]);
         kind.demand = if kinds == 1 { noise.between(2, 3) } else { noise.between(1, 2) } as u8;
@@ -191,27 +193,56 @@ pub fn common_cut_draft(noise: &mut Noise) -> Draft {
         draft.types.push(kind);
     }
     noise.shuffle(&mut draft.classes);
-    noise.shuffle(&mut draft.types);
     draft
 }
 
-/// Which of four classes each of two types names; the first two classes are marked.
-const NAMED_BY_TWO: [[&[usize]; 2]; 12] = [
-    // A cut is shared, alone or beside others.
-    [&[0], &[0]],
-    [&[0, 2], &[0, 3]],
-    [&[0, 2], &[0, 2]],
-    [&[0, 2], &[0]],
-    [&[0, 1], &[0]],
-    [&[0, 1, 2], &[0, 3]],
-    // A cut is named by one of them.
-    [&[0], &[]],
-    [&[0], &[2]],
-    [&[0, 2], &[2]],
-    [&[0, 2, 3], &[3]],
-    // Each has a cut, but not the same.
-    [&[0], &[1]],
-    [&[0, 2], &[1, 3]],
+fn cut_class(noise: &mut Noise, [id, rank]: [u8; 2], marked: bool) -> [u8; 3] {
+    let mark = if marked { MARK_OF_A_CUT } else { 0 };
+    [id, rank, mark + noise.pick(&[0, 1, 1, 2, 3])]
+}
+
+/// Of four classes, from the best-ranked to the last: those that are marked, and those that each of two types names.
+#[derive(Clone, Copy)]
+struct Cuts {
+    marked: &'static [usize],
+    named: [&'static [usize]; 2],
+}
+
+const CUTS: [Cuts; 27] = [
+    // The best-ranked class of both is marked, alone or before others.
+    Cuts { marked: &[0], named: [&[0], &[0]] },
+    Cuts { marked: &[0], named: [&[0, 2], &[0, 2]] },
+    Cuts { marked: &[1], named: [&[1, 2], &[1, 3]] },
+    Cuts { marked: &[0, 1], named: [&[0, 1], &[0]] },
+    Cuts { marked: &[1, 3], named: [&[1, 2], &[1, 3]] },
+    // A marked class is shared, behind one better-ranked class of both.
+    Cuts { marked: &[2], named: [&[0, 2], &[0, 2]] },
+    Cuts { marked: &[1], named: [&[0, 1], &[0, 1, 2]] },
+    Cuts { marked: &[1, 3], named: [&[0, 1, 3], &[0, 3]] },
+    // The same, behind another better-ranked class of each.
+    Cuts { marked: &[2], named: [&[0, 2], &[1, 2]] },
+    Cuts { marked: &[0, 2], named: [&[0, 2], &[1, 2]] },
+    Cuts { marked: &[0, 1, 2], named: [&[0, 2], &[1, 2]] },
+    // A marked class is the best-ranked of one, and behind an unmarked one of the other.
+    Cuts { marked: &[2], named: [&[0, 2], &[2]] },
+    Cuts { marked: &[1], named: [&[0, 1], &[1, 3]] },
+    Cuts { marked: &[1, 3], named: [&[0, 1, 3], &[1]] },
+    // The same, behind a marked one.
+    Cuts { marked: &[0, 3], named: [&[0, 3], &[3]] },
+    Cuts { marked: &[1, 2], named: [&[1, 2], &[2]] },
+    Cuts { marked: &[0, 1], named: [&[0, 1], &[1, 3]] },
+    Cuts { marked: &[0, 1], named: [&[0, 1, 2], &[1, 2]] },
+    // Each has a marked class as its best-ranked, and they share none that is.
+    Cuts { marked: &[0, 1], named: [&[0], &[1]] },
+    Cuts { marked: &[0, 2], named: [&[0, 1], &[2]] },
+    Cuts { marked: &[0, 1], named: [&[0, 3], &[1, 3]] },
+    Cuts { marked: &[1, 2], named: [&[1], &[2, 3]] },
+    Cuts { marked: &[2, 3], named: [&[2], &[3]] },
+    // Marked classes are named by one of them.
+    Cuts { marked: &[1], named: [&[1, 2], &[]] },
+    Cuts { marked: &[1], named: [&[1], &[0]] },
+    Cuts { marked: &[0], named: [&[0, 1], &[1]] },
+    Cuts { marked: &[1], named: [&[0, 1], &[0, 2]] },
 ];
 
 /// Up to 1024 dots, 8 types and 12 pieces, with parts of every size.

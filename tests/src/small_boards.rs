@@ -3,6 +3,7 @@
 //! with what documents 01 and 02 make of them, worked out by hand (but for the bytes of the largest content, which the
 //! encoder of the drafts puts together).
 
+mod common_cut;
 mod given;
 mod round_gap;
 
@@ -92,9 +93,7 @@ pub fn small_boards() -> Vec<SmallBoard> {
     let mut boards = boards_of_the_paper();
     boards.extend(boards_refused());
     boards.extend(boards_under_a_margin());
-    boards.extend(boards_of_common_cut());
-    boards.extend(boards_with_a_shared_cut());
-    boards.extend(boards_without_a_shared_cut());
+    boards.extend(common_cut::boards_of_common_cut());
     boards.extend(boards_of_gap_bytes());
     boards.extend(round_gap::boards_of_the_round_gap());
     boards.extend(boards_saved());
@@ -215,98 +214,6 @@ fn boards_under_a_margin() -> Vec<SmallBoard> {
     ]
 }
 
-/// Two squares of one type: they share every class that it names.
-fn boards_of_common_cut() -> Vec<SmallBoard> {
-    let better_ranked = [[0, 1, 3], [2, 9, 129]];
-    vec![
-        board("common cut, L 4", squares_with_gap(2, 4, 129), as_printed()),
-        board("common cut, L 3", squares_with_gap(2, 3, 129), vec![run(u32::MAX, "none 2\n")]),
-        // A column more, from which a square reaches past the first layout's length.
-        board("common cut, L 5", squares_with_gap(2, 5, 129), as_printed()),
-        board(
-            "common cut behind a better-ranked class",
-            Draft::new(2, 4, 1).classes(&better_ranked).with(2, 1, 0b101, &[SQUARE]),
-            as_printed(),
-        ),
-        board(
-            "common cut on a larger board",
-            squares_with_gap(4, 6, 129),
-            vec![
-                conflict((0, 0), (2, 0), false),
-                conflict((0, 0), (0, 2), false),
-                conflict((0, 0), (1, 0), true),
-                // What is left between the clamps is as large as W 2, L 4.
-                run_under(1, "shortest 6 3\n0 1 1 0\n0 3 1 0\n"),
-            ],
-        ),
-    ]
-}
-
-/// A square each of two types, whose masks name these of the classes.
-fn two_types(length: u16, classes: &[[u8; 3]], masks: [u8; 2]) -> Draft {
-    let [one, other] = masks;
-    Draft::new(2, length, 1).classes(classes).with(1, 1, one, &[SQUARE]).with(1, 1, other, &[SQUARE])
-}
-
-/// Where a marked class is shared, the squares nest on L 4 as two of one type do.
-fn boards_with_a_shared_cut() -> Vec<SmallBoard> {
-    let touch = || {
-        vec![
-            run(u32::MAX, "shortest 4 3\n0 0 0 0\n1 2 0 0\n"),
-            check(&[0, 0, 0, 0, 1, 2, 0, 0], Ok(4)),
-            check(&[0, 0, 0, 0, 1, 1, 0, 0], Err(11)),
-            conflict_of((0, 1), (0, 0), (2, 0), false),
-            conflict_of((1, 0), (0, 0), (2, 0), false),
-            conflict_of((0, 1), (0, 0), (1, 0), true),
-        ]
-    };
-    let ranked_last = [[0, 9, 129], [1, 1, 3], [2, 2, 3]];
-    let not_marked = [[0, 9, 1], [1, 1, 3], [2, 2, 3]];
-    vec![
-        board("two types in a cut", two_types(4, &[[0, 0, 129]], [1, 1]), touch()),
-        board("a cut behind a class of each", two_types(4, &ranked_last, [0b011, 0b101]), touch()),
-        // 3 apart: the second stands 5 columns behind the first, which is then tried on the four columns between them.
-        board(
-            "a class behind a class of each",
-            two_types(7, &not_marked, [0b011, 0b101]),
-            vec![run(u32::MAX, "shortest 7 6\n0 0 0 0\n1 5 0 0\n")],
-        ),
-        board("a cut behind a class of one", two_types(4, &[[0, 1, 3], [2, 9, 129]], [0b101, 0b100]), touch()),
-        board("a cut shared of two", two_types(4, &[[3, 1, 131], [6, 2, 130]], [1 << 3 | 1 << 6, 1 << 6]), touch()),
-    ]
-}
-
-/// Where none is shared, the squares below are to be 2 apart: the second stands 4 columns behind the first, which is
-/// then tried on the three columns between them.
-fn boards_without_a_shared_cut() -> Vec<SmallBoard> {
-    let apart = || {
-        vec![
-            run(u32::MAX, "shortest 6 5\n0 0 0 0\n1 4 0 0\n"),
-            check(&[0, 0, 0, 0, 1, 4, 0, 0], Ok(6)),
-            check(&[0, 0, 0, 0, 1, 3, 0, 0], Err(11)),
-            conflict_of((0, 1), (0, 0), (4, 0), false),
-            conflict_of((0, 1), (0, 0), (3, 0), true),
-            conflict_of((1, 0), (0, 0), (3, 0), true),
-        ]
-    };
-    let smaller_cut = [[0, 5, 129], [1, 7, 2]];
-    vec![
-        board("a cut of gap 1, a class of gap 2", two_types(6, &smaller_cut, [0b01, 0b10]), apart()),
-        board("the same, 1 too short", two_types(5, &smaller_cut, [0b01, 0b10]), vec![run(u32::MAX, "none 4\n")]),
-        board("a cut of gap 2, a class of gap 1", two_types(6, &[[0, 5, 130], [1, 7, 1]], [0b01, 0b10]), apart()),
-        board("a cut of gap 2, no class", two_types(6, &[[0, 5, 130]], [1, 0]), apart()),
-        board("a cut each", two_types(6, &[[0, 5, 129], [1, 7, 130]], [0b01, 0b10]), apart()),
-        board("a cut of one, a class of both", two_types(6, &[[0, 5, 130], [1, 9, 0]], [0b11, 0b10]), apart()),
-        board("a cut behind the class that counts", two_types(6, &[[0, 9, 131], [1, 5, 2]], [0b11, 0]), apart()),
-        // Two of the first type touch, and the second is 2 apart from the nearer.
-        board(
-            "two in a cut, one in no class",
-            Draft::new(2, 8, 1).classes(&[[0, 5, 130]]).with(2, 1, 1, &[SQUARE]).with(1, 1, 0, &[SQUARE]),
-            vec![run(u32::MAX, "shortest 8 14\n0 0 0 0\n0 2 0 0\n1 6 0 0\n")],
-        ),
-    ]
-}
-
 /// The limits of the gap byte: what read says of each, and how two squares of the class nest on W 2, L 4.
 fn boards_of_gap_bytes() -> Vec<SmallBoard> {
     let accepted = [
@@ -322,6 +229,7 @@ fn boards_of_gap_bytes() -> Vec<SmallBoard> {
         let class = [0, 0, gap, mark];
         [&[2, 4, 1, 1], &class[..], &[1, 2, 1, 1, 1, 4, 0, 0, 2, 0, 2, 2, 0, 2, 2]].concat()
     };
+    // Class 2 is the best-ranked, with no mark and a gap of 63.
     let mut boards = vec![board(
         "three classes",
         Draft::new(2, 4, 1).classes(&[[5, 200, 191], [2, 7, 63], [0, 9, 128]]).with(2, 1, 0b100101, &[SQUARE]),
@@ -329,7 +237,7 @@ fn boards_of_gap_bytes() -> Vec<SmallBoard> {
             Claim::Gives(vec![
                 2, 4, 1, 3, 0, 9, 0, 1, 2, 7, 63, 0, 5, 200, 63, 1, 1, 2, 1, 37, 1, 4, 0, 0, 2, 0, 2, 2, 0, 2, 2,
             ]),
-            run(u32::MAX, NESTED),
+            run(u32::MAX, "none 3\n"),
         ],
     )];
     boards.extend(accepted.map(|(name, byte, told, printed)| {

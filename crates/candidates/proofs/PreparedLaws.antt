@@ -30,8 +30,10 @@ use Rattle.model.proofs.AcceptedKinds.{gap-most}
 use Rattle.model.proofs.Causes.{no-cause, board-fits}
 use Rattle.model.proofs.Turning.{vertexed, conflict-placed}
 use Rattle.polygons.specs.Boxes.{extentsOf}
+use Rattle.job.specs.Gaps.{sameCut}
 use Rattle.job.specs.View.{problemOf, Viewed}
 use Rattle.job.specs.declared.View.{View}
+use Rattle.job.proofs.GapLaws.{shared-cut}
 use Rattle.geometry.specs.declared.pieces.Piece.{Piece}
 use Rattle.shapes.specs.Boxes.{boxAt, turnedVertices, BoxesOf}
 use Rattle.shapes.specs.Pieces.{PieceOf}
@@ -64,7 +66,7 @@ pub sheet-range : (s : List ℕ) → refusal s ≡ 0 → (content s .sheet .W �
 unfolding content
 sheet-range s e = let f = board-fits s (no-cause s e .no4) in (f .widthMost, f .lengthMost, f .stepMost)
 
--- The gaps of two kinds, and whether they share a common-cut class, make the gap of the pair.
+-- The gaps of two kinds, and whether they share a common cut, make the gap of the pair.
 pub gap-of-pair : (cs : List SpacingClass) (k l : Kind) (g h : ℕ) (shared : Bool) → g ≡ kindGap cs k → h ≡ kindGap cs l → shared ≡ shareCut cs k l
     → gapBetween g h shared ≡ pairGap cs k l
 unfolding gapBetween pairGap
@@ -89,11 +91,16 @@ module _ (s : List ℕ) (v : View) (x : Viewed s v) where
         gaps = λ t h. rw (kind-in s v x t (rw (x .view .kinds) at h) .gap) (gap-most s (x .accepted) (kindAt (content s .kinds) t));
       }
 
+  -- The view's numbers of two kinds say whether they share a common cut.
+  pub shares-cut : (t u : ℕ) → t < kindCount (content s .kinds) → u < kindCount (content s .kinds)
+      → sameCut (getD (v .cuts) t 0) (getD (v .cuts) u 0) ≡ shareCut (content s .classes) (kindAt (content s .kinds) t) (kindAt (content s .kinds) u)
+  shares-cut t u ht hu = ap₂ sameCut (kind-in s v x t ht .cut) (kind-in s v x u hu .cut) ∙ shared-cut (content s .classes) (kindAt (content s .kinds) t) (kindAt (content s .kinds) u)
+
   -- The gap of two kinds in the view is the pair's.
   pub gap-is : (t u : ℕ) → t < kindCount (content s .kinds) → u < kindCount (content s .kinds)
       → viewGap v t u ≡ pairGap (content s .classes) (kindAt (content s .kinds) t) (kindAt (content s .kinds) u)
   gap-is t u ht hu =
-      gap-of-pair (content s .classes) (kindAt (content s .kinds) t) (kindAt (content s .kinds) u) _ _ _ (kind-in s v x t ht .gap) (kind-in s v x u hu .gap) (x .view .cuts t u ht hu)
+      gap-of-pair (content s .classes) (kindAt (content s .kinds) t) (kindAt (content s .kinds) u) _ _ _ (kind-in s v x t ht .gap) (kind-in s v x u hu .gap) (shares-cut t u ht hu)
 
   -- the vertices of a kind
   module _ (t : ℕ) (h : t < kindCount (content s .kinds)) where

@@ -6,7 +6,7 @@ use lib.IntN.{ℤ, pos, _-ℤ_}
 use lib.ListN.{getD}
 use Rattle.model.specs.Geometry.{piecesConflict}
 use Rattle.polygons.specs.Flat.{shifted}
-use Rattle.job.specs.Gaps.{masksMeet}
+use Rattle.job.specs.Gaps.{sameCut}
 use Rattle.job.specs.View.{Viewed}
 use Rattle.job.specs.declared.View.{View}
 use Rattle.shapes.specs.Boxes.{BoxesOf}
@@ -43,10 +43,10 @@ conflictBetween table step p a q c gap =
     piecesConflict gap (partsIn table (turnedTo p (a .rotation)))
     (map (map (shifted (pos (c .column * step) -ℤ pos (a .column * step)) (pos (c .row * step) -ℤ pos (a .row * step)))) (partsIn table (turnedTo q (c .rotation))))
 
--- The gap of a pair of kinds, from the gaps of both and whether they share a common-cut class.
+-- The gap of a pair of kinds, from the gaps of both and whether they share a common cut.
 unfoldable pub gapBetween : ℕ → ℕ → Bool → ℕ
 gapBetween g h shared = cond shared 0 (max g h)
 
 -- The gap of a pair of kinds, by a view.
 abbrev pub viewGap : View → ℕ → ℕ → ℕ
-viewGap v t u = gapBetween (getD (v .gaps) t 0) (getD (v .gaps) u 0) (masksMeet (getD (v .cuts) t 0) (getD (v .cuts) u 0))
+viewGap v t u = gapBetween (getD (v .gaps) t 0) (getD (v .gaps) u 0) (sameCut (getD (v .cuts) t 0) (getD (v .cuts) u 0))

@@ -3,7 +3,7 @@ ghost use mathlib.Core.Path.{_≡_};
 ghost use Prim.Native.Nat.{_*_, _≤_, _<_};
 ghost use lib.IntN.{pos, _-ℤ_};
 ghost use lib.ListN.{getD};
-ghost use Rattle.job.specs.Gaps.{masksMeet};
+ghost use Rattle.job.specs.Gaps.{sameCut};
 ghost use Rattle.shapes.specs.Pieces.{Turnable};
 ghost use Rattle.candidates.specs.Placements.{Bounded};
 ghost use Rattle.candidates.specs.Conflicts.{Near, placedOf, conflictBetween, gapBetween, viewGap};
@@ -64,16 +64,17 @@ pub fn conflict_between(
     )
 }
 
-// Two kinds share a common-cut class: their masks meet.
+// Two kinds share a common cut: the best-ranked class of both is the same, and it is marked.
 pub fn share_cut(view: View, kind: usize, other: usize) -> bool
     requires { ⌜ (kind < 8) × (other < 8) ⌝ }
-    ensures { λ r. ⌜ r ≡ masksMeet (getD (view .cuts) kind 0) (getD (view .cuts) other 0) ⌝ }
+    ensures { λ r. ⌜ r ≡ sameCut (getD (view .cuts) kind 0) (getD (view .cuts) other 0) ⌝ }
 {
     let cuts = view.cuts;
-    cuts[kind] & cuts[other] != 0
+    let cut = cuts[kind];
+    (cut != 0) & (cut == cuts[other])
 }
 
-// The gap of a pair of kinds, from the gaps of both: none where they share a common-cut class, and otherwise the larger of the two.
+// The gap of a pair of kinds, from the gaps of both: none where they share a common cut, and otherwise the larger of the two.
 pub fn gap_between(g: usize, h: usize, shared: bool) -> u16
     requires { ⌜ (g ≤ 63) × (h ≤ 63) ⌝ }
     ensures { λ r. ⌜ r ≡ gapBetween g h shared ⌝ }

@@ -1,68 +1,73 @@
--- The best-ranked class, id by id, is the one whose gap the model takes, where no id occurs twice.
-use mathlib.Core.Bool.{Bool, true, false, cond, _&&_}
+-- The best-ranked class, id by id, is the model's, where no id occurs twice; and two kinds share a common cut exactly where the numbers of their best-ranked classes say so.
+use mathlib.Core.Bool.{Bool, true, false, not, cond, _&&_, and-true, and-false}
 use mathlib.Core.List.{List, [], _∷_, _++_, map}
-use mathlib.Core.Path.{_≡_, refl, sym, ap, _∙_}
+use mathlib.Core.Option.{Option, none, some}
+use mathlib.Core.Path.{_≡_, refl, sym, ap, ap₂, _∙_}
 use Prim.Native.Nat.{ℕ, zero, suc, _+_, _*_}
 use native.Mathlib.Numerals.{add-one}
-use borrow.Author.Tests.{ltb-true}
-use lib.Dec.{eqb, ltb}
+use native.Mathlib.Omega.{arith}
+use borrow.Author.Tests.{ltb-true, ne-eqb}
+use lib.Dec.{eqb, ltb, eqb·suc-suc}
 use Rattle.words.specs.Bits.{testBit}
 use Rattle.model.specs.Content.{SpacingClass, Kind}
-use Rattle.model.specs.Format.{byteAt, gapMeant, classFrom, byRisingId}
-use Rattle.model.specs.Gap.{names, better, bestFrom, bestRanked, gapOr0}
+use Rattle.model.specs.Format.{byteAt, marksCut, gapMeant, classFrom, byRisingId}
+use Rattle.model.specs.Gap.{names, better, bestFrom, bestRanked, gapOr0, bestClass, kindGap, sameMarked, shareCut}
 use Rattle.model.specs.Lists.{keep, concat, rising, below}
 use Rattle.model.proofs.Folds.{keep-append}
 use Rattle.records.specs.Classes.{classesFrom, indexOf, distinctColumn}
-use Rattle.job.specs.Gaps.{bestOf, offered, offeredId, bestBelow}
+use Rattle.job.specs.Gaps.{cutNumber, cutOr0, sameCut, bestOf, noBest, bestAt, offered, offeredId, bestBelow}
 use Rattle.job.specs.declared.gaps.Best.{Best}
 use Rattle.records.proofs.ClassLaws.{risen-more, found, found-is}
 
 -- ---- Classes offered one after the other
 
-pub offers : Best → List SpacingClass → Best
+-- What is kept of a class, and of none.
+pub kept : Option SpacingClass → Best
+kept none = noBest
+kept (some c) = bestOf (c .rank) (c .gap) (cutNumber (c .commonCut) (c .id))
+
+offers : Best → List SpacingClass → Best
 offers b [] = b
-offers b (c ∷ cs) = offers (offered b (c .rank) (c .gap)) cs
+offers b (c ∷ cs) = offers (offered b (kept (some c))) cs
 
 offers-append : (b : Best) (xs ys : List SpacingClass) → offers b (xs ++ ys) ≡ offers (offers b xs) ys
 unfolding offers
 offers-append b [] ys = refl
-offers-append b (c ∷ xs) ys = offers-append (offered b (c .rank) (c .gap)) xs ys
+offers-append b (c ∷ xs) ys = offers-append (offered b (kept (some c))) xs ys
 
-offers-best : (c : SpacingClass) (cs : List SpacingClass) → offers (bestOf true (c .rank) (c .gap)) cs .gap ≡ bestFrom c cs .gap
-unfolding offers offered bestFrom better
+offers-best : (c : SpacingClass) (cs : List SpacingClass) → offers (kept (some c)) cs ≡ kept (some (bestFrom c cs))
+unfolding offers offered kept bestFrom better
 offers-best c [] = refl
 offers-best c (d ∷ cs) = go (ltb (d .rank) (c .rank)) (offers-best c cs) (offers-best d cs)
   where
-    go : (b : Bool) → offers (bestOf true (c .rank) (c .gap)) cs .gap ≡ bestFrom c cs .gap
-        → offers (bestOf true (d .rank) (d .gap)) cs .gap ≡ bestFrom d cs .gap
-        → offers (cond b (bestOf true (d .rank) (d .gap)) (bestOf true (c .rank) (c .gap))) cs .gap ≡ bestFrom (cond b d c) cs .gap
+    go : (b : Bool) → offers (kept (some c)) cs ≡ kept (some (bestFrom c cs)) → offers (kept (some d)) cs ≡ kept (some (bestFrom d cs))
+        → offers (cond b (kept (some d)) (kept (some c))) cs ≡ kept (some (bestFrom (cond b d c) cs))
     go true p q = q
     go false p q = p
 
-offers-gap : (cs : List SpacingClass) → offers (bestOf false 0 0) cs .gap ≡ gapOr0 (bestRanked cs)
-unfolding offers offered bestRanked gapOr0
-offers-gap [] = refl
-offers-gap (c ∷ cs) = offers-best c cs
+offers-ranked : (cs : List SpacingClass) → offers noBest cs ≡ kept (bestRanked cs)
+unfolding offers offered kept bestRanked
+offers-ranked [] = refl
+offers-ranked (c ∷ cs) = offers-best c cs
 
 one-offered : (k : Kind) (b : Best) (c : SpacingClass)
-    → offers b (keep (names k) (c ∷ [])) ≡ cond (testBit (k .classes) (c .id)) (offered b (c .rank) (c .gap)) b
+    → offers b (keep (names k) (c ∷ [])) ≡ cond (testBit (k .classes) (c .id)) (offered b (kept (some c))) b
 unfolding offers keep names
 one-offered k b c = go (testBit (k .classes) (c .id))
   where
-    go : (t : Bool) → offers b (cond t (c ∷ []) []) ≡ cond t (offered b (c .rank) (c .gap)) b
+    go : (t : Bool) → offers b (cond t (c ∷ []) []) ≡ cond t (offered b (kept (some c))) b
     go true = refl
     go false = refl
 
 module _ (s : List ℕ) (o n : ℕ) (k : Kind) (d : distinctColumn s o n ≡ true) where
   -- One id more.
   offer-found : (i : ℕ) (b : Best) (t : Bool) → ltb (indexOf s o n i) n ≡ t
-      → offers b (keep (names k) (cond t (classFrom s (o + indexOf s o n i * 3) ∷ []) []))
-      ≡ cond (t && testBit (k .classes) i) (offered b (byteAt s (o + indexOf s o n i * 3 + 1)) (gapMeant (byteAt s (o + indexOf s o n i * 3 + 2)))) b
-  unfolding keep offers
+      → offers b (keep (names k) (cond t (classFrom s (o + indexOf s o n i * 3) ∷ []) [])) ≡ cond (t && testBit (k .classes) i) (offered b (bestAt s (o + indexOf s o n i * 3) i)) b
+  unfolding keep offers kept bestAt
   offer-found i b true e =
-      one-offered k b (classFrom s (o + indexOf s o n i * 3))
-      ∙ ap (λ m. cond (testBit (k .classes) m) (offered b (byteAt s (o + indexOf s o n i * 3 + 1)) (gapMeant (byteAt s (o + indexOf s o n i * 3 + 2)))) b)
-      (found-is s o i n (ltb-true _ _ e))
+      let x = o + indexOf s o n i * 3 in
+      one-offered k b (classFrom s x)
+      ∙ ap (λ m. cond (testBit (k .classes) m) (offered b (bestOf (byteAt s (x + 1)) (gapMeant (byteAt s (x + 2))) (cutNumber (marksCut (byteAt s (x + 2))) m))) b) (found-is s o i n (ltb-true _ _ e))
   offer-found i b false e = refl
 
   offer-one : (i : ℕ) (b : Best) → offers b (keep (names k) (keep (λ c. eqb (c .id) i) (classesFrom s o n))) ≡ offeredId s o n (k .classes) i b
@@ -76,30 +81,40 @@ module _ (s : List ℕ) (o n : ℕ) (k : Kind) (d : distinctColumn s o n ≡ tru
   risen-suc : (i : ℕ) → risen (suc i) ≡ risen i ++ keep (λ c. eqb (c .id) i) (classesFrom s o n)
   risen-suc i = ap risen (sym (add-one i)) ∙ risen-more (classesFrom s o n) i
 
-  best-is : (i : ℕ) → bestBelow s o n (k .classes) i ≡ offers (bestOf false 0 0) (keep (names k) (risen i))
+  offered-below : (i : ℕ) → bestBelow s o n (k .classes) i ≡ offers noBest (keep (names k) (risen i))
   unfolding bestBelow below rising concat keep offers
-  best-is zero = refl
-  best-is (suc i) =
-      ap (offeredId s o n (k .classes) i) (best-is i)
-      ∙ sym (offer-one i (offers (bestOf false 0 0) (keep (names k) (risen i))))
-      ∙ sym (offers-append (bestOf false 0 0) (keep (names k) (risen i)) (keep (names k) (keep (λ c. eqb (c .id) i) (classesFrom s o n))))
-      ∙ ap (offers (bestOf false 0 0)) (sym (keep-append (names k) (risen i) (keep (λ c. eqb (c .id) i) (classesFrom s o n))))
-      ∙ ap (λ l. offers (bestOf false 0 0) (keep (names k) l)) (sym (risen-suc i))
+  offered-below zero = refl
+  offered-below (suc i) =
+      ap (offeredId s o n (k .classes) i) (offered-below i)
+      ∙ sym (offer-one i (offers noBest (keep (names k) (risen i))))
+      ∙ sym (offers-append noBest (keep (names k) (risen i)) (keep (names k) (keep (λ c. eqb (c .id) i) (classesFrom s o n))))
+      ∙ ap (offers noBest) (sym (keep-append (names k) (risen i) (keep (λ c. eqb (c .id) i) (classesFrom s o n))))
+      ∙ ap (λ l. offers noBest (keep (names k) l)) (sym (risen-suc i))
 
-  -- The gap that the model gives the kind.
-  pub gap-is : bestBelow s o n (k .classes) 8 .gap ≡ gapOr0 (bestRanked (keep (names k) (byRisingId (classesFrom s o n))))
-  unfolding byRisingId
-  gap-is = ap (λ b. b .gap) (best-is 8) ∙ offers-gap (keep (names k) (risen 8))
+  -- What is kept is that of the kind's best-ranked class.
+  pub best-is : bestBelow s o n (k .classes) 8 ≡ kept (bestClass (byRisingId (classesFrom s o n)) k)
+  unfolding byRisingId bestClass
+  best-is = offered-below 8 ∙ offers-ranked (keep (names k) (risen 8))
+
+-- Its gap and its number.
+pub kept-gap : (b : Option SpacingClass) → kept b .gap ≡ gapOr0 b
+unfolding kept gapOr0
+kept-gap none = refl
+kept-gap (some c) = refl
+
+pub kept-cut : (b : Option SpacingClass) → kept b .cut ≡ cutOr0 b
+unfolding kept cutOr0
+kept-cut none = refl
+kept-cut (some c) = refl
 
 -- ---- One id in the code
 
 module _ (s : List ℕ) (o n mask id : ℕ) (b : Best) (j : ℕ) (t : Bool) where
-  pub offered-yes : (r g : ℕ) (c : Best) → j ≡ indexOf s o n id → t ≡ testBit mask id → (ltb j n && t) ≡ true
-      → r ≡ byteAt s (o + j * 3 + 1) → g ≡ gapMeant (byteAt s (o + j * 3 + 2)) → c ≡ offered b r g → c ≡ offeredId s o n mask id b
+  pub offered-yes : (c d : Best) → j ≡ indexOf s o n id → t ≡ testBit mask id → (ltb j n && t) ≡ true → d ≡ bestAt s (o + j * 3) id → c ≡ offered b d → c ≡ offeredId s o n mask id b
   unfolding offeredId
-  offered-yes r g c ej et e er eg ec =
+  offered-yes c d ej et e ed ec =
       let e′ : (ltb (indexOf s o n id) n && testBit mask id) ≡ true = rw (ej, et) at e in
-      ec ∙ rw (e′, er, eg, ej)
+      ec ∙ ap (offered b) (ed ∙ ap (λ j. bestAt s (o + j * 3) id) ej) ∙ rw e′
 
   pub offered-no : j ≡ indexOf s o n id → t ≡ testBit mask id → (ltb j n && t) ≡ false → b ≡ offeredId s o n mask id b
   unfolding offeredId
@@ -111,6 +126,33 @@ pub best-more : (s : List ℕ) (o n mask i : ℕ) → bestBelow s o n mask (i + 
 unfolding bestBelow
 best-more s o n mask i = ap (bestBelow s o n mask) (add-one i)
 
-pub best-none : (s : List ℕ) (o n mask : ℕ) → bestOf false 0 0 ≡ bestBelow s o n mask 0
+pub best-none : (s : List ℕ) (o n mask : ℕ) → noBest ≡ bestBelow s o n mask 0
 unfolding bestBelow
 best-none s o n mask = refl
+
+-- ---- Two kinds
+
+not-and-so : (t : Bool) → (not t && t) ≡ false
+not-and-so true = refl
+not-and-so false = refl
+
+same-marked : (a b : Option SpacingClass) → sameCut (cutOr0 a) (cutOr0 b) ≡ sameMarked a b
+unfolding sameCut cutOr0 cutNumber sameMarked
+same-marked none b = refl
+same-marked (some c) none = not-and-so (eqb (cutNumber (c .commonCut) (c .id)) 0)
+same-marked (some c) (some d) = go (c .commonCut) (d .commonCut)
+  where
+    ids : Bool
+    ids = eqb (c .id) (d .id)
+
+    go : (a b : Bool) → sameCut (cond a (c .id + 1) 0) (cond b (d .id + 1) 0) ≡ (ids && a && b)
+    go true true =
+        ap₂ (λ t u. not t && u) (ne-eqb (c .id + 1) 0 (λ e. omega arith)) (ap₂ eqb (add-one (c .id)) (add-one (d .id)) ∙ eqb·suc-suc (c .id) (d .id))
+        ∙ sym (and-true (ids && true) ∙ and-true ids)
+    go true false = not-and-so (eqb (c .id + 1) 0) ∙ sym (and-false (ids && true))
+    go false b = sym (ap (λ t. t && b) (and-false ids))
+
+-- The numbers of two kinds say whether they share a common cut.
+pub shared-cut : (cs : List SpacingClass) (k m : Kind) → sameCut (cutOr0 (bestClass cs k)) (cutOr0 (bestClass cs m)) ≡ shareCut cs k m
+unfolding shareCut
+shared-cut cs k m = same-marked (bestClass cs k) (bestClass cs m)

@@ -4,25 +4,24 @@ use mathlib.Core.List.{List, [], _∷_, _++_, map}
 use mathlib.Core.Path.{_≡_, sym, ap, ap₂, subst, _∙_}
 use Prim.Native.Nat.{ℕ, _+_, _*_, _<_}
 use native.Mathlib.Omega.{arith}
-use lib.Bits.{bitAnd}
 use lib.ListN.{length, getD, drop, set, length-set}
 use lib.Seq.{getD-set-same, getD-set-other}
-use Rattle.words.specs.Bits.{bitsWhere}
 use Rattle.model.specs.Content.{SpacingClass, Kind, noKind}
-use Rattle.model.specs.Format.{byteAt, many, readPart, readKind}
+use Rattle.model.specs.Format.{byteAt, many, readPart, readKind, byRisingId}
+use Rattle.model.specs.Gap.{bestClass, kindGap}
 use Rattle.model.specs.Lists.{sum}
 use Rattle.model.proofs.Folds.{sum-more, map-append}
 use Rattle.model.proofs.Readers.{many-length}
 use Rattle.model.proofs.Records.{byte-first, byte-behind}
 use Rattle.records.specs.Classes.{classesFrom, distinctColumn}
-use Rattle.job.specs.Gaps.{bestBelow, isCut, cutIds}
+use Rattle.job.specs.Gaps.{cutOr0, bestBelow}
 use Rattle.job.specs.Places.{FoundAt, Placed}
 use Rattle.records.specs.Records.{sizeOf, valuesOf, Reads}
-use Rattle.job.specs.Table.{HeadIn, gapIn, Stored, Built}
+use Rattle.job.specs.Table.{HeadIn, Stored, Built}
+use Rattle.job.specs.declared.gaps.Best.{Best}
 use Rattle.job.specs.declared.table.Head.{Head}
 use Rattle.job.specs.declared.table.Table.{Table}
-use Rattle.job.proofs.CutLaws.{cuts-are}
-use Rattle.job.proofs.GapLaws.{gap-is}
+use Rattle.job.proofs.GapLaws.{kept, best-is, kept-gap, kept-cut}
 use Rattle.job.proofs.PlaceLaws.{at-more}
 use Rattle.records.proofs.NextLaws.{nextKind, kind-next, kind-values, kind-parts, kind-ends}
 use Rattle.records.proofs.RecordLaws.{reads-none, values-none, values-from, size-is}
@@ -84,33 +83,34 @@ module _ (cs : List SpacingClass) (list : List ℕ) (base kinds size : ℕ) (w :
       record { reads = reads-none readKind list; demanded = e ∙ rw (values-none readKind list); stored = λ j h. absurd (omega arith) }
 
   -- An entry that was stored before the next one.
-  kept : (table : Table) (pieces t d r g x p : ℕ) (pa : List ℕ) (j : ℕ) (k : Kind) → j < t → ((i : ℕ) → i < t * 6 → getD pa i 0 ≡ getD (table .«part_at») i 0)
+  before : (table : Table) (pieces t d r g x p : ℕ) (pa : List ℕ) (j : ℕ) (k : Kind) → j < t → ((i : ℕ) → i < t * 6 → getD pa i 0 ≡ getD (table .«part_at») i 0)
       → Stored cs list base table j k → Stored cs list base (entered table pieces t d r g x p pa) j k
-  kept table pieces t d r g x p pa j k h same s =
+  before table pieces t d r g x p pa j k h same s =
       record {
         demand = getD-set-other (table .demands) t j d 0 (λ e. omega arith) ∙ s .demand;
         rotations = getD-set-other (table .rotations) t j r 0 (λ e. omega arith) ∙ s .rotations;
         gap = getD-set-other (table .gaps) t j g 0 (λ e. omega arith) ∙ s .gap;
-        cuts = getD-set-other (table .cuts) t j x 0 (λ e. omega arith) ∙ s .cuts;
+        cut = getD-set-other (table .cuts) t j x 0 (λ e. omega arith) ∙ s .cut;
         parts = getD-set-other (table .parts) t j p 0 (λ e. omega arith) ∙ s .parts;
         fewParts = s .fewParts;
         part = λ i q. let f = s .fewParts in subst (λ o. FoundAt list base o (getD (k .parts) i [])) (sym (same (j * 6 + i) (omega arith))) (s .part i q);
       }
 
   -- One entry more.
-  pub built-more : (t here : ℕ) (table : Table) (pa : List ℕ) (head : Head) (g x end : ℕ) → t < kinds → Sized t table
+  pub built-more : (t here : ℕ) (table : Table) (pa : List ℕ) (head : Head) (best : Best) (end : ℕ) → t < kinds → Sized t table
       → Built cs list base t here table
       → HeadIn list here head
-      → ((k : Kind) → k .classes ≡ byteAt list (here + 2) → g ≡ gapIn cs k)
-      → ((k : Kind) → k .classes ≡ byteAt list (here + 2) → x ≡ cutIds cs k)
+      → ((k : Kind) → k .classes ≡ byteAt list (here + 2) → best ≡ kept (bestClass (byRisingId cs) k))
       → Placed list (here + 4) (head .parts) base (t * 6) (table .«part_at») pa
       → end ≡ here + 4 + sizeOf (many readPart (head .parts) (drop (here + 4) list))
-      → Built cs list base (t + 1) end (entered table (table .pieces + head .demand) t (head .demand) (head .rotations) g x (head .parts) pa)
-  built-more t here table pa head g x end h l b hi eg ex pl ee =
+      → Built cs list base (t + 1) end (entered table (table .pieces + head .demand) t (head .demand) (head .rotations) (best .gap) (best .cut) (head .parts) pa)
+  unfolding kindGap
+  built-more t here table pa head best end h l b hi eb pl ee =
       let k = nextKind list kinds size t here w h (b .reads) in
       let f = kind-next list kinds size t here w h (b .reads) in
       let more : valuesOf (many readKind (t + 1) list) ≡ valuesOf (many readKind t list) ++ (k ∷ []) = kind-values list kinds size t here w h (b .reads) in
       let kd : k .demand ≡ head .demand = f .demand ∙ byte-first list here ∙ sym (hi .demand) in
+      let kb : best ≡ kept (bestClass (byRisingId cs) k) = eb k (f .classes ∙ byte-behind list here 2) in
       let kp : length (k .parts) ≡ head .parts = f .partCount ∙ byte-behind list here 3 ∙ sym (hi .parts) in
       let vs : valuesOf (many readPart (head .parts) (drop (here + 4) list)) ≡ k .parts = values-from _ _ _ (kind-parts list kinds size t here w h (b .reads) (head .parts) (hi .parts)) in
       record {
@@ -121,14 +121,14 @@ module _ (cs : List SpacingClass) (list : List ℕ) (base kinds size : ℕ) (w :
             ∙ ap sum (map-append (λ k. k .demand) (valuesOf (many readKind t list)) (k ∷ []))
             ∙ sum-more (map (λ k. k .demand) (valuesOf (many readKind t list))) (k .demand));
         stored =
-            at-more (Stored cs list base (entered table (table .pieces + head .demand) t (head .demand) (head .rotations) g x (head .parts) pa)) noKind
+            at-more (Stored cs list base (entered table (table .pieces + head .demand) t (head .demand) (head .rotations) (best .gap) (best .cut) (head .parts) pa)) noKind
             (valuesOf (many readKind t list)) (valuesOf (many readKind (t + 1) list)) k t more (many-length readKind t list _ here (b .reads))
-            (λ j q. kept table _ t (head .demand) (head .rotations) g x (head .parts) pa j _ q (pl .kept) (b .stored j q))
+            (λ j q. before table _ t (head .demand) (head .rotations) (best .gap) (best .cut) (head .parts) pa j _ q (pl .kept) (b .stored j q))
             (record {
               demand = getD-set-same (table .demands) t (head .demand) 0 (l .demands) ∙ sym kd;
               rotations = getD-set-same (table .rotations) t (head .rotations) 0 (l .rotations) ∙ hi .rotations ∙ sym (f .rotations ∙ byte-behind list here 1);
-              gap = getD-set-same (table .gaps) t g 0 (l .gaps) ∙ eg k (f .classes ∙ byte-behind list here 2);
-              cuts = getD-set-same (table .cuts) t x 0 (l .cuts) ∙ ex k (f .classes ∙ byte-behind list here 2);
+              gap = getD-set-same (table .gaps) t (best .gap) 0 (l .gaps) ∙ ap (λ b. b .gap) kb ∙ kept-gap _;
+              cut = getD-set-same (table .cuts) t (best .cut) 0 (l .cuts) ∙ ap (λ b. b .cut) kb ∙ kept-cut _;
               parts = getD-set-same (table .parts) t (head .parts) 0 (l .parts) ∙ sym kp;
               fewParts = let z = f .partsMost in let y = f .partCount in omega arith;
               part = λ i q. subst (λ ps. FoundAt list base (getD pa (t * 6 + i) 0) (getD ps i [])) vs (pl .found i (omega arith));
@@ -142,14 +142,7 @@ module _ (cs : List SpacingClass) (list : List ℕ) (base kinds size : ℕ) (w :
       let z : here ≡ size = sym (size-is _ _ _ (q .reads)) ∙ size-is _ _ _ w in
       subst (λ m. Built cs list base kinds m table) z q
 
--- The gap that was found for a mask is that of each kind with this mask.
-pub gap-of : (s list : List ℕ) (o n here mask g : ℕ) → distinctColumn s o n ≡ true → g ≡ bestBelow s o n mask 8 .gap → mask ≡ byteAt list (here + 2)
-    → (k : Kind) → k .classes ≡ byteAt list (here + 2) → g ≡ gapIn (classesFrom s o n) k
-unfolding gapIn
-gap-of s list o n here mask g d e m k q =
-    e ∙ ap (λ x. bestBelow s o n x 8 .gap) (m ∙ sym q) ∙ gap-is s o n k d
-
--- So is the mask of its common-cut classes.
-pub cuts-of : (s list : List ℕ) (o n here mask cut : ℕ) → distinctColumn s o n ≡ true → cut ≡ bitsWhere 8 (isCut s o n) → mask ≡ byteAt list (here + 2)
-    → (k : Kind) → k .classes ≡ byteAt list (here + 2) → bitAnd mask cut ≡ cutIds (classesFrom s o n) k
-cuts-of s list o n here mask cut d e m k q = cuts-are s o n mask cut d e k (m ∙ sym q)
+-- The best-ranked class that was found for a mask is that of each kind with this mask.
+pub best-of : (s list : List ℕ) (o n here mask : ℕ) (best : Best) → distinctColumn s o n ≡ true → best ≡ bestBelow s o n mask 8 → mask ≡ byteAt list (here + 2)
+    → (k : Kind) → k .classes ≡ byteAt list (here + 2) → best ≡ kept (bestClass (byRisingId (classesFrom s o n)) k)
+best-of s list o n here mask best d e m k q = e ∙ ap (λ x. bestBelow s o n x 8) (m ∙ sym q) ∙ best-is s o n k d

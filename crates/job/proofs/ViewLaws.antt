@@ -8,8 +8,8 @@ use lib.ListN.{length, getD, take, drop, length-take, length-drop}
 use lib.Seq.{getD-take, getD-drop, take-all, drop-drop}
 use Rattle.model.specs.Content.{Part, Kind, noKind, kindAt, kindCount, pieceCount}
 use Rattle.model.specs.ContentFit.{BoardFit}
-use Rattle.model.specs.Format.{byteAt, wordAt, boardAt, got, many, readKind, vertices, kindsAt, kindsLength, kindsStated, kindBytes, kindsGot, content, boardOf, classesAt, classesStated, cause1, cause2, cause3, cause4, cause5, cause6, cause7, refusal}
-use Rattle.model.specs.Gap.{kindGap, shareCut}
+use Rattle.model.specs.Format.{byteAt, wordAt, boardAt, got, many, readKind, vertices, kindsAt, kindsLength, kindsStated, kindBytes, kindsGot, content, boardOf, byRisingId, classesAt, classesStated, cause1, cause2, cause3, cause4, cause5, cause6, cause7, refusal}
+use Rattle.model.specs.Gap.{bestClass, kindGap}
 use Rattle.model.specs.Lists.{any, sum}
 use Rattle.model.specs.Grid.{rows, columns}
 use Rattle.model.proofs.Causes.{no-cause, NoCause, none-before, refusal-is, Sections, sections, board-fits, classes-distinct, KindsFit, kinds-fit}
@@ -19,19 +19,18 @@ use Rattle.model.proofs.Records.{byte-behind, length-vertices, vertices-same, p
 use Rattle.frame.specs.Board.{BoardIn}
 use Rattle.frame.specs.declared.board.Board.{Board}
 use Rattle.records.specs.Classes.{classesFrom, distinctColumn, classesUnfit}
-use Rattle.job.specs.Gaps.{cutIds, masksMeet}
+use Rattle.job.specs.Gaps.{cutOr0}
 use Rattle.job.specs.Places.{FoundAt}
 use Rattle.records.specs.Records.{Reads, valuesOf}
 use Rattle.job.specs.Refusal.{refusalTo6}
 use Rattle.job.specs.Soundness.{badPart, badAt, badKind}
-use Rattle.job.specs.Table.{gapIn, Stored, Built}
+use Rattle.job.specs.Table.{Stored, Built}
 use Rattle.job.specs.declared.View.{View}
 use Rattle.job.specs.declared.table.Table.{Table}
 use Rattle.job.specs.View.{PartAt, ViewOf}
 use Rattle.records.specs.Parts.{unfitFrom}
 use Rattle.records.proofs.PartLaws.{unfit-same}
 use Rattle.job.proofs.CauseLaws.{classes-are, ids-distinct, classes-cause, list-is, list-length}
-use Rattle.job.proofs.CutLaws.{share-cut}
 use Rattle.records.proofs.RecordLaws.{tail, reads-from, values-from}
 
 -- A byte of the type list is one of the job.
@@ -159,14 +158,9 @@ module _ (s : List ℕ) (e : refusalTo6 s ≡ 0) where
     unfolding kindCount
     kind-count = many-length readKind n _ _ _ got-list
 
-    gap-in : (o m : ℕ) (k : Kind) → o ≡ classesAt s → m ≡ classesStated s → gapIn (classesFrom s o m) k ≡ kindGap (content s .classes) k
-    unfolding gapIn kindGap content
-    gap-in o m k eo em = rw (eo, em, ← (classes-are s))
-
-    cut-in : (o m : ℕ) (k l : Kind) → o ≡ classesAt s → m ≡ classesStated s
-        → masksMeet (cutIds (classesFrom s o m) k) (cutIds (classesFrom s o m) l) ≡ shareCut (content s .classes) k l
+    classes-risen : (o m : ℕ) → o ≡ classesAt s → m ≡ classesStated s → byRisingId (classesFrom s o m) ≡ content s .classes
     unfolding content
-    cut-in o m k l eo em = share-cut (classesFrom s o m) k l ∙ rw (eo, em, ← (classes-are s))
+    classes-risen o m eo em = rw (eo, em, ← (classes-are s))
 
     -- What was read and filled makes the view.
     pub view-is : (o m : ℕ) (v : View) → o ≡ classesAt s → m ≡ classesStated s
@@ -187,13 +181,13 @@ module _ (s : List ℕ) (e : refusalTo6 s ≡ 0) where
           margin = em′;
           kinds = ek ∙ sym kind-count;
           pieces = b .demanded ∙ ap (λ l. sum (map (λ k. k .demand) l)) vs;
-          cuts = λ t u h l. ap₂ masksMeet (stored t h .cuts) (stored u l .cuts) ∙ cut-in o m _ _ eo em;
           kind = λ t h.
               let st = stored t h in
               record {
                 demand = st .demand;
                 rotations = st .rotations;
-                gap = st .gap ∙ gap-in o m _ eo em;
+                gap = st .gap ∙ ap (λ cs. kindGap cs (kindAt (content s .kinds) t)) (classes-risen o m eo em);
+                cut = st .cut ∙ ap (λ cs. cutOr0 (bestClass cs (kindAt (content s .kinds) t))) (classes-risen o m eo em);
                 parts = st .parts;
                 fewParts = st .fewParts;
                 part = λ i q. part-at s _ _ (subst₂ (λ l c. FoundAt l c (getD (v .«part_at») (t * 6 + i) 0) (getD (kindAt (content s .kinds) t .parts) i [])) (list-is s base size eb es) eb (st .part i q));
@@ -232,8 +226,7 @@ with-margin s v m h x =
       margin = h;
       kinds = x .kinds;
       pieces = x .pieces;
-      cuts = x .cuts;
-      kind = λ t l. let k = x .kind t l in record { demand = k .demand; rotations = k .rotations; gap = k .gap; parts = k .parts; fewParts = k .fewParts; part = k .part };
+      kind = λ t l. let k = x .kind t l in record { demand = k .demand; rotations = k .rotations; gap = k .gap; cut = k .cut; parts = k .parts; fewParts = k .fewParts; part = k .part };
     }
 
 -- The board that was read is that of the job.

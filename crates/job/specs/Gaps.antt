@@ -1,43 +1,47 @@
--- The best-ranked class that a mask names, id by id, and the common-cut classes that it names.
+-- The best-ranked class that a mask names, id by id, and what is kept of it: its gap, and its number if it is marked as common cut.
 use mathlib.Core.Bool.{Bool, true, false, not, cond, _&&_, _||_}
 use mathlib.Core.List.{List}
+use mathlib.Core.Option.{Option, none, some}
 use Prim.Native.Nat.{ℕ, zero, suc, _+_, _*_}
-use lib.Bits.{bitAnd}
 use lib.Dec.{ltb, eqb}
-use Rattle.words.specs.Bits.{testBit, bitsWhere}
-use Rattle.model.specs.Content.{SpacingClass, Kind}
+use Rattle.words.specs.Bits.{testBit}
+use Rattle.model.specs.Content.{SpacingClass}
 use Rattle.model.specs.Format.{byteAt, marksCut, gapMeant}
-use Rattle.model.specs.Lists.{any}
-use Rattle.records.specs.Classes.{indexOf, classesOfId}
+use Rattle.records.specs.Classes.{indexOf}
 use Rattle.job.specs.declared.gaps.Best.{Best}
 
-abbrev pub bestOf : Bool → ℕ → ℕ → Best
-bestOf f r g = record { found = f; rank = r; gap = g }
+-- The number of a common-cut class: its id plus 1. A class that is not marked has 0.
+unfoldable pub cutNumber : Bool → ℕ → ℕ
+cutNumber marked id = cond marked (id + 1) 0
 
--- The better of the best so far and a class of this rank and gap.
-unfoldable pub offered : Best → ℕ → ℕ → Best
-offered b r g = cond (not (b .found) || ltb r (b .rank)) (bestOf true r g) b
+-- The number of the class, if there is one.
+unfoldable pub cutOr0 : Option SpacingClass → ℕ
+cutOr0 none = 0
+cutOr0 (some c) = cutNumber (c .commonCut) (c .id)
+
+-- Two numbers are those of one common-cut class.
+unfoldable pub sameCut : ℕ → ℕ → Bool
+sameCut a b = not (eqb a 0) && eqb a b
+
+abbrev pub bestOf : ℕ → ℕ → ℕ → Best
+bestOf r g n = record { found = true; rank = r; gap = g; cut = n }
+
+abbrev pub noBest : Best
+noBest = record { found = false; rank = 0; gap = 0; cut = 0 }
+
+-- The class of this id, whose record stands at byte o, as the best so far.
+unfoldable pub bestAt : List ℕ → ℕ → ℕ → Best
+bestAt s o id = bestOf (byteAt s (o + 1)) (gapMeant (byteAt s (o + 2))) (cutNumber (marksCut (byteAt s (o + 2))) id)
+
+-- The better of the best so far and one more class.
+unfoldable pub offered : Best → Best → Best
+offered b c = cond (not (b .found) || ltb (c .rank) (b .rank)) c b
 
 -- The better of the best so far and the class of this id, if the mask names it and there is one.
 unfoldable pub offeredId : List ℕ → ℕ → ℕ → ℕ → ℕ → Best → Best
-offeredId s o n mask id b =
-    cond (ltb (indexOf s o n id) n && testBit mask id)
-    (offered b (byteAt s (o + indexOf s o n id * 3 + 1)) (gapMeant (byteAt s (o + indexOf s o n id * 3 + 2))))
-    b
+offeredId s o n mask id b = cond (ltb (indexOf s o n id) n && testBit mask id) (offered b (bestAt s (o + indexOf s o n id * 3) id)) b
 
 -- The best-ranked of the classes with an id below i.
 unfoldable pub bestBelow : List ℕ → ℕ → ℕ → ℕ → ℕ → Best
-bestBelow s o n mask zero = bestOf false 0 0
+bestBelow s o n mask zero = noBest
 bestBelow s o n mask (suc i) = offeredId s o n mask i (bestBelow s o n mask i)
-
--- There is a class of this id among the n classes from byte o on, and it is marked as common cut.
-unfoldable pub isCut : List ℕ → ℕ → ℕ → ℕ → Bool
-isCut s o n id = cond (ltb (indexOf s o n id) n) (marksCut (byteAt s (o + indexOf s o n id * 3 + 2))) false
-
--- The ids of the common-cut classes that a kind names, bit i for id i.
-unfoldable pub cutIds : List SpacingClass → Kind → ℕ
-cutIds cs k = bitsWhere 8 (λ i. testBit (k .classes) i && any (λ c. c .commonCut) (classesOfId i cs))
-
--- Two masks have a bit in common.
-unfoldable pub masksMeet : ℕ → ℕ → Bool
-masksMeet a b = not (eqb (bitAnd a b) 0)

@@ -5,9 +5,9 @@ use Prim.Native.Nat.{ℕ, _+_, _*_, _<_, _≤_}
 use lib.ListN.{length, getD}
 use Rattle.model.specs.Content.{SpacingClass, Kind, noKind}
 use Rattle.model.specs.Format.{byteAt, many, readKind, byRisingId}
-use Rattle.model.specs.Gap.{names, bestRanked, gapOr0}
-use Rattle.model.specs.Lists.{keep, sum}
-use Rattle.job.specs.Gaps.{cutIds}
+use Rattle.model.specs.Gap.{bestClass, kindGap}
+use Rattle.model.specs.Lists.{sum}
+use Rattle.job.specs.Gaps.{cutOr0}
 use Rattle.job.specs.Places.{FoundAt}
 use Rattle.job.specs.declared.table.Head.{Head}
 use Rattle.job.specs.declared.table.Table.{Table}
@@ -21,16 +21,12 @@ pub record HeadIn (list : List ℕ) (o : ℕ) (h : Head) : Type 0 where
   pub parts : h .parts ≡ byteAt list (o + 3)
   pub demandFits : h .demand < 256
 
--- The gap of a kind, of the classes in the order of the file.
-unfoldable pub gapIn : List SpacingClass → Kind → ℕ
-gapIn cs k = gapOr0 (bestRanked (keep (names k) (byRisingId cs)))
-
--- Entry t of the tables is that of kind k.
+-- Entry t of the tables is that of kind k, of the classes in the order of the file.
 pub record Stored (cs : List SpacingClass) (list : List ℕ) (base : ℕ) (table : Table) (t : ℕ) (k : Kind) : Type 0 where
   pub demand : getD (table .demands) t 0 ≡ k .demand
   pub rotations : getD (table .rotations) t 0 ≡ k .rotations
-  pub gap : getD (table .gaps) t 0 ≡ gapIn cs k
-  pub cuts : getD (table .cuts) t 0 ≡ cutIds cs k
+  pub gap : getD (table .gaps) t 0 ≡ kindGap (byRisingId cs) k
+  pub cut : getD (table .cuts) t 0 ≡ cutOr0 (bestClass (byRisingId cs) k)
   pub parts : getD (table .parts) t 0 ≡ length (k .parts)
   pub fewParts : length (k .parts) ≤ 6
   pub part : (i : ℕ) → i < length (k .parts) → FoundAt list base (getD (table .«part_at») (t * 6 + i) 0) (getD (k .parts) i [])

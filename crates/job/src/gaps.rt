@@ -1,30 +1,49 @@
-// What the gap of a pair turns on: the gap of a type, which is that of its class with the smallest rank number, and the common-cut classes.
+// What the gap of a pair turns on: the best-ranked class of a type, which is the one with the smallest rank number.
 use frame::fields;
 use records::classes;
 use records::kinds;
 ghost use mathlib.Core.Path.{_≡_};
 ghost use Prim.Native.Nat.{_+_, _*_, _≤_, _<_};
 ghost use lib.ListN.{length};
-ghost use Rattle.words.specs.Bits.{bitsWhere};
-ghost use Rattle.job.specs.Gaps.{offered, offeredId, bestBelow, isCut};
+ghost use Rattle.job.specs.Gaps.{cutNumber, bestAt, offered, offeredId, bestBelow};
 
-// The best-ranked class so far, if there is one. Its gap is 0 as long as there is none.
+// The best-ranked class so far, if there is one: its rank, its gap, and its number if it is marked as common cut. Its gap and number
+// are 0 as long as there is none.
 pub struct Best {
     pub found: bool,
     pub rank: usize,
     pub gap: usize,
+    pub cut: usize,
 }
 
-// The better of the best so far and a class of this rank and gap.
-fn offer(best: Best, rank: usize, gap: usize) -> Best
-    ensures { λ r. ⌜ r ≡ offered best rank gap ⌝ }
+// What tells a common-cut class from the others: its id plus 1, and 0 for a class that is not marked.
+fn cut_number(marked: bool, id: usize) -> usize
+    requires { ⌜ id < 64 ⌝ }
+    ensures { λ r. ⌜ r ≡ cutNumber marked id ⌝ }
 {
-    if !best.found | (rank < best.rank) {
-        return Best {
-            found: true,
-            rank,
-            gap,
-        };
+    if marked { id + 1 } else { 0 }
+}
+
+// The class of this id, whose record stands at byte o, as the best so far.
+fn class_at(job: &[u8], o: usize, id: usize) -> Best
+    requires { ⌜ (o + 3 ≤ length (now job)) × (id < 64) ⌝ }
+    ensures { λ r. ⌜ r ≡ bestAt (now (job .entry)) o id ⌝ }
+{
+    let byte = fields::byte(job, o + 2);
+    Best {
+        found: true,
+        rank: fields::byte(job, o + 1),
+        gap: classes::gap_meant(byte),
+        cut: cut_number(classes::marks_cut(byte), id),
+    }
+}
+
+// The better of the best so far and one more class.
+fn offer(best: Best, next: Best) -> Best
+    ensures { λ r. ⌜ r ≡ offered best next ⌝ }
+{
+    if !best.found | (next.rank < best.rank) {
+        return next;
     }
     best
 }
@@ -36,56 +55,26 @@ fn offer_id(job: &[u8], at: usize, n: usize, mask: usize, id: usize, best: Best)
 {
     let j = classes::find(job, at, n, id);
     if (j < n) & kinds::names(mask, id) {
-        let o = at + j * 3;
-        return offer(
-            best,
-            fields::byte(job, o + 1),
-            classes::gap_meant(fields::byte(job, o + 2)),
-        );
+        return offer(best, class_at(job, at + j * 3, id));
     }
     best
 }
 
-// The gap of a type with this class mask, of the n classes from byte `at` on.
-pub fn kind_gap(job: &[u8], at: usize, n: usize, mask: usize) -> usize
+// The best-ranked class of a type with this class mask, of the n classes from byte `at` on.
+pub fn best_class(job: &[u8], at: usize, n: usize, mask: usize) -> Best
     requires { ⌜ (n < 256) × (at + n * 3 ≤ length (now job)) ⌝ }
-    ensures { λ r. ⌜ r ≡ bestBelow (now (job .entry)) at n mask 8 .gap ⌝ }
+    ensures { λ r. ⌜ r ≡ bestBelow (now (job .entry)) at n mask 8 ⌝ }
 {
     let mut best = Best {
         found: false,
         rank: 0,
         gap: 0,
+        cut: 0,
     };
     let mut id = 0;
     while id < 8 {
         best = offer_id(job, at, n, mask, id, best);
         id += 1;
     }
-    best.gap
-}
-
-// There is a class of this id, and it is marked as common cut.
-fn is_cut(job: &[u8], at: usize, n: usize, id: usize) -> bool
-    requires { ⌜ (n < 256) × (at + n * 3 ≤ length (now job)) ⌝ }
-    ensures { λ r. ⌜ r ≡ isCut (now (job .entry)) at n id ⌝ }
-{
-    let j = classes::find(job, at, n, id);
-    if j < n {
-        return classes::marks_cut(fields::byte(job, at + j * 3 + 2));
-    }
-    false
-}
-
-// The common-cut classes of the n classes from byte `at` on, as a mask of their ids.
-pub fn cut_ids(job: &[u8], at: usize, n: usize) -> usize
-    requires { ⌜ (n < 256) × (at + n * 3 ≤ length (now job)) ⌝ }
-    ensures { λ r. ⌜ r ≡ bitsWhere 8 (isCut (now (job .entry)) at n) ⌝ }
-{
-    let mut ids: u64 = 0;
-    let mut id: usize = 0;
-    while id < 8 {
-        ids = words::bits::assign_bit(ids, id as u64, is_cut(job, at, n, id));
-        id += 1;
-    }
-    ids as usize
+    best
 }

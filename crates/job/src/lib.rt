@@ -12,8 +12,8 @@ mod places;
 mod table;
 
 // What the layers above use of an accepted job under a margin: numbers, and where each part's bytes begin. Of each array the first
-// `kinds` entries count; of `part_at` the entries t * 6 + i for part i of kind t. Entry t of `cuts` is a mask of the common-cut classes of kind t:
-// two kinds share one exactly where their masks meet.
+// `kinds` entries count; of `part_at` the entries t * 6 + i for part i of kind t. Entry t of `cuts` tells the best-ranked class of kind t, by its id
+// plus 1, if it is marked as common cut, and is 0 otherwise.
 pub struct View {
     pub width: usize,
     pub length: usize,

@@ -55,15 +55,15 @@ pub fn read_kinds(job: &[u8], at: usize, n: usize, list: &[u8], base: usize, kin
         parts: [0usize; 8],
         part_at: [0usize; 48],
     };
-    let cut = gaps::cut_ids(job, at, n);
     let mut here = 0;
     let mut t = 0;
     while t < kinds {
         let head = read_head(list, here);
         table.demands[t] = head.demand;
         table.rotations[t] = head.rotations;
-        table.gaps[t] = gaps::kind_gap(job, at, n, head.classes);
-        table.cuts[t] = head.classes & cut;
+        let best = gaps::best_class(job, at, n, head.classes);
+        table.gaps[t] = best.gap;
+        table.cuts[t] = best.cut;
         table.parts[t] = head.parts;
         table.pieces += head.demand;
         here = places::place_parts(list, here + 4, head.parts, base, t * 6, &mut table.part_at);

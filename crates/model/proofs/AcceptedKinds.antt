@@ -1,17 +1,19 @@
 -- What holds of the kinds of an accepted job: numbers in range, parts that are sound, and small gaps.
 use mathlib.Core.Bool.{Bool, true, false, not, cond, _&&_, _||_}
 use mathlib.Core.List.{List, [], _∷_, map}
+use mathlib.Core.Option.{Option, none, some}
 use mathlib.Core.Path.{_≡_, refl, ap, _∙_}
 use Prim.Native.Nat.{ℕ, _<_, _≤_}
 use native.Mathlib.Omega.{arith}
 use borrow.Author.Tests.{leb-true, not-false}
-use lib.Dec.{leb, ltb, eqb}
+use lib.Dec.{leb, eqb}
 use lib.ListN.{length, getD}
 use Rattle.model.specs.Content.{SpacingClass, Part, Kind, noKind, kindAt, kindCount, pieceCount}
 use Rattle.model.specs.Format.{byteAt, got, readPart, readKind, kindsGot, kindBytes, kindsStated, content, classesOf, byRisingId, classInRange, vertexInRange, refusal, cause7}
-use Rattle.model.specs.Gap.{names, better, bestFrom, bestRanked, gapOr0, kindGap}
+use Rattle.model.specs.Gap.{gapOr0, bestClass, kindGap}
 use Rattle.model.specs.Geometry.{sound}
 use Rattle.model.specs.Lists.{all, any, keep, concat, below}
+use Rattle.model.proofs.Ranks.{all-keep, best-holds}
 use Rattle.model.proofs.Causes.{no-cause, no-cause7, KindsFit, kinds-fit, classes-in-range}
 use Rattle.model.proofs.Folds.{any-at, all-append}
 use Rattle.model.proofs.Lists.{and-left, and-right, and-both, or-left, or-right}
@@ -91,38 +93,18 @@ module _ (s : List ℕ) (e : refusal s ≡ 0) where
 -- ---- Gaps
 
 module _ (p : SpacingClass → Bool) where
-  all-keep : (q : SpacingClass → Bool) (cs : List SpacingClass) → all p cs ≡ true → all p (keep q cs) ≡ true
-  unfolding all keep
-  all-keep q [] e = refl
-  all-keep q (c ∷ cs) e = go (q c) (all-keep q cs (and-right (p c) _ e))
-    where
-      go : (b : Bool) → all p (keep q cs) ≡ true → all p (cond b (c ∷ keep q cs) (keep q cs)) ≡ true
-      go true ih = and-both (p c) (all p (keep q cs)) (and-left (p c) (all p cs) e) ih
-      go false ih = ih
-
   pub all-risen : (cs : List SpacingClass) (is : List ℕ) → all p cs ≡ true → all p (concat (map (λ i. keep (λ c. eqb (c .id) i) cs) is)) ≡ true
   unfolding all concat
   all-risen cs [] e = refl
-  all-risen cs (i ∷ is) e = all-append p (keep (λ c. eqb (c .id) i) cs) _ ∙ and-both _ _ (all-keep (λ c. eqb (c .id) i) cs e) (all-risen cs is e)
+  all-risen cs (i ∷ is) e = all-append p (keep (λ c. eqb (c .id) i) cs) _ ∙ and-both _ _ (all-keep p (λ c. eqb (c .id) i) cs e) (all-risen cs is e)
 
-  best-from : (c : SpacingClass) (cs : List SpacingClass) → p c ≡ true → all p cs ≡ true → p (bestFrom c cs) ≡ true
-  unfolding all bestFrom better
-  best-from c [] h e = h
-  best-from c (d ∷ cs) h e = go (ltb (d .rank) (c .rank)) (best-from c cs h (and-right (p d) _ e)) (best-from d cs (and-left _ _ e) (and-right (p d) _ e))
-    where
-      go : (b : Bool) → p (bestFrom c cs) ≡ true → p (bestFrom d cs) ≡ true → p (bestFrom (cond b d c) cs) ≡ true
-      go true a b = b
-      go false a b = a
-
-gap-small : (cs : List SpacingClass) → all classInRange cs ≡ true → gapOr0 (bestRanked cs) ≤ 63
-unfolding all bestRanked gapOr0 classInRange
-gap-small [] e = omega arith
-gap-small (c ∷ cs) e =
-    let b = best-from classInRange c cs (and-left _ _ e) (and-right (classInRange c) _ e) in
-    leb-true (bestFrom c cs .gap) 63 (and-right (leb (bestFrom c cs .id) 7 && leb (bestFrom c cs .rank) 255) _ b)
+gap-small : (b : Option SpacingClass) → ((c : SpacingClass) → b ≡ some c → classInRange c ≡ true) → gapOr0 b ≤ 63
+unfolding gapOr0 classInRange
+gap-small none h = omega arith
+gap-small (some c) h = leb-true (c .gap) 63 (and-right (leb (c .id) 7 && leb (c .rank) 255) _ (h c refl))
 
 pub gap-most : (s : List ℕ) → refusal s ≡ 0 → (k : Kind) → kindGap (content s .classes) k ≤ 63
 unfolding kindGap content byRisingId
 gap-most s e k =
-    gap-small (keep (names k) (byRisingId (classesOf s)))
-    (all-keep classInRange (names k) _ (all-risen classInRange (classesOf s) (below 8) (classes-in-range s (no-cause s e .no5))))
+    gap-small (bestClass (byRisingId (classesOf s)) k)
+    (λ c q. best-holds classInRange _ k c q (all-risen classInRange (classesOf s) (below 8) (classes-in-range s (no-cause s e .no5))))

@@ -1,27 +1,30 @@
 -- Document 02, "3/13 Common cut": which gap bytes are refused; the gap of a pair; that a job without a marked class has document 01's gaps.
-use mathlib.Core.Bool.{Bool, true, false, not, cond, _&&_, _||_, and-assoc, and-comm}
+use mathlib.Core.Bool.{Bool, true, false, not, cond, _&&_, and-assoc, and-comm, and-false}
 use mathlib.Core.List.{List, [], _∷_, map}
 use mathlib.Core.Logic.{_⊎_, inl, inr, ⊎-elim, _↔_}
+use mathlib.Core.Option.{Option, none, some}
 use mathlib.Core.Path.{_≡_, refl, sym, ap, ap₂, _∙_}
 use Prim.Native.Nat.{ℕ, _+_, _*_, _-_, _≤_, _<_, max}
 use native.Mathlib.Nat.{max-comm}
 use native.Mathlib.Omega.{arith}
 use borrow.Author.Tests.{leb-false, le-leb, lt-leb, not-true}
-use lib.Dec.{leb}
+use lib.Dec.{leb, eqb}
 use Rattle.words.proofs.Cases.{le-or-lt}
 use Rattle.model.specs.Candidate.{placedParts}
 use Rattle.model.specs.Content.{SpacingClass, spacingClass, Kind}
 use Rattle.model.specs.Format.{byteAt, classesAt, classesStated, marksCut, gapMeant, classAt, classesOf, byRisingId, content, classInRange}
-use Rattle.model.specs.Gap.{names, kindGap, shareCut, pairGap}
+use Rattle.model.specs.Gap.{bestClass, kindGap, sameMarked, shareCut, pairGap}
 use Rattle.model.specs.Geometry.{piecesConflict}
 use Rattle.model.specs.Layout.{Entry, entryKind, conflict}
-use Rattle.model.specs.Lists.{all, any, concat, below, between}
+use Rattle.model.specs.Lists.{all, concat, below, between}
 use Rattle.model.specs.Problem.{under}
 use Rattle.model.specs.Services.{classNumbers}
 use Rattle.model.proofs.AcceptedKinds.{all-risen}
+use Rattle.model.proofs.Ranks.{best-holds}
 use Rattle.model.proofs.Lists.{and-left, and-right, all-below}
 use Rattle.model.proofs.Records.{between-both}
-use Rattle.model.proofs.Tests.{all-map, any-same}
+use Rattle.model.proofs.Sorted.{eqb-comm}
+use Rattle.model.proofs.Tests.{all-map}
 
 -- ---- Gap bytes
 
@@ -70,15 +73,17 @@ module _ (b : ℕ) where
 last-two : (a b c : Bool) → (a && b && c) ≡ (a && c && b)
 last-two a b c = and-assoc a b c ∙ ap (λ t. a && t) (and-comm b c) ∙ sym (and-assoc a c b)
 
-shareCut-symmetric : (cs : List SpacingClass) (k m : Kind) → shareCut cs k m ≡ shareCut cs m k
-unfolding shareCut
-shareCut-symmetric cs k m =
-    any-same (λ c. c .commonCut && names k c && names m c) (λ c. c .commonCut && names m c && names k c)
-    (λ c. last-two (c .commonCut) (names k c) (names m c)) cs
+sameMarked-symmetric : (a b : Option SpacingClass) → sameMarked a b ≡ sameMarked b a
+unfolding sameMarked
+sameMarked-symmetric none none = refl
+sameMarked-symmetric none (some d) = refl
+sameMarked-symmetric (some c) none = refl
+sameMarked-symmetric (some c) (some d) =
+    ap (λ t. t && c .commonCut && d .commonCut) (eqb-comm (c .id) (d .id)) ∙ last-two (eqb (d .id) (c .id)) (c .commonCut) (d .commonCut)
 
 pub pairGap-symmetric : (cs : List SpacingClass) (k m : Kind) → pairGap cs k m ≡ pairGap cs m k
-unfolding pairGap
-pairGap-symmetric cs k m = ap₂ (λ t g. cond t 0 g) (shareCut-symmetric cs k m) (max-comm (kindGap cs k) (kindGap cs m))
+unfolding pairGap shareCut
+pairGap-symmetric cs k m = ap₂ (λ t g. cond t 0 g) (sameMarked-symmetric (bestClass cs k) (bestClass cs m)) (max-comm (kindGap cs k) (kindGap cs m))
 
 -- It is never larger than document 01's.
 pub pairGap-most : (cs : List SpacingClass) (k m : Kind) → pairGap cs k m ≤ max (kindGap cs k) (kindGap cs m)
@@ -96,10 +101,13 @@ abbrev pub NoneMarked : List SpacingClass → Type 0
 NoneMarked cs = all (λ c. not (c .commonCut)) cs ≡ true
 
 none-shared : (cs : List SpacingClass) (k m : Kind) → NoneMarked cs → shareCut cs k m ≡ false
-unfolding shareCut any all
-none-shared [] k m e = refl
-none-shared (c ∷ cs) k m e =
-    ap₂ (λ t u. (t && names k c && names m c) || u) (not-true (c .commonCut) (and-left _ _ e)) (none-shared cs k m (and-right (not (c .commonCut)) _ e))
+unfolding shareCut sameMarked
+none-shared cs k m e = go (bestClass cs k) (bestClass cs m) refl
+  where
+    go : (a b : Option SpacingClass) → bestClass cs k ≡ a → sameMarked a b ≡ false
+    go none b q = refl
+    go (some c) none q = refl
+    go (some c) (some d) q = rw (not-true (c .commonCut) (best-holds (λ c. not (c .commonCut)) cs k c q e), and-false (eqb (c .id) (d .id)))
 
 larger-gap : (cs : List SpacingClass) (k m : Kind) → NoneMarked cs → pairGap cs k m ≡ max (kindGap cs k) (kindGap cs m)
 unfolding pairGap

@@ -24,7 +24,10 @@ pub mod Causes
 pub mod AcceptedKinds
 pub mod Refusals
 pub mod Margin
+pub mod Ranks
 pub mod CommonCut
+pub mod SameClass
+pub mod RankedCut
 pub mod Turning
 pub mod Saving
 pub mod Program

@@ -3,7 +3,7 @@
 use mathlib.Core.Bool.{Bool, true, false, _&&_, _||_, or-assoc}
 use mathlib.Core.List.{List, [], _∷_, _++_, map, List·Permᴰ, List·Permᴰ·nil, List·Permᴰ·cons, List·Permᴰ·swap, List·Permᴰ·trans}
 use mathlib.Core.Path.{_≡_, refl, sym, ap, _∙_}
-use Rattle.model.specs.Lists.{all, any, concat}
+use Rattle.model.specs.Lists.{all, any}
 
 -- the first two of three tests change places
 pub or-swap : (a b c : Bool) → (a || (b || c)) ≡ (b || (a || c))
@@ -65,12 +65,6 @@ module _ {A B : Type 0} where
   unfolding any
   any-map p f [] = refl
   any-map p f (x ∷ xs) = ap (λ t. p (f x) || t) (any-map p f xs)
-
-  -- of the lists of the elements, put together
-  pub any-concat : (p : B → Bool) (f : A → List B) (xs : List A) → any p (concat (map f xs)) ≡ any (λ x. any p (f x)) xs
-  unfolding any concat
-  any-concat p f [] = refl
-  any-concat p f (x ∷ xs) = any-append p (f x) (concat (map f xs)) ∙ ap (λ b. any p (f x) || b) (any-concat p f xs)
 
   -- some pair of an element of xs and one of ys, whichever list is gone through first
   pub any-pair : (p : A → B → Bool) (xs : List A) (ys : List B) → any (λ x. any (p x) ys) xs ≡ any (λ y. any (λ x. p x y) xs) ys

@@ -1,12 +1,12 @@
--- Document 01, "Gap and conflict": the gap of a type and of a pair; document 02, "3/13 Common cut": the pairs that have none.
-use mathlib.Core.Bool.{Bool, cond, _&&_}
+-- Document 01, "Gap and conflict": the gap of a type and of a pair; document 02, "3/13 Common cut" and "8/13 Common cut against ranks": the pairs that have none.
+use mathlib.Core.Bool.{Bool, false, cond, _&&_}
 use mathlib.Core.List.{List, [], _∷_}
 use mathlib.Core.Option.{Option, none, some}
 use Prim.Native.Nat.{ℕ, max}
-use lib.Dec.{ltb}
+use lib.Dec.{ltb, eqb}
 use Rattle.words.specs.Bits.{testBit}
 use Rattle.model.specs.Content.{SpacingClass, Kind}
-use Rattle.model.specs.Lists.{any, keep}
+use Rattle.model.specs.Lists.{keep}
 
 -- "class mask (bit i names class id i; zero means no class)"
 unfoldable pub names : Kind → SpacingClass → Bool
@@ -31,14 +31,24 @@ unfoldable pub gapOr0 : Option SpacingClass → ℕ
 gapOr0 none = 0
 gapOr0 (some c) = c .gap
 
+-- A type's "class with the smallest rank number", if it has a class: its best-ranked class.
+unfoldable pub bestClass : List SpacingClass → Kind → Option SpacingClass
+bestClass cs k = bestRanked (keep (names k) cs)
+
 -- "A type's gap is the gap of its class with the smallest rank number, and 0 if it has no class."
 unfoldable pub kindGap : List SpacingClass → Kind → ℕ
-kindGap cs k = gapOr0 (bestRanked (keep (names k) cs))
+kindGap cs k = gapOr0 (bestClass cs k)
 
--- Document 02: "Two pieces that share a marked class": both of their masks name it.
+-- Both are "the same .. class and it is marked". "No id .. occurs twice", so that classes of one id are one class.
+unfoldable pub sameMarked : Option SpacingClass → Option SpacingClass → Bool
+sameMarked none d = false
+sameMarked (some c) none = false
+sameMarked (some c) (some d) = eqb (c .id) (d .id) && c .commonCut && d .commonCut
+
+-- Document 02, "8/13": "both pieces have the same best-ranked class and it is marked". They share a common cut.
 unfoldable pub shareCut : List SpacingClass → Kind → Kind → Bool
-shareCut cs k m = any (λ c. c .commonCut && names k c && names m c) cs
+shareCut cs k m = sameMarked (bestClass cs k) (bestClass cs m)
 
--- "A pair's gap is the larger of the two." Document 02: "Two pieces that share a marked class have pair gap 0, and everything else about gaps holds."
+-- "A pair's gap is the larger of the two." Document 02, "8/13": "the pair gap 0 of common cut holds if and only if both pieces have the same best-ranked class and it is marked."
 unfoldable pub pairGap : List SpacingClass → Kind → Kind → ℕ
 pairGap cs k m = cond (shareCut cs k m) 0 (max (kindGap cs k) (kindGap cs m))

@@ -17,5 +17,6 @@ pub mod SameAnswers
 pub mod Demand3
 pub mod Output
 pub mod ClassOrder
+pub mod RankedCut
 pub mod Opened
 pub mod Boards

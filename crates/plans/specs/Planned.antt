@@ -38,7 +38,7 @@ EndsOf s b ends = (t k : ℕ) → t < kindCount (content s .kinds) → k < 4 →
 abbrev pub GapsOf : List ℕ → List ℕ → Type 0
 GapsOf s gaps = (t : ℕ) → t < kindCount (content s .kinds) → getD gaps t 0 ≡ kindGap (content s .classes) (kindAt (content s .kinds) t)
 
--- The bits of this number say which kinds share a common-cut class.
+-- The bits of this number say which kinds share a common cut.
 abbrev pub SharedOf : List ℕ → ℕ → Type 0
 SharedOf s shared = (t u : ℕ) → t < kindCount (content s .kinds) → u < kindCount (content s .kinds)
     → testBit shared (t * 8 + u) ≡ shareCut (content s .classes) (kindAt (content s .kinds) t) (kindAt (content s .kinds) u)

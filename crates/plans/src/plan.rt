@@ -7,7 +7,7 @@ ghost use Rattle.model.specs.Content.{pieceCount};
 ghost use Rattle.model.specs.Format.{content};
 ghost use Rattle.model.specs.Search.{copiesLeft};
 ghost use Rattle.model.specs.Services.{workWords};
-ghost use Rattle.job.specs.Gaps.{masksMeet};
+ghost use Rattle.job.specs.Gaps.{sameCut};
 ghost use Rattle.job.specs.View.{problemOf, Viewed};
 ghost use Rattle.geometry.specs.Pieces.{Fitting};
 ghost use Rattle.shapes.specs.Boxes.{BoxesOf};
@@ -20,7 +20,7 @@ use shapes::boxes::Boxes;
 use shapes::pieces::piece_of;
 
 // The board's rows and step; the margin, which says whose candidates the live sets hold (no function of the walk looks at it: it is the same in every length, so
-// the walk compares ends); how many kinds and pieces there are, and words in a set; whether kinds t and u share a common-cut class, in bit
+// the walk compares ends); how many kinds and pieces there are, and words in a set; whether kinds t and u share a common cut, in bit
 // t * 8 + u; the kind of each piece; the copies of each kind left at each level, those of kind u at level l under l * 8 + u; where each kind
 // ends at the first column, turned k quarter turns under t * 4 + k; its gap, how many parts it has, and how many vertices each part has, part
 // i of kind t under t * 6 + i.
@@ -150,9 +150,9 @@ fn sizes_of(job: &[u8], view: View) -> [u8; 48]
     sizes
 }
 
-// Which kinds share a common-cut class: kinds t and u in bit t * 8 + u. (One number, where a table of masks would be copied in each step.)
+// Which kinds share a common cut: kinds t and u in bit t * 8 + u. (One number, where a table for the kinds would be copied in each step.)
 fn shared_cuts(view: View) -> u64
-    ensures { λ r. ⌜ r ≡ bitsWhere 64 (λ x. masksMeet (getD (view .cuts) (x / 8) 0) (getD (view .cuts) (x % 8) 0)) ⌝ }
+    ensures { λ r. ⌜ r ≡ bitsWhere 64 (λ x. sameCut (getD (view .cuts) (x / 8) 0) (getD (view .cuts) (x % 8) 0)) ⌝ }
 {
     let mut shared: u64 = 0;
     let mut x: usize = 0;

@@ -323,19 +323,6 @@ unfolding bitsWhere
 bitsWhere-cong zero p q h = refl
 bitsWhere-cong (suc n) p q h = rw (h n (omega arith), bitsWhere-cong n p q (λ i l. h i (omega arith)))
 
--- The bits of w where p holds, and those where two tests hold.
-pub and-bitsWhere : (w n : ℕ) (p : ℕ → Bool) → bitAnd w (bitsWhere n p) ≡ bitsWhere n (λ i. testBit w i && p i)
-and-bitsWhere w n p = bits-all _ _ (λ i. testBit-and w (bitsWhere n p) i ∙ at i (le-or-lt n i))
-  where
-    at : (i : ℕ) → (n ≤ i) ⊎ (i < n) → (testBit w i && testBit (bitsWhere n p) i) ≡ testBit (bitsWhere n (λ i. testBit w i && p i)) i
-    at i (inl h) =
-        ap (λ b. testBit w i && b) (testBit-above _ n i (bitsWhere-lt n p) h) ∙ and-false (testBit w i)
-        ∙ sym (testBit-above _ n i (bitsWhere-lt n (λ i. testBit w i && p i)) h)
-    at i (inr h) = ap (λ b. testBit w i && b) (testBit-bitsWhere n p i h) ∙ sym (testBit-bitsWhere n (λ i. testBit w i && p i) i h)
-
-pub bitsWhere-and : (n : ℕ) (p q : ℕ → Bool) → bitAnd (bitsWhere n p) (bitsWhere n q) ≡ bitsWhere n (λ i. p i && q i)
-bitsWhere-and n p q = and-bitsWhere (bitsWhere n p) n q ∙ bitsWhere-cong n _ _ (λ i h. ap (λ b. b && q i) (testBit-bitsWhere n p i h))
-
 -- A number below 2 ^ n is given by its own bits.
 pub bitsWhere-testBit : (n w : ℕ) → w < 2 ^ n → bitsWhere n (testBit w) ≡ w
 bitsWhere-testBit n w h = bits-same n (bitsWhere n (testBit w)) w (bitsWhere-lt n (testBit w)) h (λ i l. testBit-bitsWhere n (testBit w) i l)

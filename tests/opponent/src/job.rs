@@ -1,5 +1,6 @@
 //! The job's bytes, read into fixed arrays without a heap.
 
+use crate::mistaken_cut;
 use crate::mutant;
 
 #[derive(Clone, Copy, Default, Debug)]
@@ -14,8 +15,8 @@ pub struct Kind {
     pub demand: usize,
     pub turns: u8,
     pub classes: u8,
-    /// Those of its classes that are marked as common cut.
-    pub cuts: u8,
+    /// Its best-ranked class, as a mask of that one, if it is marked as common cut.
+    pub cut: u8,
     pub gap: i32,
     pub part_count: usize,
     pub parts: [Part; 6],
@@ -178,13 +179,11 @@ fn gap_and_mark(byte: u8) -> (u8, u8) {
 /// A type of these four fields, with its parts still to be read.
 fn kind_of(job: &Job, head: &[u8]) -> Kind {
     let (best, gap) = best_ranked(job, head[2]);
-    // A mistake: a mark counts only for a type that has no better-ranked class.
-    let counted = if mutant::is("mark_only_where_best_ranked") { best } else { head[2] };
     Kind {
         demand: head[0] as usize,
         turns: head[1],
         classes: head[2],
-        cuts: job.cuts & counted,
+        cut: if mutant::none() { job.cuts & best } else { mistaken_cut::of_type(job, head[2], best) },
         gap,
         part_count: head[3] as usize,
         ..Kind::default()
@@ -236,7 +235,8 @@ fn read_part(part: &mut Part, bytes: &[u8]) -> Result<usize, u8> {
     Ok(1 + 2 * corners)
 }
 
-/// The best-ranked of the classes that the mask names, as a mask of that one, and its gap.
+/// The best-ranked of the classes that the mask names, as a mask of that one, and its gap. The mistakes: by the gap, by
+/// the place in the list, or marked classes are left out.
 fn best_ranked(job: &Job, mask: u8) -> (u8, i32) {
     let (mut best_rank, mut best, mut gap) = (256, 0, 0);
     for &[id, rank, class_gap] in &job.classes[..job.class_count] {
@@ -244,12 +244,9 @@ fn best_ranked(job: &Job, mask: u8) -> (u8, i32) {
         if mask >> id & 1 == 0 || marked && mutant::is("marked_class_not_ranked") {
             continue;
         }
-        let (rank, class_gap) = rank_and_gap(rank, class_gap, marked);
-        let better = if mutant::is("largest_gap") {
-            class_gap > gap
-        } else {
-            mutant::is("last_gap") || rank < best_rank
-        };
+        let (rank, class_gap) = (counted_rank(rank, marked), counted_gap(class_gap, marked));
+        let better =
+            if mutant::is("largest_gap") { class_gap > gap } else { mutant::is("last_gap") || rank < best_rank };
         if better {
             (best_rank, best, gap) = (rank, 1 << id, class_gap);
         }
@@ -257,13 +254,32 @@ fn best_ranked(job: &Job, mask: u8) -> (u8, i32) {
     (best, gap)
 }
 
-/// A mark changes nothing of its class's rank and gap. The mistakes: it comes before all ranks, it is a gap of 0, or
-/// its 128 stays in the gap.
-fn rank_and_gap(rank: u8, gap: u8, marked: bool) -> (i32, i32) {
-    let mistaken = |mistake: &str| marked && mutant::is(mistake);
-    let rank = if mistaken("marked_class_ranked_first") { -1 } else { i32::from(rank) };
-    let gap = if mistaken("mark_as_gap_0") { 0 } else { i32::from(gap) };
-    (rank, if mistaken("marked_gap_kept_raw") { gap + 128 } else { gap })
+/// The smallest number is the best. The mistakes: the largest is, numbers above 127 are negative, the first or the last
+/// one is none, or a mark comes before all ranks.
+fn counted_rank(rank: u8, marked: bool) -> i32 {
+    let worst = 256;
+    if mutant::is("largest_rank") {
+        -i32::from(rank)
+    } else if mutant::is("rank_signed") {
+        (rank as i8).into()
+    } else if rank == 0 && mutant::is("rank_0_never_best") || rank == 255 && mutant::is("rank_255_never_best") {
+        worst
+    } else if marked && mutant::is("marked_class_ranked_first") {
+        -1
+    } else {
+        rank.into()
+    }
+}
+
+/// A mark changes nothing of its class's gap. The mistakes: it is a gap of 0, or its 128 stays in the gap.
+fn counted_gap(gap: u8, marked: bool) -> i32 {
+    if marked && mutant::is("mark_as_gap_0") {
+        0
+    } else if marked && mutant::is("marked_gap_kept_raw") {
+        i32::from(gap) + 128
+    } else {
+        gap.into()
+    }
 }
 
 impl Part {

@@ -8,6 +8,7 @@ pub mod distance;
 pub mod geometry;
 pub mod job;
 mod mistaken;
+mod mistaken_cut;
 pub mod mutant;
 mod outline;
 pub mod rows;

@@ -3,6 +3,7 @@
 use crate::geometry::{in_conflict, turned, Turned};
 use crate::job::Job;
 use crate::mistaken;
+use crate::mistaken_cut;
 use crate::mutant;
 
 /// A job under a margin.
@@ -84,43 +85,16 @@ impl<'a> Board<'a> {
         at.column as i32 * self.job.step + self.turned[kind][at.turn].box_x.1 + self.margin
     }
 
-    /// Whether some marked class is named by both types, as it is by two copies of one.
-    fn share_a_cut(&self, kind: usize, other: usize) -> bool {
-        let (a, b) = (&self.job.kinds[kind], &self.job.kinds[other]);
-        if mutant::is("mark_ignored") {
-            false
-        } else if mutant::is("mark_of_one_piece_suffices") {
-            a.cuts | b.cuts != 0
-        } else if mutant::is("different_marks_shared") {
-            a.cuts != 0 && b.cuts != 0
-        } else if mutant::is("every_mark_must_be_shared") {
-            a.cuts != 0 && a.cuts == b.cuts
-        } else if mutant::is("any_shared_class_suffices") {
-            a.classes & b.classes != 0
-        } else {
-            let left_out = if kind == other { "copies_do_not_share" } else { "only_copies_share" };
-            a.cuts & b.cuts != 0 && !mutant::is(left_out)
-        }
-    }
-
-    /// For a mistake: the gap that the shared marked class has by itself.
-    fn gap_of_the_cut(&self, kind: usize, other: usize) -> i32 {
-        let shared = self.job.kinds[kind].cuts & self.job.kinds[other].cuts;
-        let class = self.job.classes[..self.job.class_count].iter().find(|c| shared >> c[0] & 1 == 1);
-        class.map_or(0, |c| c[2].into())
-    }
-
+    /// 0 where both types have the same best-ranked class and it is marked, as two copies of one may; else the larger.
     fn pair_gap(&self, kind: usize, other: usize) -> i32 {
-        if self.share_a_cut(kind, other) {
-            return if mutant::is("gap_of_the_cut") { self.gap_of_the_cut(kind, other) } else { 0 };
+        if !mutant::none() {
+            return mistaken_cut::pair_gap(self.job, kind, other, self.margin);
         }
-        let (a, b) = (self.job.kinds[kind].gap, self.job.kinds[other].gap);
-        if mutant::is("smaller_pair_gap") {
-            a.min(b)
-        } else if mutant::is("margin_in_the_gap") {
-            a.max(b) + self.margin
+        let (a, b) = (&self.job.kinds[kind], &self.job.kinds[other]);
+        if a.cut & b.cut != 0 {
+            0
         } else {
-            a.max(b)
+            a.gap.max(b.gap)
         }
     }
 

@@ -21,6 +21,9 @@ pub struct Candidate {
     place: usize,
 }
 
+/// The gap of two pieces of these types.
+pub type PairGap = fn(&Job, usize, usize) -> i64;
+
 /// Whether two pieces, each the list of its placed parts, are in conflict at a gap.
 pub type Measure = fn(&[Part], &[Part], i64) -> bool;
 
@@ -28,6 +31,7 @@ pub type Measure = fn(&[Part], &[Part], i64) -> bool;
 pub struct Board {
     pub job: Job,
     margin: i64,
+    pair_gap: PairGap,
     measure: Measure,
     /// For each type, its candidates by rising number.
     pub candidates: Vec<Vec<Candidate>>,
@@ -49,11 +53,20 @@ impl Board {
 
     /// Refused by 13 under a margin that is too large.
     pub fn new(job: Job, margin: u64) -> Result<Board, u8> {
-        Board::measured(job, margin, in_conflict)
+        Board::by(Job::pair_gap, in_conflict, job, margin)
+    }
+
+    /// A board on which pairs have other gaps, to compare with.
+    pub fn gapped(job: Job, margin: u64, pair_gap: PairGap) -> Result<Board, u8> {
+        Board::by(pair_gap, in_conflict, job, margin)
     }
 
     /// A board on which gaps are measured in another way, to compare with.
     pub fn measured(job: Job, margin: u64, measure: Measure) -> Result<Board, u8> {
+        Board::by(Job::pair_gap, measure, job, margin)
+    }
+
+    fn by(pair_gap: PairGap, measure: Measure, job: Job, margin: u64) -> Result<Board, u8> {
         if margin > MOST_MARGIN {
             return Err(13);
         }
@@ -64,7 +77,7 @@ impl Board {
             candidate.place = places;
             places += 1;
         }
-        Ok(Board { job, margin, measure, candidates, remembered: Remembered::new(places) })
+        Ok(Board { job, margin, pair_gap, measure, candidates, remembered: Remembered::new(places) })
     }
 
     pub fn at(&self, piece: Piece) -> &Candidate {
@@ -83,7 +96,7 @@ impl Board {
 
     pub fn conflict(&self, one: Piece, other: Piece) -> bool {
         let (a, b) = (self.at(one), self.at(other));
-        let gap = || self.job.pair_gap(one.kind, other.kind);
+        let gap = || (self.pair_gap)(&self.job, one.kind, other.kind);
         self.remembered.get(a.place, b.place, || (self.measure)(&a.parts, &b.parts, gap()))
     }
 
@@ -137,17 +150,17 @@ impl Job {
         self.best_ranked(kind).map_or(0, |c| c.gap.into())
     }
 
-    /// Two pieces share every class that both their types name, and so do two copies of one type.
-    pub fn shared(&self, one: usize, other: usize) -> impl Iterator<Item = &Class> {
-        self.classes_of(one).filter(move |c| self.classes_of(other).any(|d| d.id == c.id))
+    pub fn larger_gap(&self, one: usize, other: usize) -> i64 {
+        self.gap(one).max(self.gap(other))
     }
 
-    /// 0 for two pieces that share a marked class, otherwise the larger of the two gaps.
+    /// The rank is applied first: 0 where both have the same best-ranked class and it is marked, as two copies of one
+    /// type may; otherwise the larger of the two gaps.
     pub fn pair_gap(&self, one: usize, other: usize) -> i64 {
-        if self.shared(one, other).any(|c| c.marked) {
-            return 0;
+        match (self.best_ranked(one), self.best_ranked(other)) {
+            (Some(first), Some(second)) if first.id == second.id && first.marked => 0,
+            _ => self.larger_gap(one, other),
         }
-        self.gap(one).max(self.gap(other))
     }
 }
 

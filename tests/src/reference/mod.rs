@@ -10,5 +10,6 @@ pub mod print;
 pub mod reader;
 pub mod services;
 pub mod square_gap;
+pub mod unranked_cut;
 pub mod walk;
 pub mod writer;

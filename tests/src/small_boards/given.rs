@@ -13,6 +13,7 @@ pub fn boards_with_a_given_layout() -> Vec<SmallBoard> {
     boards.extend(boards_with_equal_lengths());
     boards.push(board_under_a_margin());
     boards.extend(boards_made_by_squares());
+    boards.extend(boards_made_without_ranks());
     boards.extend(boards_of_unfit_layouts());
     boards
 }
@@ -158,6 +159,30 @@ fn boards_made_by_squares() -> Vec<SmallBoard> {
             "given by squares, W 2",
             squares_with_gap(2, 7, 3),
             vec![check(three_along, Ok(7)), begun(three_along, u32::MAX, "shortest 7 5\n0 0 0 0\n0 5 0 0\n")],
+        ),
+    ]
+}
+
+/// What runs held while any shared common cut was enough to touch: in a class of gap 3 and a cut, of which one is ranked
+/// first.
+fn boards_made_without_ranks() -> Vec<SmallBoard> {
+    let in_both = |length, classes: &[[u8; 3]]| Draft::new(2, length, 1).classes(classes).with(2, 1, 0b101, &[SQUARE]);
+    let three_along = &[0, 0, 0, 0, 0, 5, 0, 0];
+    vec![
+        // Below 7 the first square is tried on the columns 0 to 4.
+        board(
+            "given, a cut behind a class",
+            in_both(7, &[[0, 1, 3], [2, 9, 129]]),
+            vec![
+                begun(TOUCHING, u32::MAX, "refused 11\n"),
+                begun(three_along, u32::MAX, "shortest 7 5\n0 0 0 0\n0 5 0 0\n"),
+            ],
+        ),
+        // As on W 2, L 5 without a gap.
+        board(
+            "given, a cut before a class",
+            in_both(5, &[[0, 9, 3], [2, 1, 129]]),
+            vec![begun(TOUCHING, u32::MAX, "shortest 4 2\n0 0 0 0\n0 2 0 0\n"), begun(APART, u32::MAX, NESTED)],
         ),
     ]
 }

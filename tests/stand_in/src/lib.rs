@@ -110,17 +110,24 @@ fn spoil_odd_byte(buffer: &mut [u8]) {
     }
 }
 
-/// The job of a service that takes a margin. The mistakes: the margin is judged first; with the one named, the
-/// service knows nothing of marks.
-fn read_under(job: &[u8], margin: u64, unmarked: &str) -> Result<Job, u8> {
+/// The job of a service that takes a margin. The mistakes: the margin is judged first; with the first one named, the
+/// service knows nothing of marks, with the second it does not ask for ranks.
+fn read_under(job: &[u8], margin: u64, mistakes: [&str; 2]) -> Result<Job, u8> {
     if mutant::is("thirteen_before_the_job") && accepted(margin).is_none() {
         return Err(13);
     }
     let mut job = read(job)?;
+    let [unmarked, unranked] = mistakes;
     if mutant::is(unmarked) {
-        job.kinds.iter_mut().for_each(|kind| kind.cuts = 0);
+        job.kinds.iter_mut().for_each(|kind| kind.cut = 0);
     }
-    Ok(job)
+    Ok(if mutant::is(unranked) { without_ranks(job) } else { job })
+}
+
+/// For mistakes: every marked class of a type counts, as if it were the best-ranked.
+fn without_ranks(mut job: Job) -> Job {
+    job.kinds.iter_mut().for_each(|kind| kind.cut = job.cuts & kind.classes);
+    job
 }
 
 /// The margin, if it is one that a host may pass.
@@ -174,7 +181,7 @@ pub unsafe extern "C" fn nest_row(
 ) -> u64 {
     let job = lent(job, job_len);
     let row = lent_mut(row, row_len);
-    match read_under(job, margin, "row_without_common_cut") {
+    match read_under(job, margin, ["row_without_common_cut", "row_with_unranked_cut"]) {
         Err(number) => refused(number),
         Ok(job) => write_row(&job, margin, kind, number, other, row),
     }
@@ -231,7 +238,7 @@ pub unsafe extern "C" fn nest_check(
 ) -> u64 {
     let job = lent(job, job_len);
     let layout = lent(layout, layout_len);
-    match read_under(job, margin, "check_without_common_cut") {
+    match read_under(job, margin, ["check_without_common_cut", "check_with_unranked_cut"]) {
         Err(number) => refused(number),
         Ok(job) => check(&job, margin, layout),
     }
@@ -315,7 +322,7 @@ pub unsafe extern "C" fn nest_run(
         // The byte past the lent ones.
         work.as_mut_ptr().add(work_len).write(0xA5);
     }
-    let result = match read_under(job, margin, "run_without_common_cut") {
+    let result = match read_under(job, margin, ["run_without_common_cut", "run_with_unranked_cut"]) {
         Err(number) => refused(number),
         Ok(job) => run(&job, margin, budget, given, work, answer),
     };

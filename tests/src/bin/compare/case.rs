@@ -2,11 +2,12 @@
 
 use std::cell::OnceCell;
 
-use nest_tests::reference::board::{Board, Piece};
+use nest_tests::reference::board::{Board, PairGap, Piece};
 use nest_tests::reference::exhaustive::{how_many, passing_layouts};
 use nest_tests::reference::reader::read_job;
 use nest_tests::reference::services::{Clamped, Reading};
 use nest_tests::reference::square_gap;
+use nest_tests::reference::unranked_cut;
 use nest_tests::reference::walk::{walk, Walked};
 use nest_tests::reference::writer::saved;
 
@@ -26,6 +27,7 @@ pub struct Case {
     pub twins: Vec<Twin>,
     walked: OnceCell<Walked>,
     walked_by_squares: OnceCell<Option<Walked>>,
+    walked_without_ranks: OnceCell<Option<Walked>>,
     passing: OnceCell<Option<Vec<Vec<Piece>>>>,
 }
 
@@ -63,8 +65,8 @@ impl Case {
 
     fn of(bytes: Vec<u8>, margin: u64, reading: Reading, twins: Vec<Twin>) -> Case {
         let clamped = reading.clone().and_then(|job| Board::new(job, margin));
-        let (walked, walked_by_squares, passing) = Default::default();
-        Case { bytes, margin, reading, clamped, twins, walked, walked_by_squares, passing }
+        let (walked, walked_by_squares, walked_without_ranks, passing) = Default::default();
+        Case { bytes, margin, reading, clamped, twins, walked, walked_by_squares, walked_without_ranks, passing }
     }
 
     /// The walk, where nothing is refused; to its end, where it is short enough.
@@ -89,6 +91,21 @@ impl Case {
         self.walked_by_squares.get_or_init(walked).as_ref()
     }
 
+    /// The walk with common cut as it was before the rank came first, where that gives some pair another gap.
+    pub fn walked_without_ranks(&self) -> Option<&Walked> {
+        self.walked_without_ranks.get_or_init(|| self.walked_with(unranked_cut::pair_gap)).as_ref()
+    }
+
+    /// The walk with these gaps, where some pair has another one than it should. Candidates are the same.
+    pub fn walked_with(&self, pair_gap: PairGap) -> Option<Walked> {
+        let job = &self.clamped.as_ref().ok()?.job;
+        let kinds = 0..job.types.len();
+        let another = |one, other| pair_gap(job, one, other) != job.pair_gap(one, other);
+        let some_other = kinds.clone().any(|one| kinds.clone().any(|other| another(one, other)));
+        let board = some_other.then(|| Board::gapped(job.clone(), self.margin, pair_gap))?;
+        board.ok().map(|board| walked_far(&board))
+    }
+
     /// Whether another walk takes other steps, or finds another layout.
     pub fn walks_otherwise(&self, there: &Walked) -> bool {
         self.walked().is_some_and(|here| (there.steps, &there.best) != (here.steps, &here.best))
@@ -111,7 +128,7 @@ impl Case {
 }
 
 /// The walk to its end, where it is short enough.
-pub fn walked_far(board: &Board) -> Walked {
+fn walked_far(board: &Board) -> Walked {
     walk(board, None, step_limit(board))
 }
 

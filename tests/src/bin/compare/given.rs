@@ -1,5 +1,5 @@
 //! Runs that begin from a given layout: fit ones at every budget, unfit ones with room and without, and layouts made with
-//! the gap as a square; and what is counted of them.
+//! the gap as a square, or before common cut asked for ranks; and what is counted of them.
 
 use nest_tests::answer::{Answer, ENDED};
 use nest_tests::changes::other_contents;
@@ -32,12 +32,13 @@ const SHORT_WORK_TOO: &str = "runs from an unfit layout, with too few work words
 const SHORT_ANSWER_TOO: &str = "runs from an unfit layout, with too few answer numbers as well";
 const BY_SQUARES: &str = "layouts that were made with the gap as a square, taken over";
 const LONGER_BY_SQUARES: &str = "layouts that were made with the gap as a square, longer than the shortest now";
+const WITHOUT_RANKS: &str = "layouts that were made before common cut asked for ranks, and do not pass";
 const FIT_ELSEWHERE: &str = "runs from a layout that was found under another margin, and passes";
 const UNFIT_ELSEWHERE: &str = "runs from a layout that was found under another margin, and does not pass";
 pub const SEARCHED: &str = "runs from a given layout compared with all layouts";
 
 /// All that is counted.
-pub const COUNTED: [&str; 15] = [
+pub const COUNTED: [&str; 16] = [
     KEPT,
     FIRST_ELSEWHERE,
     REPLACED,
@@ -49,6 +50,7 @@ pub const COUNTED: [&str; 15] = [
     SHORT_ANSWER_TOO,
     BY_SQUARES,
     LONGER_BY_SQUARES,
+    WITHOUT_RANKS,
     FIT_ELSEWHERE,
     UNFIT_ELSEWHERE,
     SEARCHED,
@@ -89,6 +91,7 @@ impl Harness<'_> {
             self.runs_from(case, board, &layout);
         }
         self.layouts_by_squares(case, board);
+        self.layout_without_ranks(case, board);
         for layout in self.unfit_layouts(case, board) {
             self.short_run(case, &layout);
         }
@@ -215,5 +218,17 @@ impl Harness<'_> {
             self.report.note(LONGER_BY_SQUARES);
         }
         self.runs_from(case, board, best);
+    }
+
+    /// What a walk ends with where common cut does not ask for ranks: pieces may stand too near.
+    fn layout_without_ranks(&mut self, case: &Case, board: &Board) {
+        let Some(best) = case.walked_without_ranks().and_then(|walked| walked.best.as_ref()) else { return };
+        let numbers = to_numbers(board, best);
+        if passing(board, &numbers).is_none() {
+            self.report.note(WITHOUT_RANKS);
+        }
+        let bytes = bytes_of(&numbers);
+        self.check(case, &bytes);
+        self.short_run(case, &bytes);
     }
 }

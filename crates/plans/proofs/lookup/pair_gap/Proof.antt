@@ -20,7 +20,7 @@ use Rattle.plans.proofs.lookup.pair_gap.Tie as tie
 few : (c : tie.Start) → (c .args .t < 8) × (c .args .u < 8)
 few c = (omega (arith, c .pre .1, kinds-few (c .args .job .now) (c .args .plan) (c .pre .0)), omega (arith, c .pre .2, kinds-few (c .args .job .now) (c .args .plan) (c .pre .0)))
 
--- The gaps of the plan are those of the kinds, and its bit says whether they share a common-cut class.
+-- The gaps of the plan are those of the kinds, and its bit says whether they share a common cut.
 gap-is : (c : tie.Start) (shared : Bool) → shared ≡ testBit (c .args .plan .shared) ((c .args .t * 8 + c .args .u) % 64)
     → gapBetween (getD (c .args .plan .gaps) (c .args .t) 0) (getD (c .args .plan .gaps) (c .args .u) 0) shared
     ≡ pairGap (content (c .args .job .now) .classes) (kindAt (content (c .args .job .now) .kinds) (c .args .t)) (kindAt (content (c .args .job .now) .kinds) (c .args .u))

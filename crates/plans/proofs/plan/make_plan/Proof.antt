@@ -9,11 +9,11 @@ use Rattle.model.specs.Content.{kindAt, kindCount}
 use Rattle.model.specs.Format.{content}
 use Rattle.model.specs.Grid.{dots, setWords}
 use Rattle.model.proofs.Accepted.{accepted-dots}
-use Rattle.job.specs.Gaps.{masksMeet}
+use Rattle.job.specs.Gaps.{sameCut}
 use Rattle.job.specs.View.{KindIn}
 use Rattle.job.specs.declared.View.{View}
 use Rattle.candidates.specs.Placements.{Bounded}
-use Rattle.candidates.proofs.PreparedLaws.{bounded}
+use Rattle.candidates.proofs.PreparedLaws.{bounded, shares-cut}
 use Rattle.shapes.proofs.ViewLaws.{kind-in}
 use Rattle.plans.proofs.plan.make_plan.Statement.{statement}
 use Rattle.plans.proofs.plan.make_plan.Tie as tie
@@ -35,14 +35,14 @@ bounds c = bounded (c .args .job .now) (c .args .view) (c .pre .0)
 kind : (c : tie.Start) (t : ℕ) → t < kindCount (content (c .args .job .now) .kinds) → KindIn (c .args .job .now) (c .args .view) t (kindAt (content (c .args .job .now) .kinds) t)
 kind c = kind-in (c .args .job .now) (c .args .view) (c .pre .0)
 
--- The bit of two kinds, where the masks of all were compared.
-shared-at : (w t u : ℕ) (v : View) → w ≡ bitsWhere 64 (λ x. masksMeet (getD (v .cuts) (x / 8) 0) (getD (v .cuts) (x % 8) 0)) → t < 8 → u < 8
-    → testBit w (t * 8 + u) ≡ masksMeet (getD (v .cuts) t 0) (getD (v .cuts) u 0)
+-- The bit of two kinds, where the numbers of all were compared.
+shared-at : (w t u : ℕ) (v : View) → w ≡ bitsWhere 64 (λ x. sameCut (getD (v .cuts) (x / 8) 0) (getD (v .cuts) (x % 8) 0)) → t < 8 → u < 8
+    → testBit w (t * 8 + u) ≡ sameCut (getD (v .cuts) t 0) (getD (v .cuts) u 0)
 shared-at w t u v e h l =
     let q : (t * 8 + u) / 8 ≡ t = omega arith in
     let r : (t * 8 + u) % 8 ≡ u = omega arith in
-    ap (λ w. testBit w (t * 8 + u)) e ∙ testBit-bitsWhere 64 (λ x. masksMeet (getD (v .cuts) (x / 8) 0) (getD (v .cuts) (x % 8) 0)) (t * 8 + u) (omega arith)
-    ∙ ap₂ (λ i j. masksMeet (getD (v .cuts) i 0) (getD (v .cuts) j 0)) q r
+    ap (λ w. testBit w (t * 8 + u)) e ∙ testBit-bitsWhere 64 (λ x. sameCut (getD (v .cuts) (x / 8) 0) (getD (v .cuts) (x % 8) 0)) (t * 8 + u) (omega arith)
+    ∙ ap₂ (λ i j. sameCut (getD (v .cuts) i 0) (getD (v .cuts) j 0)) q r
 
 piece-kinds-requires : tie.Need-piece-kinds-requires
 piece-kinds-requires c κs = c .before .pre .0
@@ -100,7 +100,7 @@ returns c =
         gaps = λ t h. c .before .before .bytes-of .ensures t (omega (arith, start .pre .0 .view .kinds)) ∙ kind start t h .gap;
         shared = λ t u h l.
             shared-at (c .before .before .before .before .before .shared-cuts .result) t u (start .args .view) (c .before .before .before .before .before .shared-cuts .ensures) (omega (arith, h, bounds start .kinds, start .pre .0 .view .kinds)) (omega (arith, l, bounds start .kinds, start .pre .0 .view .kinds))
-            ∙ start .pre .0 .view .cuts t u h l;
+            ∙ shares-cut (start .args .job .now) (start .args .view) (start .pre .0) t u h l;
         parts = λ t h. c .before .bytes-of2 .ensures t (omega (arith, start .pre .0 .view .kinds)) ∙ kind start t h .parts;
         sizes = c .sizes-of .ensures;
       },

@@ -7,13 +7,13 @@ use native.Mathlib.Omega.{arith}
 use lib.ListN.{getD}
 use Rattle.words.specs.Bits.{bitsWhere, assignedBit}
 use Rattle.words.proofs.Bit.{bitsWhere-none, bitsWhere-next}
-use Rattle.job.specs.Gaps.{masksMeet}
+use Rattle.job.specs.Gaps.{sameCut}
 use borrow.Author.Needs.{needs}
 use Rattle.plans.proofs.plan.shared_cuts.Statement.{statement}
 use Rattle.plans.proofs.plan.shared_cuts.Tie as tie
 
 abbrev Inv-loop : tie.InvT-loop
-Inv-loop view shared₀ x₀ shared x = (x ≤ 64) × (shared ≡ bitsWhere x (λ y. masksMeet (getD (view .cuts) (y / 8) 0) (getD (view .cuts) (y % 8) 0)))
+Inv-loop view shared₀ x₀ shared x = (x ≤ 64) × (shared ≡ bitsWhere x (λ y. sameCut (getD (view .cuts) (y / 8) 0) (getD (view .cuts) (y % 8) 0)))
 
 abbrev μ-loop : tie.MeasureT-loop
 μ-loop view shared₀ x₀ shared x = 64 - x
@@ -37,7 +37,7 @@ loop-again : tie.Need-loop-again Inv-loop μ-loop
 loop-again c =
     let x = c .before .before .before .loop .x in
     let on = c .before .share-cut .result in
-    let meet : ℕ → Bool = λ y. masksMeet (getD (c .before .before .before .before .args .view .cuts) (y / 8) 0) (getD (c .before .before .before .before .args .view .cuts) (y % 8) 0) in (
+    let meet : ℕ → Bool = λ y. sameCut (getD (c .before .before .before .before .args .view .cuts) (y / 8) 0) (getD (c .before .before .before .before .args .view .cuts) (y % 8) 0) in (
       omega arith,
       c .assign-bit .ensures
           ∙ ap (assignedBit on (c .before .before .before .loop .shared)) (mod-eq-of-lt (omega arith))
@@ -48,7 +48,7 @@ loop-again c =
 returns : tie.Need-returns Inv-loop μ-loop
 returns c =
     let n : c .before .loop .x ≡ 64 = omega arith in
-    c .before .loop .inv .1 ∙ ap (λ m. bitsWhere m (λ y. masksMeet (getD (c .before .before .args .view .cuts) (y / 8) 0) (getD (c .before .before .args .view .cuts) (y % 8) 0))) n
+    c .before .loop .inv .1 ∙ ap (λ m. bitsWhere m (λ y. sameCut (getD (c .before .before .args .view .cuts) (y / 8) 0) (getD (c .before .before .args .view .cuts) (y % 8) 0))) n
 
 pub shared-cuts-spec : {M : Type 1} → statement M
 shared-cuts-spec = tie.close (tie.spec Inv-loop μ-loop loop-holds share-cut-requires assign-bit-requires add-x loop-less loop-again returns)

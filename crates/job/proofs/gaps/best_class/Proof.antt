@@ -4,8 +4,8 @@ use native.Mathlib.Omega.{arith}
 use Rattle.job.specs.Gaps.{bestBelow, offeredId}
 use Rattle.job.proofs.GapLaws.{best-none, best-more}
 use borrow.Author.Needs.{needs}
-use Rattle.job.proofs.gaps.kind_gap.Statement.{statement}
-use Rattle.job.proofs.gaps.kind_gap.Tie as tie
+use Rattle.job.proofs.gaps.best_class.Statement.{statement}
+use Rattle.job.proofs.gaps.best_class.Tie as tie
 
 abbrev Inv-loop : tie.InvT-loop
 Inv-loop job at n mask best₀ id₀ best id = (id ≤ 8) × (best ≡ bestBelow job at n mask id)
@@ -31,9 +31,9 @@ loop-again c = (omega arith, c .offer-id .ensures ∙ ap (offeredId (c .before .
 returns : tie.Need-returns Inv-loop μ-loop
 returns c =
     let e : c .before .loop .id ≡ 8 = omega arith in
-    ap (λ b. b .gap) (c .before .loop .inv .1 ∙ ap (bestBelow (c .before .before .before .args .job .now) (c .before .before .before .args .at) (c .before .before .before .args .n) (c .before .before .before .args .mask)) e)
+    c .before .loop .inv .1 ∙ ap (bestBelow (c .before .before .before .args .job .now) (c .before .before .before .args .at) (c .before .before .before .args .n) (c .before .before .before .args .mask)) e
 
-pub kind-gap-spec : {M : Type 1} → statement M
-kind-gap-spec =
+pub best-class-spec : {M : Type 1} → statement M
+best-class-spec =
     tie.close
     (tie.spec Inv-loop μ-loop loop-holds offer-id-requires add-id loop-less loop-again returns)
