@@ -537,31 +537,28 @@ carriedRefusals =
     ∷ (carries (bytesOf 2 (0 ∷ 0 ∷ 0 ∷ 0 ∷ 0 ∷ 2 ∷ 0 ∷ 0 ∷ []) ++ (0 ∷ [])) (squares 2 6) 0 ⇒ says (Stopped (Layout 4) 0) true (0 ∷ 0 ∷ 0 ∷ 0 ∷ 0 ∷ 2 ∷ 0 ∷ 0 ∷ []))
     ∷ []
 
--- Boards of document 02's eighth request. At gap 3 two squares stand at the columns 0 and 5, length 7, and the first is given back at the columns 1 to 4; at gap 0 at the
--- columns 0 and 2, and the first is given back at column 1.
+-- Boards of document 02's eighth request. At gap 3 two squares stand at the columns 0 and 5, length 7, and the first is given back at the columns 1 to 4.
 unfoldable pub rankedCutRuns : List Marked
 rankedCutRuns =
     -- "both pieces in class 0 (rank 1, gap 3) and marked class 2 (rank 9) go from 0 to 3; .."
     (runs (twoTypes (0 ∷ 1 ∷ 3 ∷ 2 ∷ 9 ∷ 129 ∷ []) 5 5 7) 1000000 ⇒ says (Shortest 7 6) true (0 ∷ 0 ∷ 0 ∷ 0 ∷ 1 ∷ 5 ∷ 0 ∷ 0 ∷ []))
     -- ".. one in both and one in class 2 alone, gap 1, also go from 0 to 3."
     ∷ (runs (twoTypes (0 ∷ 1 ∷ 3 ∷ 2 ∷ 9 ∷ 129 ∷ []) 5 4 7) 1000000 ⇒ says (Shortest 7 6) true (0 ∷ 0 ∷ 0 ∷ 0 ∷ 1 ∷ 5 ∷ 0 ∷ 0 ∷ []))
-    -- The same where class 0 is marked too: each best-ranked class is marked, but they are not the same.
-    ∷ (runs (twoTypes (0 ∷ 1 ∷ 131 ∷ 2 ∷ 9 ∷ 129 ∷ []) 5 4 7) 1000000 ⇒ says (Shortest 7 6) true (0 ∷ 0 ∷ 0 ∷ 0 ∷ 1 ∷ 5 ∷ 0 ∷ 0 ∷ []))
-    -- The ranks exchanged: marked class 2 is the best-ranked of both.
-    ∷ (runs (twoTypes (0 ∷ 9 ∷ 3 ∷ 2 ∷ 1 ∷ 129 ∷ []) 5 4 4) 1000000 ⇒ says (Shortest 4 3) true (0 ∷ 0 ∷ 0 ∷ 0 ∷ 1 ∷ 2 ∷ 0 ∷ 0 ∷ []))
-    -- Two squares of one type in both classes, the marked one of worse rank, in either file order: the gap of the other, 1. Then the marked one of better rank: none.
-    ∷ (runs (rankedSquares (0 ∷ 5 ∷ 1 ∷ 1 ∷ 9 ∷ 131 ∷ [])) 1000000 ⇒ says (Shortest 5 4) true (0 ∷ 0 ∷ 0 ∷ 0 ∷ 0 ∷ 3 ∷ 0 ∷ 0 ∷ []))
-    ∷ (runs (rankedSquares (1 ∷ 9 ∷ 131 ∷ 0 ∷ 5 ∷ 1 ∷ [])) 1000000 ⇒ says (Shortest 5 4) true (0 ∷ 0 ∷ 0 ∷ 0 ∷ 0 ∷ 3 ∷ 0 ∷ 0 ∷ []))
-    ∷ (runs (rankedSquares (0 ∷ 5 ∷ 129 ∷ 1 ∷ 9 ∷ 3 ∷ [])) 1000000 ⇒ says (Shortest 4 3) true (0 ∷ 0 ∷ 0 ∷ 0 ∷ 0 ∷ 2 ∷ 0 ∷ 0 ∷ []))
     ∷ []
 
--- Row and check as well: at gap 1 the square at (0,0) is in conflict with (1,0), number 12, and (2,0), number 24; what passed at the columns 0 and 2 passes where marked
--- class 2 ranks first of both, and not in the two examples.
+-- Row and check as well.
 unfoldable pub rankedCutConflicts : List Marked
 rankedCutConflicts =
-    (rows (rankedSquares (0 ∷ 5 ∷ 1 ∷ 1 ∷ 9 ∷ 131 ∷ [])) 0 ⇒ shows (W.Count 2) (16781313 ∷ 0 ∷ []))
-    ∷ (rows (rankedSquares (0 ∷ 5 ∷ 129 ∷ 1 ∷ 9 ∷ 3 ∷ [])) 0 ⇒ shows (W.Count 2) (4097 ∷ 0 ∷ []))
-    ∷ (checks (twoTypes (0 ∷ 9 ∷ 3 ∷ 2 ∷ 1 ∷ 129 ∷ []) 5 4 4) (0 ∷ 0 ∷ 0 ∷ 0 ∷ 1 ∷ 2 ∷ 0 ∷ 0 ∷ []) ⇒ finds (C.Passes 4))
-    ∷ (checks (twoTypes (0 ∷ 1 ∷ 3 ∷ 2 ∷ 9 ∷ 129 ∷ []) 5 5 4) (0 ∷ 0 ∷ 0 ∷ 0 ∷ 1 ∷ 2 ∷ 0 ∷ 0 ∷ []) ⇒ finds (C.Refused 11))
+    -- The squares at the columns 0 and 2 no longer pass in the two examples, ..
+    (checks (twoTypes (0 ∷ 1 ∷ 3 ∷ 2 ∷ 9 ∷ 129 ∷ []) 5 5 4) (0 ∷ 0 ∷ 0 ∷ 0 ∷ 1 ∷ 2 ∷ 0 ∷ 0 ∷ []) ⇒ finds (C.Refused 11))
     ∷ (checks (twoTypes (0 ∷ 1 ∷ 3 ∷ 2 ∷ 9 ∷ 129 ∷ []) 5 4 4) (0 ∷ 0 ∷ 0 ∷ 0 ∷ 1 ∷ 2 ∷ 0 ∷ 0 ∷ []) ⇒ finds (C.Refused 11))
+    -- .. nor in the second where class 0 is marked too: each best-ranked class is marked, but they are not the same.
+    ∷ (checks (twoTypes (0 ∷ 1 ∷ 131 ∷ 2 ∷ 9 ∷ 129 ∷ []) 5 4 4) (0 ∷ 0 ∷ 0 ∷ 0 ∷ 1 ∷ 2 ∷ 0 ∷ 0 ∷ []) ⇒ finds (C.Refused 11))
+    -- With the ranks exchanged marked class 2 is the best-ranked of both: they pass.
+    ∷ (checks (twoTypes (0 ∷ 9 ∷ 3 ∷ 2 ∷ 1 ∷ 129 ∷ []) 5 4 4) (0 ∷ 0 ∷ 0 ∷ 0 ∷ 1 ∷ 2 ∷ 0 ∷ 0 ∷ []) ⇒ finds (C.Passes 4))
+    -- Two squares of one type in both classes, the marked one of worse rank, in either file order: the gap of the other, 1, at which (0,0) is in conflict with (1,0), number 12,
+    -- and (2,0), number 24. Then the marked one of better rank: no gap.
+    ∷ (rows (rankedSquares (0 ∷ 5 ∷ 1 ∷ 1 ∷ 9 ∷ 131 ∷ [])) 0 ⇒ shows (W.Count 2) (16781313 ∷ 0 ∷ []))
+    ∷ (rows (rankedSquares (1 ∷ 9 ∷ 131 ∷ 0 ∷ 5 ∷ 1 ∷ [])) 0 ⇒ shows (W.Count 2) (16781313 ∷ 0 ∷ []))
+    ∷ (rows (rankedSquares (0 ∷ 5 ∷ 129 ∷ 1 ∷ 9 ∷ 3 ∷ [])) 0 ⇒ shows (W.Count 2) (4097 ∷ 0 ∷ []))
     ∷ []
