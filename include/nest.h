@@ -65,10 +65,9 @@ extern "C" {
  *                         127, anticlockwise; every other corner lies strictly left of each edge.
  *
  * The gap of a type is that of its best-ranked class (smallest rank number), marked or not, and 0 if it names
- * none. The gap between two pieces is 0 if the best-ranked class of both is the same and marked as common cut,
- * which two copies of one type have whenever that class is marked; otherwise it is the larger of the two types'
- * gaps. So a marked class changes nothing for a type that names a better-ranked one. The order of the classes in
- * a job changes no result.
+ * none. The gap between two pieces is 0 if the best-ranked class of both is the same, as it is of two copies of
+ * one type, and is marked as common cut; otherwise it is the larger of the two types' gaps. So a marked class
+ * changes nothing for a type that names a better-ranked one. The order of the classes in a job changes no result.
  *
  * Two pieces are in conflict if a part of one and a part of the other overlap. To touch is not to overlap, so
  * at gap 0 pieces may touch. At a gap h above 0 they are in conflict also if a corner of a part of one is nearer

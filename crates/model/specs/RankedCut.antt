@@ -28,7 +28,7 @@ pub record RanksFirst (cs : List SpacingClass) (k m : Kind) : Type 0 where
   -- "the pair gap 0 of common cut holds if and only if both pieces have the same best-ranked class and it is marked."
   pub cut : SameBest cs k m → pairGap cs k m ≡ 0
   pub uncut : (SameBest cs k m → ⊥) → pairGap cs k m ≡ max (kindGap cs k) (kindGap cs m)
-  -- "All other pairs that share a marked class get the larger of their best-ranked gaps" (`uncut`): those had 0.
+  -- "All other pairs that share a marked class get the larger of their best-ranked gaps": they had 0.
   pub others : shareMarked cs k m ≡ true → (SameBest cs k m → ⊥) → (earlierGap cs k m ≡ 0) × (pairGap cs k m ≡ max (kindGap cs k) (kindGap cs m))
   -- "No other pair changes": neither those that share no marked class, nor those whose best-ranked class is the same and marked.
   pub unshared : shareMarked cs k m ≡ false → pairGap cs k m ≡ earlierGap cs k m
