@@ -1,7 +1,7 @@
 -- What a prepared call's view, turned parts and boxes say of the model: placements, extents, conflicts and rows. Assumes nothing.
 use mathlib.Core.Bool.{Bool, true, false, cond, _&&_, and-assoc}
 use mathlib.Core.List.{List, [], _∷_, map}
-use mathlib.Core.Logic.{_⊎_, ⊎-elim}
+use mathlib.Core.Logic.{⊎-elim}
 use mathlib.Core.Path.{_≡_, refl, sym, ap, ap₂, _∙_}
 use Prim.Native.Nat.{ℕ, _+_, _*_, _/_, _%_, _≤_, _<_, max}
 use native.Mathlib.Nat.{div-mul-le-self, div-le-self, mul-le-mul-right, mod-lt, not-suc-le-zero, div-lt-iff-lt-mul}

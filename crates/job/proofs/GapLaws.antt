@@ -11,7 +11,7 @@ use lib.Dec.{eqb, ltb, eqb·suc-suc}
 use Rattle.words.specs.Bits.{testBit}
 use Rattle.model.specs.Content.{SpacingClass, Kind}
 use Rattle.model.specs.Format.{byteAt, marksCut, gapMeant, classFrom, byRisingId}
-use Rattle.model.specs.Gap.{names, better, bestFrom, bestRanked, gapOr0, bestClass, kindGap, sameMarked, shareCut}
+use Rattle.model.specs.Gap.{names, outranks, better, bestFrom, bestRanked, gapOr0, bestClass, sameMarked, shareCut}
 use Rattle.model.specs.Lists.{keep, concat, rising, below}
 use Rattle.model.proofs.Folds.{keep-append}
 use Rattle.records.specs.Classes.{classesFrom, indexOf, distinctColumn}
@@ -36,7 +36,7 @@ offers-append b [] ys = refl
 offers-append b (c ∷ xs) ys = offers-append (offered b (kept (some c))) xs ys
 
 offers-best : (c : SpacingClass) (cs : List SpacingClass) → offers (kept (some c)) cs ≡ kept (some (bestFrom c cs))
-unfolding offers offered kept bestFrom better
+unfolding offers offered kept bestFrom better outranks
 offers-best c [] = refl
 offers-best c (d ∷ cs) = go (ltb (d .rank) (c .rank)) (offers-best c cs) (offers-best d cs)
   where

@@ -14,7 +14,7 @@ use Rattle.model.proofs.Folds.{sum-more, map-append}
 use Rattle.model.proofs.Readers.{many-length}
 use Rattle.model.proofs.Records.{byte-first, byte-behind}
 use Rattle.records.specs.Classes.{classesFrom, distinctColumn}
-use Rattle.job.specs.Gaps.{cutOr0, bestBelow}
+use Rattle.job.specs.Gaps.{bestBelow}
 use Rattle.job.specs.Places.{FoundAt, Placed}
 use Rattle.records.specs.Records.{sizeOf, valuesOf, Reads}
 use Rattle.job.specs.Table.{HeadIn, Stored, Built}

@@ -21,7 +21,7 @@ pub record HeadIn (list : List ℕ) (o : ℕ) (h : Head) : Type 0 where
   pub parts : h .parts ≡ byteAt list (o + 3)
   pub demandFits : h .demand < 256
 
--- Entry t of the tables is that of kind k, of the classes in the order of the file.
+-- Entry t of the tables is that of kind k; cs are the classes in the order of the file.
 pub record Stored (cs : List SpacingClass) (list : List ℕ) (base : ℕ) (table : Table) (t : ℕ) (k : Kind) : Type 0 where
   pub demand : getD (table .demands) t 0 ≡ k .demand
   pub rotations : getD (table .rotations) t 0 ≡ k .rotations

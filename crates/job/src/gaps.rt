@@ -16,7 +16,7 @@ pub struct Best {
     pub cut: usize,
 }
 
-// What tells a common-cut class from the others: its id plus 1, and 0 for a class that is not marked.
+// The number of a common-cut class: its id plus 1. A class that is not marked has 0.
 fn cut_number(marked: bool, id: usize) -> usize
     requires { ⌜ id < 64 ⌝ }
     ensures { λ r. ⌜ r ≡ cutNumber marked id ⌝ }

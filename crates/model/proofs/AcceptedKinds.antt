@@ -1,5 +1,5 @@
 -- What holds of the kinds of an accepted job: numbers in range, parts that are sound, and small gaps.
-use mathlib.Core.Bool.{Bool, true, false, not, cond, _&&_, _||_}
+use mathlib.Core.Bool.{Bool, true, not, _&&_, _||_}
 use mathlib.Core.List.{List, [], _∷_, map}
 use mathlib.Core.Option.{Option, none, some}
 use mathlib.Core.Path.{_≡_, refl, ap, _∙_}
@@ -16,7 +16,7 @@ use Rattle.model.specs.Lists.{all, any, keep, concat, below}
 use Rattle.model.proofs.Ranks.{all-keep, best-holds}
 use Rattle.model.proofs.Causes.{no-cause, no-cause7, KindsFit, kinds-fit, classes-in-range}
 use Rattle.model.proofs.Folds.{any-at, all-append}
-use Rattle.model.proofs.Lists.{and-left, and-right, and-both, or-left, or-right}
+use Rattle.model.proofs.Lists.{and-right, and-both, or-left, or-right}
 use Rattle.model.proofs.Readers.{many-length, many-each}
 use Rattle.model.proofs.Records.{length-vertices, part-read, kind-read}
 

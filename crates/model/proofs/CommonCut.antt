@@ -1,4 +1,4 @@
--- Document 02, "3/13 Common cut": which gap bytes are refused; the gap of a pair; that a job without a marked class has document 01's gaps.
+-- Document 02, "3/13 Common cut": which gap bytes are refused; the gap of a pair, as "8/13" has it; that a job without a marked class has document 01's gaps.
 use mathlib.Core.Bool.{Bool, true, false, not, cond, _&&_, and-assoc, and-comm, and-false}
 use mathlib.Core.List.{List, [], _∷_, map}
 use mathlib.Core.Logic.{_⊎_, inl, inr, ⊎-elim, _↔_}
@@ -120,7 +120,7 @@ numbers-unmarked (c ∷ cs) e =
     ap₂ (λ t r. c .id ∷ c .rank ∷ c .gap ∷ cond t 1 0 ∷ r) (not-true (c .commonCut) (and-left _ _ e)) (numbers-unmarked cs (and-right (not (c .commonCut)) _ e))
 
 -- What the marks enter is document 01's where no class is marked: the class records and what is refused of them, and the gap of a pair, at which every conflict is. Read tells
--- document 01's numbers of each class and the mark 0. Nothing else in the definitions speaks of marks.
+-- document 01's numbers of each class and the mark 0. Nothing else in the definitions of read, row, check and run speaks of marks.
 pub record AsBefore (s : List ℕ) : Type 0 where
   -- "Class, 3 bytes: id .., rank .., gap .."
   pub class : (i : ℕ) → i < classesStated s
@@ -135,18 +135,18 @@ pub record AsBefore (s : List ℕ) : Type 0 where
       (placedParts (j .sheet) (entryKind j f) (f .place))
   pub told : concat (map classNumbers (content s .classes)) ≡ concat (map (λ c. c .id ∷ c .rank ∷ c .gap ∷ 0 ∷ []) (content s .classes))
 
-module _ (s : List ℕ) (none : NoneMarked (classesOf s)) where
+module _ (s : List ℕ) (unmarked : NoneMarked (classesOf s)) where
   record-unmarked : (i : ℕ) → i < classesStated s
       → classAt s i ≡ spacingClass (byteAt s (classesAt s + i * 3)) (byteAt s (classesAt s + i * 3 + 1)) (byteAt s (classesAt s + i * 3 + 2)) false
   unfolding classesOf classAt
   record-unmarked i h =
       let e : marksCut (byteAt s (classesAt s + i * 3 + 2)) ≡ false =
-      not-true _ (all-below (λ i. not (classAt s i .commonCut)) (classesStated s) (sym (all-map (λ c. not (c .commonCut)) (classAt s) (below (classesStated s))) ∙ none) i h) in
+      not-true _ (all-below (λ i. not (classAt s i .commonCut)) (classesStated s) (sym (all-map (λ c. not (c .commonCut)) (classAt s) (below (classesStated s))) ∙ unmarked) i h) in
       ap₂ (λ g c. spacingClass (byteAt s (classesAt s + i * 3)) (byteAt s (classesAt s + i * 3 + 1)) g c) (meant (byteAt s (classesAt s + i * 3 + 2)) false e) e
 
   content-unmarked : NoneMarked (content s .classes)
   unfolding content byRisingId
-  content-unmarked = all-risen (λ c. not (c .commonCut)) (classesOf s) (below 8) none
+  content-unmarked = all-risen (λ c. not (c .commonCut)) (classesOf s) (below 8) unmarked
 
   pub none-marked : AsBefore s
   unfolding conflict classInRange

@@ -60,7 +60,7 @@ module _ (cs : List SpacingClass) (k m : Kind) where
         uncut = uncut;
         others = λ e n. (by-mark e, uncut n);
         unshared = λ e. uncut (λ b. true≢false (sym (best-is-shared b) ∙ e)) ∙ sym (by-mark e);
-        shared = λ b. cut b ∙ sym (by-mark (best-is-shared b));
+        stillCut = λ b. cut b ∙ sym (by-mark (best-is-shared b));
       }
     where
       gap : ℕ

@@ -1,11 +1,10 @@
 -- What holds of all classes holds of a type's best-ranked class, and the type names it.
-use mathlib.Core.Bool.{Bool, true, false, cond, _&&_}
+use mathlib.Core.Bool.{Bool, true, false, cond}
 use mathlib.Core.List.{List, [], _∷_}
 use mathlib.Core.Option.{some, Option·some-injective, Option·some-ne-none}
 use mathlib.Core.Path.{_≡_, refl, sym, subst}
-use lib.Dec.{ltb}
 use Rattle.model.specs.Content.{SpacingClass, Kind}
-use Rattle.model.specs.Gap.{names, better, bestFrom, bestRanked, bestClass}
+use Rattle.model.specs.Gap.{names, outranks, better, bestFrom, bestRanked, bestClass}
 use Rattle.model.specs.Lists.{all, keep}
 use Rattle.model.proofs.Lists.{and-left, and-right, and-both}
 
@@ -31,7 +30,7 @@ module _ (p : SpacingClass → Bool) where
   best-from : (c : SpacingClass) (cs : List SpacingClass) → p c ≡ true → all p cs ≡ true → p (bestFrom c cs) ≡ true
   unfolding all bestFrom better
   best-from c [] h e = h
-  best-from c (d ∷ cs) h e = go (ltb (d .rank) (c .rank)) (best-from c cs h (and-right (p d) _ e)) (best-from d cs (and-left _ _ e) (and-right (p d) _ e))
+  best-from c (d ∷ cs) h e = go (outranks d c) (best-from c cs h (and-right (p d) _ e)) (best-from d cs (and-left _ _ e) (and-right (p d) _ e))
     where
       go : (b : Bool) → p (bestFrom c cs) ≡ true → p (bestFrom d cs) ≡ true → p (bestFrom (cond b d c) cs) ≡ true
       go true a b = b

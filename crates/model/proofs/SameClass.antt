@@ -11,18 +11,18 @@ use borrow.Author.Tests.{lt-ltb, le-ltb}
 use Rattle.words.specs.Bits.{testBit}
 use Rattle.words.proofs.Cases.{le-or-lt}
 use Rattle.model.specs.Content.{SpacingClass, Kind}
-use Rattle.model.specs.Gap.{names, better, bestFrom, bestRanked, bestClass}
+use Rattle.model.specs.Gap.{names, outranks, better, bestFrom, bestRanked, bestClass}
 use Rattle.model.specs.Lists.{keep}
 use Rattle.model.proofs.Ranks.{best-named}
 
 -- ---- The best of a choice
 
 better-yes : (a x : SpacingClass) → x .rank < a .rank → better a x ≡ x
-unfolding better
+unfolding better outranks
 better-yes a x h = rw (lt-ltb (x .rank) (a .rank) h)
 
 better-no : (a x : SpacingClass) → a .rank ≤ x .rank → better a x ≡ a
-unfolding better
+unfolding better outranks
 better-no a x h = rw (le-ltb (x .rank) (a .rank) h)
 
 -- The best of the classes before, if there is one, and the classes.
@@ -42,7 +42,7 @@ module _ (h : SpacingClass → Bool) where
     without : {a : SpacingClass} → h a ≡ false → Beside a none
     behind : {a b : SpacingClass} → h a ≡ false → a .rank ≤ b .rank → Beside a (some b)
 
-  -- The chosen classes with one more, if it is chosen.
+  -- The best of the chosen classes and one more, if that is chosen.
   abbrev withChosen : Option SpacingClass → SpacingClass → Option SpacingClass
   withChosen o x = cond (h x) (some (withOne o x)) o
 

@@ -307,7 +307,7 @@ clampRefusals =
     ∷ (clamped 64 (runs star 1000000) ⇒ says (Refused 7) false (7 ∷ 7 ∷ 7 ∷ 7 ∷ []))
     ∷ []
 
--- Boards of document 02's third request. Gap byte 129 means gap 1 with the mark. Two squares that share a marked class nest as those in no class do: shortest 4, where
+-- Boards of document 02's third request. Gap byte 129 means gap 1 with the mark. Two squares in a marked class alone nest as those in no class do: shortest 4, where
 -- gap byte 1 gives 5 at L 5 and none at L 4.
 unfoldable pub cutRuns : List Marked
 cutRuns =
@@ -556,8 +556,8 @@ rankedCutConflicts =
     ∷ (checks (twoTypes (0 ∷ 1 ∷ 131 ∷ 2 ∷ 9 ∷ 129 ∷ []) 5 4 4) (0 ∷ 0 ∷ 0 ∷ 0 ∷ 1 ∷ 2 ∷ 0 ∷ 0 ∷ []) ⇒ finds (C.Refused 11))
     -- With the ranks exchanged marked class 2 is the best-ranked of both: they pass.
     ∷ (checks (twoTypes (0 ∷ 9 ∷ 3 ∷ 2 ∷ 1 ∷ 129 ∷ []) 5 4 4) (0 ∷ 0 ∷ 0 ∷ 0 ∷ 1 ∷ 2 ∷ 0 ∷ 0 ∷ []) ⇒ finds (C.Passes 4))
-    -- Two squares of one type in both classes, the marked one of worse rank, in either file order: the gap of the other, 1, at which (0,0) is in conflict with (1,0), number 12,
-    -- and (2,0), number 24. Then the marked one of better rank: no gap.
+    -- Two squares of one type in two classes, the marked one of worse rank, in either file order: the gap of the other, 1, at which (0,0) is in conflict with itself, with (1,0),
+    -- number 12, and with (2,0), number 24. Then the marked one of better rank: no gap.
     ∷ (rows (rankedSquares (0 ∷ 5 ∷ 1 ∷ 1 ∷ 9 ∷ 131 ∷ [])) 0 ⇒ shows (W.Count 2) (16781313 ∷ 0 ∷ []))
     ∷ (rows (rankedSquares (1 ∷ 9 ∷ 131 ∷ 0 ∷ 5 ∷ 1 ∷ [])) 0 ⇒ shows (W.Count 2) (16781313 ∷ 0 ∷ []))
     ∷ (rows (rankedSquares (0 ∷ 5 ∷ 129 ∷ 1 ∷ 9 ∷ 3 ∷ [])) 0 ⇒ shows (W.Count 2) (4097 ∷ 0 ∷ []))

@@ -12,9 +12,13 @@ use Rattle.model.specs.Lists.{keep}
 unfoldable pub names : Kind → SpacingClass → Bool
 names k c = testBit (k .classes) (c .id)
 
+-- Class c has the smaller rank number.
+unfoldable pub outranks : SpacingClass → SpacingClass → Bool
+outranks c d = ltb (c .rank) (d .rank)
+
 -- The class of smaller rank number.
 unfoldable pub better : SpacingClass → SpacingClass → SpacingClass
-better c d = cond (ltb (d .rank) (c .rank)) d c
+better c d = cond (outranks d c) d c
 
 -- The best-ranked of c and the classes.
 unfoldable pub bestFrom : SpacingClass → List SpacingClass → SpacingClass
@@ -45,7 +49,7 @@ sameMarked none d = false
 sameMarked (some c) none = false
 sameMarked (some c) (some d) = eqb (c .id) (d .id) && c .commonCut && d .commonCut
 
--- Document 02, "8/13": "both pieces have the same best-ranked class and it is marked". They share a common cut.
+-- Document 02, "8/13": "both pieces have the same best-ranked class and it is marked". Then they share a common cut.
 unfoldable pub shareCut : List SpacingClass → Kind → Kind → Bool
 shareCut cs k m = sameMarked (bestClass cs k) (bestClass cs m)
 

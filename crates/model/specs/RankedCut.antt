@@ -32,4 +32,4 @@ pub record RanksFirst (cs : List SpacingClass) (k m : Kind) : Type 0 where
   pub others : shareMarked cs k m ≡ true → (SameBest cs k m → ⊥) → (earlierGap cs k m ≡ 0) × (pairGap cs k m ≡ max (kindGap cs k) (kindGap cs m))
   -- "No other pair changes": neither those that share no marked class, nor those whose best-ranked class is the same and marked.
   pub unshared : shareMarked cs k m ≡ false → pairGap cs k m ≡ earlierGap cs k m
-  pub shared : SameBest cs k m → pairGap cs k m ≡ earlierGap cs k m
+  pub stillCut : SameBest cs k m → pairGap cs k m ≡ earlierGap cs k m

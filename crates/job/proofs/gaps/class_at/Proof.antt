@@ -1,4 +1,4 @@
-use mathlib.Core.Path.{ap, ap₂, _∙_}
+use mathlib.Core.Path.{ap, _∙_}
 use Rattle.model.specs.Format.{marksCut, gapMeant}
 use Rattle.job.specs.Gaps.{cutNumber, bestOf, bestAt}
 use borrow.Author.Needs.{needs}

@@ -37,12 +37,12 @@ loop-again : tie.Need-loop-again Inv-loop μ-loop
 loop-again c =
     let x = c .before .before .before .loop .x in
     let on = c .before .share-cut .result in
-    let meet : ℕ → Bool = λ y. sameCut (getD (c .before .before .before .before .args .view .cuts) (y / 8) 0) (getD (c .before .before .before .before .args .view .cuts) (y % 8) 0) in (
+    let same : ℕ → Bool = λ y. sameCut (getD (c .before .before .before .before .args .view .cuts) (y / 8) 0) (getD (c .before .before .before .before .args .view .cuts) (y % 8) 0) in (
       omega arith,
       c .assign-bit .ensures
           ∙ ap (assignedBit on (c .before .before .before .loop .shared)) (mod-eq-of-lt (omega arith))
           ∙ ap (λ (w : ℕ). assignedBit on w x) (c .before .before .before .loop .inv .1)
-          ∙ bitsWhere-next meet x on (c .before .share-cut .ensures),
+          ∙ bitsWhere-next same x on (c .before .share-cut .ensures),
     )
 
 returns : tie.Need-returns Inv-loop μ-loop
