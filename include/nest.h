@@ -64,10 +64,13 @@ extern "C" {
  * Part:                   number of corners (3 to 8), then x and y of each corner as signed bytes, -127 to
  *                         127, anticlockwise; every other corner lies strictly left of each edge.
  *
- * The gap of a type is that of its best-ranked class (smallest rank number), marked or not, and 0 if it names
- * none. The gap between two pieces is 0 if the best-ranked class of both is the same, as it is of two copies of
- * one type, and is marked as common cut; otherwise it is the larger of the two types' gaps. So a marked class
- * changes nothing for a type that names a better-ranked one. The order of the classes in a job changes no result.
+ * The gap of a type is that of its best-ranked class (smallest rank number), marked or not. A type that names no
+ * class takes the largest gap of the job's class list, whether a type names that class or not and whether it is
+ * marked or not, and 0 if the list is empty; a piece that may touch others is to be put in a class of gap 0.
+ * The gap between two pieces is 0 if the best-ranked class of both is the same, as it is of two copies of one
+ * type in a class, and is marked as common cut; otherwise it is the larger of the two types' gaps. So a marked
+ * class changes nothing for a type that names a better-ranked one, and types in no class share no common cut.
+ * The order of the classes in a job changes no result.
  *
  * Two pieces are in conflict if a part of one and a part of the other overlap. To touch is not to overlap, so
  * at gap 0 pieces may touch. At a gap h above 0 they are in conflict also if a corner of a part of one is nearer

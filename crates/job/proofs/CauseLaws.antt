@@ -29,10 +29,6 @@ ranks-are s o n =
     map-map (λ c. c .rank) (λ i. classFrom s (o + i * 3)) (below n)
     ∙ map-same (λ i. byteAt s (o + i * 3 + 1)) (entryAt s (o + 1)) (below n) (λ i. ap (byteAt s) (omega arith))
 
-pub ids-distinct : (s : List ℕ) → distinct (map (λ c. c .id) (classesOf s)) ≡ distinctColumn s (classesAt s) (classesStated s)
-unfolding distinctColumn
-ids-distinct s = ap (λ l. distinct (map (λ c. c .id) l)) (classes-are s) ∙ ap distinct (ids-are s (classesAt s) (classesStated s))
-
 pub classes-cause : (s : List ℕ) (o n : ℕ) → o ≡ classesAt s → n ≡ classesStated s → classesUnfit s o n ≡ cause5 s
 unfolding classesUnfit cause5 allInRange distinctColumn
 classes-cause s o n eo en = rw (classes-are s, ids-are s (classesAt s) (classesStated s), ranks-are s (classesAt s) (classesStated s), eo, en)

@@ -1,9 +1,9 @@
--- The best-ranked class, id by id, is the model's, where no id occurs twice; and two kinds share a common cut exactly where the numbers of their best-ranked classes say so.
+-- The best-ranked class, id by id, is the model's, where no id occurs twice; the largest gap is the model's, in whichever order the classes stand; and two kinds share a common cut exactly where the numbers of their best-ranked classes say so.
 use mathlib.Core.Bool.{Bool, true, false, not, cond, _&&_, and-true, and-false}
 use mathlib.Core.List.{List, [], _∷_, _++_, map}
 use mathlib.Core.Option.{Option, none, some}
 use mathlib.Core.Path.{_≡_, refl, sym, ap, ap₂, _∙_}
-use Prim.Native.Nat.{ℕ, zero, suc, _+_, _*_}
+use Prim.Native.Nat.{ℕ, zero, suc, _+_, _*_, max}
 use native.Mathlib.Numerals.{add-one}
 use native.Mathlib.Omega.{arith}
 use borrow.Author.Tests.{ltb-true, ne-eqb}
@@ -11,51 +11,57 @@ use lib.Dec.{eqb, ltb, eqb·suc-suc}
 use Rattle.words.specs.Bits.{testBit}
 use Rattle.model.specs.Content.{SpacingClass, Kind}
 use Rattle.model.specs.Format.{byteAt, marksCut, gapMeant, classFrom, byRisingId}
-use Rattle.model.specs.Gap.{names, outranks, better, bestFrom, bestRanked, gapOr0, bestClass, sameMarked, shareCut}
-use Rattle.model.specs.Lists.{keep, concat, rising, below}
-use Rattle.model.proofs.Folds.{keep-append}
-use Rattle.records.specs.Classes.{classesFrom, indexOf, distinctColumn}
+use Rattle.model.specs.Gap.{names, outranks, better, bestFrom, bestRanked, bestClass, largestGap, gapOr, sameMarked, shareCut}
+use Rattle.model.specs.Lists.{keep, concat, largest, rising, below}
+use Rattle.model.proofs.Folds.{map-append, keep-append, largest-more, map-below-more}
+use Rattle.model.proofs.Permuted.{map-permuted, largest-permuted}
+use Rattle.model.proofs.Saving.Kept.{risen-permuted}
+use Rattle.records.specs.Classes.{classesFrom, indexOf, allInRange, distinctColumn}
 use Rattle.job.specs.Gaps.{cutNumber, cutOr0, sameCut, bestOf, noBest, bestAt, offered, offeredId, bestBelow}
 use Rattle.job.specs.declared.gaps.Best.{Best}
 use Rattle.records.proofs.ClassLaws.{risen-more, found, found-is}
 
 -- ---- Classes offered one after the other
 
--- What is kept of a class, and of none.
-pub kept : Option SpacingClass → Best
-kept none = noBest
-kept (some c) = bestOf (c .rank) (c .gap) (cutNumber (c .commonCut) (c .id))
+-- What is kept of a class.
+abbrev keptOf : SpacingClass → Best
+keptOf c = bestOf (c .rank) (c .gap) (cutNumber (c .commonCut) (c .id))
+
+-- The same if there is one; of none, the default gap of a type in no class.
+pub kept : ℕ → Option SpacingClass → Best
+kept default none = noBest default
+kept default (some c) = keptOf c
 
 offers : Best → List SpacingClass → Best
 offers b [] = b
-offers b (c ∷ cs) = offers (offered b (kept (some c))) cs
+offers b (c ∷ cs) = offers (offered b (keptOf c)) cs
 
 offers-append : (b : Best) (xs ys : List SpacingClass) → offers b (xs ++ ys) ≡ offers (offers b xs) ys
 unfolding offers
 offers-append b [] ys = refl
-offers-append b (c ∷ xs) ys = offers-append (offered b (kept (some c))) xs ys
+offers-append b (c ∷ xs) ys = offers-append (offered b (keptOf c)) xs ys
 
-offers-best : (c : SpacingClass) (cs : List SpacingClass) → offers (kept (some c)) cs ≡ kept (some (bestFrom c cs))
-unfolding offers offered kept bestFrom better outranks
+offers-best : (c : SpacingClass) (cs : List SpacingClass) → offers (keptOf c) cs ≡ keptOf (bestFrom c cs)
+unfolding offers offered bestFrom better outranks
 offers-best c [] = refl
 offers-best c (d ∷ cs) = go (ltb (d .rank) (c .rank)) (offers-best c cs) (offers-best d cs)
   where
-    go : (b : Bool) → offers (kept (some c)) cs ≡ kept (some (bestFrom c cs)) → offers (kept (some d)) cs ≡ kept (some (bestFrom d cs))
-        → offers (cond b (kept (some d)) (kept (some c))) cs ≡ kept (some (bestFrom (cond b d c) cs))
+    go : (b : Bool) → offers (keptOf c) cs ≡ keptOf (bestFrom c cs) → offers (keptOf d) cs ≡ keptOf (bestFrom d cs)
+        → offers (cond b (keptOf d) (keptOf c)) cs ≡ keptOf (bestFrom (cond b d c) cs)
     go true p q = q
     go false p q = p
 
-offers-ranked : (cs : List SpacingClass) → offers noBest cs ≡ kept (bestRanked cs)
+offers-ranked : (default : ℕ) (cs : List SpacingClass) → offers (noBest default) cs ≡ kept default (bestRanked cs)
 unfolding offers offered kept bestRanked
-offers-ranked [] = refl
-offers-ranked (c ∷ cs) = offers-best c cs
+offers-ranked default [] = refl
+offers-ranked default (c ∷ cs) = offers-best c cs
 
 one-offered : (k : Kind) (b : Best) (c : SpacingClass)
-    → offers b (keep (names k) (c ∷ [])) ≡ cond (testBit (k .classes) (c .id)) (offered b (kept (some c))) b
+    → offers b (keep (names k) (c ∷ [])) ≡ cond (testBit (k .classes) (c .id)) (offered b (keptOf c)) b
 unfolding offers keep names
 one-offered k b c = go (testBit (k .classes) (c .id))
   where
-    go : (t : Bool) → offers b (cond t (c ∷ []) []) ≡ cond t (offered b (kept (some c))) b
+    go : (t : Bool) → offers b (cond t (c ∷ []) []) ≡ cond t (offered b (keptOf c)) b
     go true = refl
     go false = refl
 
@@ -63,7 +69,7 @@ module _ (s : List ℕ) (o n : ℕ) (k : Kind) (d : distinctColumn s o n ≡ tru
   -- One id more.
   offer-found : (i : ℕ) (b : Best) (t : Bool) → ltb (indexOf s o n i) n ≡ t
       → offers b (keep (names k) (cond t (classFrom s (o + indexOf s o n i * 3) ∷ []) [])) ≡ cond (t && testBit (k .classes) i) (offered b (bestAt s (o + indexOf s o n i * 3) i)) b
-  unfolding keep offers kept bestAt
+  unfolding keep offers bestAt
   offer-found i b true e =
       let x = o + indexOf s o n i * 3 in
       one-offered k b (classFrom s x)
@@ -81,31 +87,53 @@ module _ (s : List ℕ) (o n : ℕ) (k : Kind) (d : distinctColumn s o n ≡ tru
   risen-suc : (i : ℕ) → risen (suc i) ≡ risen i ++ keep (λ c. eqb (c .id) i) (classesFrom s o n)
   risen-suc i = ap risen (sym (add-one i)) ∙ risen-more (classesFrom s o n) i
 
-  offered-below : (i : ℕ) → bestBelow s o n (k .classes) i ≡ offers noBest (keep (names k) (risen i))
+  offered-below : (default i : ℕ) → bestBelow s o n default (k .classes) i ≡ offers (noBest default) (keep (names k) (risen i))
   unfolding bestBelow below rising concat keep offers
-  offered-below zero = refl
-  offered-below (suc i) =
-      ap (offeredId s o n (k .classes) i) (offered-below i)
-      ∙ sym (offer-one i (offers noBest (keep (names k) (risen i))))
-      ∙ sym (offers-append noBest (keep (names k) (risen i)) (keep (names k) (keep (λ c. eqb (c .id) i) (classesFrom s o n))))
-      ∙ ap (offers noBest) (sym (keep-append (names k) (risen i) (keep (λ c. eqb (c .id) i) (classesFrom s o n))))
-      ∙ ap (λ l. offers noBest (keep (names k) l)) (sym (risen-suc i))
+  offered-below default zero = refl
+  offered-below default (suc i) =
+      let before = noBest default in
+      ap (offeredId s o n (k .classes) i) (offered-below default i)
+      ∙ sym (offer-one i (offers before (keep (names k) (risen i))))
+      ∙ sym (offers-append before (keep (names k) (risen i)) (keep (names k) (keep (λ c. eqb (c .id) i) (classesFrom s o n))))
+      ∙ ap (offers before) (sym (keep-append (names k) (risen i) (keep (λ c. eqb (c .id) i) (classesFrom s o n))))
+      ∙ ap (λ l. offers before (keep (names k) l)) (sym (risen-suc i))
 
   -- What is kept is that of the kind's best-ranked class.
-  pub best-is : bestBelow s o n (k .classes) 8 ≡ kept (bestClass (byRisingId (classesFrom s o n)) k)
+  pub best-is : (default : ℕ) → bestBelow s o n default (k .classes) 8 ≡ kept default (bestClass (byRisingId (classesFrom s o n)) k)
   unfolding byRisingId bestClass
-  best-is = offered-below 8 ∙ offers-ranked (keep (names k) (risen 8))
+  best-is default = offered-below default 8 ∙ offers-ranked default (keep (names k) (risen 8))
 
 -- Its gap and its number.
-pub kept-gap : (b : Option SpacingClass) → kept b .gap ≡ gapOr0 b
-unfolding kept gapOr0
-kept-gap none = refl
-kept-gap (some c) = refl
+pub kept-gap : (default : ℕ) (b : Option SpacingClass) → kept default b .gap ≡ gapOr default b
+unfolding kept gapOr
+kept-gap default none = refl
+kept-gap default (some c) = refl
 
-pub kept-cut : (b : Option SpacingClass) → kept b .cut ≡ cutOr0 b
+pub kept-cut : (default : ℕ) (b : Option SpacingClass) → kept default b .cut ≡ cutOr0 b
 unfolding kept cutOr0
-kept-cut none = refl
-kept-cut (some c) = refl
+kept-cut default none = refl
+kept-cut default (some c) = refl
+
+-- ---- The largest gap
+
+pub largest-none : (s : List ℕ) (o : ℕ) → 0 ≡ largestGap (classesFrom s o 0)
+unfolding largestGap largest below rising
+largest-none s o = refl
+
+-- One class more.
+pub largest-next : (s : List ℕ) (o i m r : ℕ) → m ≡ largestGap (classesFrom s o i) → r ≡ max m (gapMeant (byteAt s (o + i * 3 + 2)))
+    → r ≡ largestGap (classesFrom s o (i + 1))
+unfolding largestGap
+largest-next s o i m r e q =
+    q ∙ ap (λ m. max m (gapMeant (byteAt s (o + i * 3 + 2)))) e
+    ∙ sym (ap (λ cs. largest (map (λ c. c .gap) cs)) (map-below-more (λ i. classFrom s (o + i * 3)) i)
+    ∙ ap largest (map-append (λ c. c .gap) (classesFrom s o i) (classFrom s (o + i * 3) ∷ []))
+    ∙ largest-more (map (λ c. c .gap) (classesFrom s o i)) (gapMeant (byteAt s (o + i * 3 + 2))))
+
+-- In the order of the file it is the largest by rising id.
+pub largest-risen : (s : List ℕ) (o n : ℕ) → allInRange s o n ≡ true → largestGap (classesFrom s o n) ≡ largestGap (byRisingId (classesFrom s o n))
+unfolding largestGap allInRange
+largest-risen s o n e = largest-permuted (map-permuted (λ c. c .gap) (risen-permuted (classesFrom s o n) e))
 
 -- ---- One id in the code
 
@@ -122,13 +150,13 @@ module _ (s : List ℕ) (o n mask id : ℕ) (b : Best) (j : ℕ) (t : Bool) wher
       let e′ : (ltb (indexOf s o n id) n && testBit mask id) ≡ false = rw (ej, et) at e in
       rw e′
 
-pub best-more : (s : List ℕ) (o n mask i : ℕ) → bestBelow s o n mask (i + 1) ≡ offeredId s o n mask i (bestBelow s o n mask i)
+pub best-more : (s : List ℕ) (o n default mask i : ℕ) → bestBelow s o n default mask (i + 1) ≡ offeredId s o n mask i (bestBelow s o n default mask i)
 unfolding bestBelow
-best-more s o n mask i = ap (bestBelow s o n mask) (add-one i)
+best-more s o n default mask i = ap (bestBelow s o n default mask) (add-one i)
 
-pub best-none : (s : List ℕ) (o n mask : ℕ) → noBest ≡ bestBelow s o n mask 0
+pub best-none : (s : List ℕ) (o n default mask : ℕ) → noBest default ≡ bestBelow s o n default mask 0
 unfolding bestBelow
-best-none s o n mask = refl
+best-none s o n default mask = refl
 
 -- ---- Two kinds
 

@@ -1,5 +1,5 @@
 -- Laws of the loop that fills the tables of an accepted job's type records.
-use mathlib.Core.Bool.{true}
+use mathlib.Core.Bool.{false}
 use mathlib.Core.List.{List, [], _∷_, _++_, map}
 use mathlib.Core.Path.{_≡_, sym, ap, ap₂, subst, _∙_}
 use Prim.Native.Nat.{ℕ, _+_, _*_, _<_}
@@ -8,12 +8,12 @@ use lib.ListN.{length, getD, drop, set, length-set}
 use lib.Seq.{getD-set-same, getD-set-other}
 use Rattle.model.specs.Content.{SpacingClass, Kind, noKind}
 use Rattle.model.specs.Format.{byteAt, many, readPart, readKind, byRisingId}
-use Rattle.model.specs.Gap.{bestClass, kindGap}
+use Rattle.model.specs.Gap.{bestClass, largestGap, kindGap}
 use Rattle.model.specs.Lists.{sum}
 use Rattle.model.proofs.Folds.{sum-more, map-append}
 use Rattle.model.proofs.Readers.{many-length}
 use Rattle.model.proofs.Records.{byte-first, byte-behind}
-use Rattle.records.specs.Classes.{classesFrom, distinctColumn}
+use Rattle.records.specs.Classes.{classesFrom, classesUnfit}
 use Rattle.job.specs.Gaps.{bestBelow}
 use Rattle.job.specs.Places.{FoundAt, Placed}
 use Rattle.records.specs.Records.{sizeOf, valuesOf, Reads}
@@ -21,10 +21,11 @@ use Rattle.job.specs.Table.{HeadIn, Stored, Built}
 use Rattle.job.specs.declared.gaps.Best.{Best}
 use Rattle.job.specs.declared.table.Head.{Head}
 use Rattle.job.specs.declared.table.Table.{Table}
-use Rattle.job.proofs.GapLaws.{kept, best-is, kept-gap, kept-cut}
+use Rattle.job.proofs.GapLaws.{kept, best-is, kept-gap, kept-cut, largest-risen}
 use Rattle.job.proofs.PlaceLaws.{at-more}
 use Rattle.records.proofs.NextLaws.{nextKind, kind-next, kind-values, kind-parts, kind-ends}
 use Rattle.records.proofs.RecordLaws.{reads-none, values-none, values-from, size-is}
+use Rattle.records.proofs.RisingLaws.{ranged, ids-distinct}
 
 -- The tables after entry t was written.
 abbrev pub entered : Table → ℕ → ℕ → ℕ → ℕ → ℕ → ℕ → ℕ → List ℕ → Table
@@ -100,7 +101,7 @@ module _ (cs : List SpacingClass) (list : List ℕ) (base kinds size : ℕ) (w :
   pub built-more : (t here : ℕ) (table : Table) (pa : List ℕ) (head : Head) (best : Best) (end : ℕ) → t < kinds → Sized t table
       → Built cs list base t here table
       → HeadIn list here head
-      → ((k : Kind) → k .classes ≡ byteAt list (here + 2) → best ≡ kept (bestClass (byRisingId cs) k))
+      → ((k : Kind) → k .classes ≡ byteAt list (here + 2) → best ≡ kept (largestGap (byRisingId cs)) (bestClass (byRisingId cs) k))
       → Placed list (here + 4) (head .parts) base (t * 6) (table .«part_at») pa
       → end ≡ here + 4 + sizeOf (many readPart (head .parts) (drop (here + 4) list))
       → Built cs list base (t + 1) end (entered table (table .pieces + head .demand) t (head .demand) (head .rotations) (best .gap) (best .cut) (head .parts) pa)
@@ -110,7 +111,7 @@ module _ (cs : List SpacingClass) (list : List ℕ) (base kinds size : ℕ) (w :
       let f = kind-next list kinds size t here w h (b .reads) in
       let more : valuesOf (many readKind (t + 1) list) ≡ valuesOf (many readKind t list) ++ (k ∷ []) = kind-values list kinds size t here w h (b .reads) in
       let kd : k .demand ≡ head .demand = f .demand ∙ byte-first list here ∙ sym (hi .demand) in
-      let kb : best ≡ kept (bestClass (byRisingId cs) k) = eb k (f .classes ∙ byte-behind list here 2) in
+      let kb : best ≡ kept (largestGap (byRisingId cs)) (bestClass (byRisingId cs) k) = eb k (f .classes ∙ byte-behind list here 2) in
       let kp : length (k .parts) ≡ head .parts = f .partCount ∙ byte-behind list here 3 ∙ sym (hi .parts) in
       let vs : valuesOf (many readPart (head .parts) (drop (here + 4) list)) ≡ k .parts = values-from _ _ _ (kind-parts list kinds size t here w h (b .reads) (head .parts) (hi .parts)) in
       record {
@@ -127,8 +128,8 @@ module _ (cs : List SpacingClass) (list : List ℕ) (base kinds size : ℕ) (w :
             (record {
               demand = getD-set-same (table .demands) t (head .demand) 0 (l .demands) ∙ sym kd;
               rotations = getD-set-same (table .rotations) t (head .rotations) 0 (l .rotations) ∙ hi .rotations ∙ sym (f .rotations ∙ byte-behind list here 1);
-              gap = getD-set-same (table .gaps) t (best .gap) 0 (l .gaps) ∙ ap (λ b. b .gap) kb ∙ kept-gap _;
-              cut = getD-set-same (table .cuts) t (best .cut) 0 (l .cuts) ∙ ap (λ b. b .cut) kb ∙ kept-cut _;
+              gap = getD-set-same (table .gaps) t (best .gap) 0 (l .gaps) ∙ ap (λ b. b .gap) kb ∙ kept-gap (largestGap (byRisingId cs)) _;
+              cut = getD-set-same (table .cuts) t (best .cut) 0 (l .cuts) ∙ ap (λ b. b .cut) kb ∙ kept-cut (largestGap (byRisingId cs)) _;
               parts = getD-set-same (table .parts) t (head .parts) 0 (l .parts) ∙ sym kp;
               fewParts = let z = f .partsMost in let y = f .partCount in omega arith;
               part = λ i q. subst (λ ps. FoundAt list base (getD pa (t * 6 + i) 0) (getD ps i [])) vs (pl .found i (omega arith));
@@ -143,6 +144,9 @@ module _ (cs : List SpacingClass) (list : List ℕ) (base kinds size : ℕ) (w :
       subst (λ m. Built cs list base kinds m table) z q
 
 -- The best-ranked class that was found for a mask is that of each kind with this mask.
-pub best-of : (s list : List ℕ) (o n here mask : ℕ) (best : Best) → distinctColumn s o n ≡ true → best ≡ bestBelow s o n mask 8 → mask ≡ byteAt list (here + 2)
-    → (k : Kind) → k .classes ≡ byteAt list (here + 2) → best ≡ kept (bestClass (byRisingId (classesFrom s o n)) k)
-best-of s list o n here mask best d e m k q = e ∙ ap (λ x. bestBelow s o n x 8) (m ∙ sym q) ∙ best-is s o n k d
+pub best-of : (s list : List ℕ) (o n here default mask : ℕ) (best : Best) → classesUnfit s o n ≡ false → default ≡ largestGap (classesFrom s o n)
+    → best ≡ bestBelow s o n default mask 8 → mask ≡ byteAt list (here + 2)
+    → (k : Kind) → k .classes ≡ byteAt list (here + 2)
+    → best ≡ kept (largestGap (byRisingId (classesFrom s o n))) (bestClass (byRisingId (classesFrom s o n)) k)
+best-of s list o n here default mask best fit l e m k q =
+    e ∙ ap₂ (λ d x. bestBelow s o n d x 8) (l ∙ largest-risen s o n (ranged s o n fit)) (m ∙ sym q) ∙ best-is s o n k (ids-distinct s o n fit) _

@@ -12,13 +12,13 @@ use Rattle.model.specs.Format.{byteAt, wordAt, boardAt, got, many, readKind, ve
 use Rattle.model.specs.Gap.{bestClass, kindGap}
 use Rattle.model.specs.Lists.{any, sum}
 use Rattle.model.specs.Grid.{rows, columns}
-use Rattle.model.proofs.Causes.{no-cause, NoCause, none-before, refusal-is, Sections, sections, board-fits, classes-distinct, KindsFit, kinds-fit}
+use Rattle.model.proofs.Causes.{no-cause, NoCause, none-before, refusal-is, Sections, sections, board-fits, KindsFit, kinds-fit}
 use Rattle.model.proofs.Folds.{any-take-more}
 use Rattle.model.proofs.Readers.{many-length}
 use Rattle.model.proofs.Records.{byte-behind, length-vertices, vertices-same, part-read}
 use Rattle.frame.specs.Board.{BoardIn}
 use Rattle.frame.specs.declared.board.Board.{Board}
-use Rattle.records.specs.Classes.{classesFrom, distinctColumn, classesUnfit}
+use Rattle.records.specs.Classes.{classesFrom, classesUnfit}
 use Rattle.job.specs.Gaps.{cutOr0}
 use Rattle.job.specs.Places.{FoundAt}
 use Rattle.records.specs.Records.{Reads, valuesOf}
@@ -30,7 +30,7 @@ use Rattle.job.specs.declared.table.Table.{Table}
 use Rattle.job.specs.View.{PartAt, ViewOf}
 use Rattle.records.specs.Parts.{unfitFrom}
 use Rattle.records.proofs.PartLaws.{unfit-same}
-use Rattle.job.proofs.CauseLaws.{classes-are, ids-distinct, classes-cause, list-is, list-length}
+use Rattle.job.proofs.CauseLaws.{classes-are, classes-cause, list-is, list-length}
 use Rattle.records.proofs.RecordLaws.{tail, reads-from, values-from}
 
 -- A byte of the type list is one of the job.
@@ -136,9 +136,6 @@ module _ (s : List ℕ) (e : refusalTo6 s ≡ 0) where
 
   pub kinds-in : KindsFit s
   kinds-in = kinds-fit s (no-six s e .no6)
-
-  pub ids-in : (o n : ℕ) → o ≡ classesAt s → n ≡ classesStated s → distinctColumn s o n ≡ true
-  ids-in o n eo en = ap₂ (distinctColumn s) eo en ∙ sym (ids-distinct s) ∙ classes-distinct s (no-six s e .no5)
 
   pub classes-in : (o n : ℕ) → o ≡ classesAt s → n ≡ classesStated s → classesUnfit s o n ≡ false
   classes-in o n eo en = classes-cause s o n eo en ∙ no-six s e .no5

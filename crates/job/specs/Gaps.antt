@@ -26,8 +26,9 @@ sameCut a b = not (eqb a 0) && eqb a b
 abbrev pub bestOf : ℕ → ℕ → ℕ → Best
 bestOf r g n = record { found = true; rank = r; gap = g; cut = n }
 
-abbrev pub noBest : Best
-noBest = record { found = false; rank = 0; gap = 0; cut = 0 }
+-- None so far: the gap is that of a type in no class.
+abbrev pub noBest : ℕ → Best
+noBest default = record { found = false; rank = 0; gap = default; cut = 0 }
 
 -- The class of this id, whose record stands at byte o, as the best so far.
 unfoldable pub bestAt : List ℕ → ℕ → ℕ → Best
@@ -42,6 +43,6 @@ unfoldable pub offeredId : List ℕ → ℕ → ℕ → ℕ → ℕ → Best →
 offeredId s o n mask id b = cond (ltb (indexOf s o n id) n && testBit mask id) (offered b (bestAt s (o + indexOf s o n id * 3) id)) b
 
 -- The best-ranked of the classes with an id below i.
-unfoldable pub bestBelow : List ℕ → ℕ → ℕ → ℕ → ℕ → Best
-bestBelow s o n mask zero = noBest
-bestBelow s o n mask (suc i) = offeredId s o n mask i (bestBelow s o n mask i)
+unfoldable pub bestBelow : List ℕ → ℕ → ℕ → ℕ → ℕ → ℕ → Best
+bestBelow s o n default mask zero = noBest default
+bestBelow s o n default mask (suc i) = offeredId s o n mask i (bestBelow s o n default mask i)

@@ -1,14 +1,18 @@
-// What the gap of a pair turns on: the best-ranked class of a type, which is the one with the smallest rank number.
+// What the gap of a pair turns on: the best-ranked class of a type, which is the one with the smallest rank number; and the gap of a type in no class, which is
+// the largest of the class list.
 use frame::fields;
+use frame::sections;
 use records::classes;
 use records::kinds;
 ghost use mathlib.Core.Path.{_≡_};
 ghost use Prim.Native.Nat.{_+_, _*_, _≤_, _<_};
 ghost use lib.ListN.{length};
+ghost use Rattle.model.specs.Gap.{largestGap};
+ghost use Rattle.records.specs.Classes.{classesFrom};
 ghost use Rattle.job.specs.Gaps.{cutNumber, bestAt, offered, offeredId, bestBelow};
 
-// The best-ranked class so far, if there is one: its rank, its gap, and its number if it is marked as common cut. Its gap and number
-// are 0 as long as there is none.
+// The best-ranked class so far, if there is one: its rank, its gap, and its number if it is marked as common cut. As long as there is none, the gap is
+// that of a type in no class, and the number is 0.
 pub struct Best {
     pub found: bool,
     pub rank: usize,
@@ -60,15 +64,15 @@ fn offer_id(job: &[u8], at: usize, n: usize, mask: usize, id: usize, best: Best)
     best
 }
 
-// The best-ranked class of a type with this class mask, of the n classes from byte `at` on.
-pub fn best_class(job: &[u8], at: usize, n: usize, mask: usize) -> Best
+// The best-ranked class of a type with this class mask, of the n classes from byte `at` on; a type in no class has the default gap.
+pub fn best_class(job: &[u8], at: usize, n: usize, default: usize, mask: usize) -> Best
     requires { ⌜ (n < 256) × (at + n * 3 ≤ length (now job)) ⌝ }
-    ensures { λ r. ⌜ r ≡ bestBelow (now (job .entry)) at n mask 8 ⌝ }
+    ensures { λ r. ⌜ r ≡ bestBelow (now (job .entry)) at n default mask 8 ⌝ }
 {
     let mut best = Best {
         found: false,
         rank: 0,
-        gap: 0,
+        gap: default,
         cut: 0,
     };
     let mut id = 0;
@@ -77,4 +81,19 @@ pub fn best_class(job: &[u8], at: usize, n: usize, mask: usize) -> Best
         id += 1;
     }
     best
+}
+
+// The largest gap of the n classes from byte `at` on, and 0 if there is none.
+pub fn largest_gap(job: &[u8], at: usize, n: usize) -> usize
+    requires { ⌜ (n < 256) × (at + n * 3 ≤ length (now job)) ⌝ }
+    ensures { λ r. ⌜ r ≡ largestGap (classesFrom (now (job .entry)) at n) ⌝ }
+{
+    let mut largest = 0;
+    let mut i = 0;
+    while i < n {
+        let gap = classes::gap_meant(fields::byte(job, at + i * 3 + 2));
+        largest = sections::larger(largest, gap);
+        i += 1;
+    }
+    largest
 }

@@ -2,12 +2,12 @@
 use crate::gaps;
 use crate::places;
 use frame::fields;
-ghost use mathlib.Core.Bool.{true};
+ghost use mathlib.Core.Bool.{false};
 ghost use mathlib.Core.Path.{_≡_};
 ghost use Prim.Native.Nat.{_+_, _*_, _≤_, _<_};
 ghost use lib.ListN.{length};
 ghost use Rattle.model.specs.Format.{many, readKind};
-ghost use Rattle.records.specs.Classes.{classesFrom, distinctColumn};
+ghost use Rattle.records.specs.Classes.{classesFrom, classesUnfit};
 ghost use Rattle.records.specs.Records.{Reads};
 ghost use Rattle.job.specs.Table.{HeadIn, Built};
 
@@ -43,7 +43,7 @@ fn read_head(list: &[u8], here: usize) -> Head
 
 // The tables of the type records in `list`, a piece of the job that begins at byte `base`; n classes stand from byte `at` on.
 pub fn read_kinds(job: &[u8], at: usize, n: usize, list: &[u8], base: usize, kinds: usize) -> Table
-    requires { ⌜ ((n < 256) × (at + n * 3 ≤ length (now job)) × (kinds ≤ 8) × (base + length (now list) ≤ 65536)) × (Reads (many readKind kinds (now list)) (length (now list)) × (distinctColumn (now job) at n ≡ true)) ⌝ }
+    requires { ⌜ ((n < 256) × (at + n * 3 ≤ length (now job)) × (kinds ≤ 8) × (base + length (now list) ≤ 65536)) × (Reads (many readKind kinds (now list)) (length (now list)) × (classesUnfit (now job) at n ≡ false)) ⌝ }
     ensures { λ r. ⌜ Built (classesFrom (now (job .entry)) at n) (now (list .entry)) base kinds (length (now (list .entry))) r ⌝ }
 {
     let mut table = Table {
@@ -55,13 +55,14 @@ pub fn read_kinds(job: &[u8], at: usize, n: usize, list: &[u8], base: usize, kin
         parts: [0usize; 8],
         part_at: [0usize; 48],
     };
+    let default = gaps::largest_gap(job, at, n);
     let mut here = 0;
     let mut t = 0;
     while t < kinds {
         let head = read_head(list, here);
         table.demands[t] = head.demand;
         table.rotations[t] = head.rotations;
-        let best = gaps::best_class(job, at, n, head.classes);
+        let best = gaps::best_class(job, at, n, default, head.classes);
         table.gaps[t] = best.gap;
         table.cuts[t] = best.cut;
         table.parts[t] = head.parts;

@@ -4,7 +4,6 @@ use mathlib.Core.List.{List, [], _∷_, _++_, map}
 use mathlib.Core.Path.{_≡_, refl, sym, ap, ap₂, subst, _∙_}
 use mathlib.Core.Logic.{⊎-elim}
 use Prim.Native.Nat.{ℕ, _+_, _*_, _≤_, _<_, max}
-use native.Mathlib.Nat.{max-comm}
 use native.Mathlib.Omega.{arith}
 use borrow.Author.Tests.{ltb-true, lt-ltb, le-ltb}
 use lib.Dec.{ltb}
@@ -21,7 +20,7 @@ use Rattle.model.specs.Candidate.{natural}
 use Rattle.model.specs.Layout.{Entry, Layout, noEntry}
 use Rattle.model.specs.Lists.{all, largest, rising, below}
 use Rattle.model.specs.Services.{entryIn}
-use Rattle.model.proofs.Folds.{map-append}
+use Rattle.model.proofs.Folds.{map-append, largest-more}
 use Rattle.model.proofs.Lists.{and-left, and-right, not-both, all-at, length-below, getD-map-below}
 use Rattle.job.specs.declared.View.{View}
 use Rattle.shapes.specs.Boxes.{boxAt}
@@ -89,11 +88,6 @@ entries-at p s n i e h =
 
 -- ---- the largest
 
-largest-last : (ns : List ℕ) (n : ℕ) → largest (ns ++ (n ∷ [])) ≡ max (largest ns) n
-unfolding largest
-largest-last [] n = max-comm n 0
-largest-last (m ∷ ns) n = ap (max m) (largest-last ns n) ∙ omega arith
-
 pub largest-none : (f : Entry → ℕ) (s : List ℕ) → 0 ≡ largest (map f (entriesIn s 0))
 unfolding largest entriesIn below rising
 largest-none f s = refl
@@ -102,4 +96,4 @@ pub largest-next : (f : Entry → ℕ) (s : List ℕ) (i m k r : ℕ) → m ≡ 
     → r ≡ largest (map f (entriesIn s (i + 1)))
 largest-next f s i m k r e g q =
     q ∙ ap₂ max e g
-    ∙ sym (ap (λ (es : Layout). largest (map f es)) (entries-more s i) ∙ ap largest (map-append f (entriesIn s i) (entryIn s i ∷ [])) ∙ largest-last (map f (entriesIn s i)) (f (entryIn s i)))
+    ∙ sym (ap (λ (es : Layout). largest (map f es)) (entries-more s i) ∙ ap largest (map-append f (entriesIn s i) (entryIn s i ∷ [])) ∙ largest-more (map f (entriesIn s i)) (f (entryIn s i)))

@@ -2,7 +2,7 @@
 use mathlib.Core.List.{List, map}
 use mathlib.Core.Path.{_≡_, refl}
 use Prim.Native.Nat.{ℕ}
-use Rattle.model.specs.Boards.{Marked, answerUnder, answerTo, boards, furtherBoards, clampRuns, clampRows, clampChecks, clampRefusals, cutRuns, cutConflicts, cutBytes, cutReads, savedJobs, roundConflicts, roundServices, carriedAtOnce, carriedOne, carriedCounts, carriedRuns, carriedKept, carriedClamped, carriedRefusals, rankedCutRuns, rankedCutConflicts, ranFrom, numbersOf, saidBy, shownBy, toldBy, savedBy, scattered, scatteredSaved, printedSaved, square, squareAt, slanting, tipUp, tipDown, largeSquare, slantingJob, plates, jobOn, jobOf, squareOf, squareType, squares, oneSquare, gapSquares, printedJob, printedText, triangles, strips, bar, rankedSquares, twoTypes, leftCorner, star, squareTwice}
+use Rattle.model.specs.Boards.{Marked, answerUnder, answerTo, boards, furtherBoards, clampRuns, clampRows, clampChecks, clampRefusals, cutRuns, cutConflicts, cutBytes, cutReads, savedJobs, roundConflicts, roundServices, carriedAtOnce, carriedOne, carriedCounts, carriedRuns, carriedKept, carriedClamped, carriedRefusals, rankedCutRuns, rankedCutConflicts, noClassRuns, noClassConflicts, threeGaps, ranFrom, numbersOf, saidBy, shownBy, toldBy, savedBy, scattered, scatteredSaved, printedSaved, square, squareAt, slanting, tipUp, tipDown, largeSquare, slantingJob, plates, jobOn, jobOf, squareOf, squareType, squares, oneSquare, gapSquares, printedJob, printedText, triangles, strips, bar, rankedSquares, twoTypes, leftCorner, star, squareTwice}
 use Rattle.model.specs.Opened.{opened}
 
 -- Every question of the table has its expected answer.
@@ -10,7 +10,7 @@ abbrev pub Hold : List Marked → Type 0
 Hold table = map (λ m. answerTo (m .question)) table ≡ map (λ m. m .expected) table
 
 unfoldable openedBoards : ℕ
-unfolding opened boards furtherBoards clampRuns clampRows clampChecks clampRefusals cutRuns cutConflicts cutBytes cutReads savedJobs roundConflicts roundServices carriedAtOnce carriedOne carriedCounts carriedRuns carriedKept carriedClamped carriedRefusals rankedCutRuns rankedCutConflicts ranFrom scattered scatteredSaved printedSaved answerUnder answerTo numbersOf saidBy shownBy toldBy savedBy square squareAt slanting tipUp tipDown largeSquare slantingJob plates jobOn jobOf squareOf squareType squares oneSquare gapSquares printedJob printedText triangles strips bar rankedSquares twoTypes leftCorner star squareTwice
+unfolding opened boards furtherBoards clampRuns clampRows clampChecks clampRefusals cutRuns cutConflicts cutBytes cutReads savedJobs roundConflicts roundServices carriedAtOnce carriedOne carriedCounts carriedRuns carriedKept carriedClamped carriedRefusals rankedCutRuns rankedCutConflicts noClassRuns noClassConflicts threeGaps ranFrom scattered scatteredSaved printedSaved answerUnder answerTo numbersOf saidBy shownBy toldBy savedBy square squareAt slanting tipUp tipDown largeSquare slantingJob plates jobOn jobOf squareOf squareType squares oneSquare gapSquares printedJob printedText triangles strips bar rankedSquares twoTypes leftCorner star squareTwice
 openedBoards = 0
 
 -- The paper prints the bytes of one job; the others are put together the same way.
@@ -111,3 +111,12 @@ ranked-cut-conflicts = refl
 pub ranked-cut-runs : Hold rankedCutRuns
 unfolding openedBoards
 ranked-cut-runs = refl
+
+-- The boards of document 02's ninth request.
+pub no-class-conflicts : Hold noClassConflicts
+unfolding openedBoards
+no-class-conflicts = refl
+
+pub no-class-runs : Hold noClassRuns
+unfolding openedBoards
+no-class-runs = refl

@@ -1,4 +1,4 @@
--- Document 02, "3/13 Common cut": which gap bytes are refused; the gap of a pair, as "8/13" has it; that a job without a marked class has document 01's gaps.
+-- Document 02, "3/13 Common cut": which gap bytes are refused; the gap of a pair, as "8/13" has it; that without a marked class it is document 01's, the larger of its types' two.
 use mathlib.Core.Bool.{Bool, true, false, not, cond, _&&_, and-assoc, and-comm, and-false}
 use mathlib.Core.List.{List, [], _∷_, map}
 use mathlib.Core.Logic.{_⊎_, inl, inr, ⊎-elim, _↔_}
@@ -85,7 +85,7 @@ pub pairGap-symmetric : (cs : List SpacingClass) (k m : Kind) → pairGap cs k m
 unfolding pairGap shareCut
 pairGap-symmetric cs k m = ap₂ (λ t g. cond t 0 g) (sameMarked-symmetric (bestClass cs k) (bestClass cs m)) (max-comm (kindGap cs k) (kindGap cs m))
 
--- It is never larger than document 01's.
+-- It is never larger than the larger of the two.
 pub pairGap-most : (cs : List SpacingClass) (k m : Kind) → pairGap cs k m ≤ max (kindGap cs k) (kindGap cs m)
 unfolding pairGap
 pairGap-most cs k m = go (shareCut cs k m)

@@ -2,13 +2,13 @@
 use mathlib.Core.Bool.{Bool, true, false, cond, _&&_, _||_, and-assoc, or-assoc, and-true, or-false}
 use mathlib.Core.List.{List, [], _∷_, _++_, map, append-assoc, append-nil}
 use mathlib.Core.Path.{_≡_, refl, sym, ap, ap₂, _∙_}
-use Prim.Native.Nat.{ℕ, zero, suc, _+_, _-_, _<_, _≤_}
-use native.Mathlib.Nat.{not-suc-le-zero, le-of-suc-le-suc, add-zero, add-suc, suc-add, zero-add, add-assoc}
+use Prim.Native.Nat.{ℕ, zero, suc, _+_, _-_, _<_, _≤_, max}
+use native.Mathlib.Nat.{not-suc-le-zero, le-of-suc-le-suc, add-zero, add-suc, suc-add, zero-add, add-assoc, max-comm}
 use native.Mathlib.Numerals.{add-one}
 use native.Mathlib.Omega.{arith}
 use lib.ListN.{length, getD, take}
 use lib.Seq.{take-suc}
-use Rattle.model.specs.Lists.{all, any, keep, concat, sum, rising, below}
+use Rattle.model.specs.Lists.{all, any, keep, concat, sum, largest, rising, below}
 
 pub map-append : {A B : Type 0} (f : A → B) (xs ys : List A) → map f (xs ++ ys) ≡ map f xs ++ map f ys
 map-append f [] ys = refl
@@ -96,6 +96,11 @@ sum-append (n ∷ ns) ms = rw (sum-append ns ms) (sym (add-assoc n (sum ns) (sum
 pub sum-more : (ns : List ℕ) (n : ℕ) → sum (ns ++ (n ∷ [])) ≡ sum ns + n
 unfolding sum
 sum-more ns n = sum-append ns (n ∷ []) ∙ ap (λ m. sum ns + m) (add-zero n)
+
+pub largest-more : (ns : List ℕ) (n : ℕ) → largest (ns ++ (n ∷ [])) ≡ max (largest ns) n
+unfolding largest
+largest-more [] n = max-comm n 0
+largest-more (m ∷ ns) n = ap (max m) (largest-more ns n) ∙ omega arith
 
 -- ---- Rising numbers
 

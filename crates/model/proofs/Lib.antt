@@ -26,8 +26,6 @@ pub mod Refusals
 pub mod Margin
 pub mod Ranks
 pub mod CommonCut
-pub mod SameClass
-pub mod RankedCut
 pub mod Turning
 pub mod Saving
 pub mod Program

@@ -2,12 +2,13 @@
 use mathlib.Core.Bool.{Bool, true, false, not, cond, _&&_, _||_, and-assoc, and-comm, or-assoc, or-comm}
 use mathlib.Core.List.{List, [], _∷_, map}
 use mathlib.Core.Path.{_≡_, refl, sym, ap, _∙_}
-use Prim.Native.Nat.{ℕ}
+use Prim.Native.Nat.{ℕ, max}
+use native.Mathlib.Omega.{arith}
 use borrow.Author.Tests.{eqb-true, eq-eqb, eqb-false, ne-eqb, not-true}
 use lib.Dec.{eqb}
 use Rattle.model.specs.ClassOrder.{Permuted, end, behind, change, chain}
 use Rattle.model.specs.Format.{distinct}
-use Rattle.model.specs.Lists.{all, any, keep}
+use Rattle.model.specs.Lists.{all, any, keep, largest}
 use Rattle.model.proofs.Lists.{and-left, and-right, not-both, or-left}
 
 -- The first of two tests changes places with the second, before a third.
@@ -43,6 +44,14 @@ module _ {A : Type 0} where
   map-permuted f (behind r) = behind (map-permuted f r)
   map-permuted f change = change
   map-permuted f (chain r q) = chain (map-permuted f r) (map-permuted f q)
+
+-- The largest of the numbers.
+pub largest-permuted : {ms ns : List ℕ} → Permuted ms ns → largest ms ≡ largest ns
+unfolding largest
+largest-permuted end = refl
+largest-permuted (behind {x = x} r) = ap (max x) (largest-permuted r)
+largest-permuted (change {x = x} {y = y} {xs = xs}) = omega arith
+largest-permuted (chain r q) = largest-permuted r ∙ largest-permuted q
 
 -- Equality of numbers is tested either way round.
 pub eqb-comm : (a b : ℕ) → eqb a b ≡ eqb b a

@@ -16,40 +16,43 @@ use Rattle.model.specs.declared.Written.the-variants as W
 use Rattle.model.proofs.Lists.{by-cond}
 use Rattle.model.proofs.Margin.{accepted-under}
 
-module _ (s t : List ℕ) (same-refusal : refusal s ≡ refusal t) (same-content : refusal s ≡ 0 → content s ≡ content t) where
-  -- Under a margin, too, both are refused by the same number.
-  under-same : (m : ℕ) → refusalUnder m s ≡ refusalUnder m t
-  unfolding refusalUnder
-  under-same m = ap {B = ℕ} (λ n. elim (eqb n 0) [
-    | false ↦ n
-    | true ↦ cond (cause13 m) 13 0
-  ]) same-refusal
+-- Under a margin, too, both are refused by the same number.
+pub under-same : (s t : List ℕ) → refusal s ≡ refusal t → (m : ℕ) → refusalUnder m s ≡ refusalUnder m t
+unfolding refusalUnder
+under-same s t e m = ap {B = ℕ} (λ n. elim (eqb n 0) [
+  | false ↦ n
+  | true ↦ cond (cause13 m) 13 0
+]) e
 
-  -- What is made of the number of a refusal and, where it is 0, of the content is the same for both.
-  alike : {A : Type 0} (number : List ℕ → ℕ) → number s ≡ number t → (number s ≡ 0 → refusal s ≡ 0) → (refused : ℕ → A) (accepted : Job → A)
-      → cond (eqb (number s) 0) (accepted (content s)) (refused (number s)) ≡ cond (eqb (number t) 0) (accepted (content t)) (refused (number t))
-  alike {A} number q z refused accepted = go (eqb (number s) 0) refl
-    where
-      go : (c : Bool) → eqb (number s) 0 ≡ c
-          → cond (eqb (number s) 0) (accepted (content s)) (refused (number s)) ≡ cond (eqb (number t) 0) (accepted (content t)) (refused (number t))
-      go true e = rw (q, same-content (z (eqb-true (number s) 0 e)))
-      go false e = rw (q, rw q at e)
+-- What is made of the number of a refusal and, where it is 0, of what is accepted is the same for both, if these are.
+pub alike : {A : Type 0} (refused : ℕ → A) (a b : ℕ) (x y : A) → a ≡ b → (a ≡ 0 → x ≡ y) → cond (eqb a 0) x (refused a) ≡ cond (eqb b 0) y (refused b)
+alike {A} refused a b x y q f = go (eqb a 0) refl
+  where
+    go : (c : Bool) → eqb a 0 ≡ c → cond (eqb a 0) x (refused a) ≡ cond (eqb b 0) y (refused b)
+    go true e = rw (f (eqb-true a 0 e), q)
+    go false e = rw (q, rw q at e)
+
+module _ (s t : List ℕ) (same-refusal : refusal s ≡ refusal t) (same-content : refusal s ≡ 0 → content s ≡ content t) where
+  alike-read : {A : Type 0} (refused : ℕ → A) (accepted : Job → A)
+      → cond (eqb (refusal s) 0) (accepted (content s)) (refused (refusal s)) ≡ cond (eqb (refusal t) 0) (accepted (content t)) (refused (refusal t))
+  alike-read refused accepted = alike refused (refusal s) (refusal t) _ _ same-refusal (λ e. ap accepted (same-content e))
 
   alike-under : (m : ℕ) {A : Type 0} (refused : ℕ → A) (accepted : Problem → A)
       → cond (eqb (refusalUnder m s) 0) (accepted (under m (content s))) (refused (refusalUnder m s))
       ≡ cond (eqb (refusalUnder m t) 0) (accepted (under m (content t))) (refused (refusalUnder m t))
-  alike-under m refused accepted = alike (refusalUnder m) (under-same m) (λ e. accepted-under s m .0 e .0) refused (λ j. accepted (under m j))
+  alike-under m refused accepted =
+      alike refused (refusalUnder m s) (refusalUnder m t) _ _ (under-same s t same-refusal m) (λ e. ap (λ j. accepted (under m j)) (same-content (accepted-under s m .0 e .0)))
 
   read-same : (out : List ℕ) → read s out ≡ read t out
   unfolding read
   read-same out =
-      by-cond (eqb (refusal s) 0) _ _ ∙ alike refusal same-refusal (λ e. e) (λ n. writeOutcome (W.Refused n) out) (λ j. readContent j out)
+      by-cond (eqb (refusal s) 0) _ _ ∙ alike-read (λ n. writeOutcome (W.Refused n) out) (λ j. readContent j out)
       ∙ sym (by-cond (eqb (refusal t) 0) _ _)
 
   save-same : (out : List ℕ) → save s out ≡ save t out
   unfolding save
   save-same out =
-      by-cond (eqb (refusal s) 0) _ _ ∙ alike refusal same-refusal (λ e. e) (λ n. writeOutcome (W.Refused n) out) (λ j. saveContent j out)
+      by-cond (eqb (refusal s) 0) _ _ ∙ alike-read (λ n. writeOutcome (W.Refused n) out) (λ j. saveContent j out)
       ∙ sym (by-cond (eqb (refusal t) 0) _ _)
 
   row-same : (m k n u : ℕ) (out : List ℕ) → conflictRow s m k n u out ≡ conflictRow t m k n u out

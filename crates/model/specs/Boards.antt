@@ -562,3 +562,25 @@ rankedCutConflicts =
     ∷ (rows (rankedSquares (1 ∷ 9 ∷ 131 ∷ 0 ∷ 5 ∷ 1 ∷ [])) 0 ⇒ shows (W.Count 2) (16781313 ∷ 0 ∷ []))
     ∷ (rows (rankedSquares (0 ∷ 5 ∷ 129 ∷ 1 ∷ 9 ∷ 3 ∷ [])) 0 ⇒ shows (W.Count 2) (4097 ∷ 0 ∷ []))
     ∷ []
+
+-- Classes of the gaps 1, 3 and 2: the largest is neither the best-ranked nor the last-ranked one, and neither first nor last in the file.
+unfoldable pub threeGaps : List ℕ
+threeGaps = 0 ∷ 1 ∷ 1 ∷ 1 ∷ 5 ∷ 3 ∷ 2 ∷ 9 ∷ 2 ∷ []
+
+-- Boards of document 02's ninth request. Two squares in no class: 3 apart, which takes 7 and the six steps of rankedCutRuns.
+unfoldable pub noClassRuns : List Marked
+noClassRuns = (runs (twoTypes threeGaps 0 0 7) 1000000 ⇒ says (Shortest 7 6) true (0 ∷ 0 ∷ 0 ∷ 0 ∷ 1 ∷ 5 ∷ 0 ∷ 0 ∷ [])) ∷ []
+
+-- Row and check as well.
+unfoldable pub noClassConflicts : List Marked
+noClassConflicts =
+    -- At gap 3 a square at (0,0) is in conflict with those at the columns 0 to 4, whose numbers are 0, 12, 24, 36 and 48; also if the gap is that of a marked class, 131 - 128.
+    (rows (twoTypes threeGaps 0 0 7) 0 ⇒ shows (W.Count 2) (281543712968705 ∷ 0 ∷ []))
+    ∷ (rows (twoTypes (0 ∷ 1 ∷ 1 ∷ 1 ∷ 5 ∷ 131 ∷ []) 0 0 7) 0 ⇒ shows (W.Count 2) (281543712968705 ∷ 0 ∷ []))
+    -- One square is in class 0, gap 1, and one in no class: the larger gap is that of class 1, which no type names.
+    ∷ (checks (twoTypes threeGaps 1 0 7) (0 ∷ 0 ∷ 0 ∷ 0 ∷ 1 ∷ 4 ∷ 0 ∷ 0 ∷ []) ⇒ finds (C.Refused 11))
+    ∷ (checks (twoTypes threeGaps 1 0 7) (0 ∷ 0 ∷ 0 ∷ 0 ∷ 1 ∷ 5 ∷ 0 ∷ 0 ∷ []) ⇒ finds (C.Passes 7))
+    -- "Their jobs must put fillers in a class of gap 0": then they touch, and in no class they do not.
+    ∷ (checks (twoTypes (0 ∷ 1 ∷ 3 ∷ 1 ∷ 5 ∷ 0 ∷ []) 2 2 4) (0 ∷ 0 ∷ 0 ∷ 0 ∷ 1 ∷ 2 ∷ 0 ∷ 0 ∷ []) ⇒ finds (C.Passes 4))
+    ∷ (checks (twoTypes (0 ∷ 1 ∷ 3 ∷ 1 ∷ 5 ∷ 0 ∷ []) 2 0 4) (0 ∷ 0 ∷ 0 ∷ 0 ∷ 1 ∷ 2 ∷ 0 ∷ 0 ∷ []) ⇒ finds (C.Refused 11))
+    ∷ []

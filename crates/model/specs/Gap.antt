@@ -1,12 +1,13 @@
--- Document 01, "Gap and conflict": the gap of a type and of a pair; document 02, "3/13 Common cut" and "8/13 Common cut against ranks": the pairs that have none.
+-- Document 01, "Gap and conflict": the gap of a type and of a pair; document 02, "3/13 Common cut" and "8/13 Common cut against ranks": the pairs that have none; "9/13 Pieces in
+-- no class": the gap of a type in no class.
 use mathlib.Core.Bool.{Bool, false, cond, _&&_}
-use mathlib.Core.List.{List, [], _∷_}
+use mathlib.Core.List.{List, [], _∷_, map}
 use mathlib.Core.Option.{Option, none, some}
 use Prim.Native.Nat.{ℕ, max}
 use lib.Dec.{ltb, eqb}
 use Rattle.words.specs.Bits.{testBit}
 use Rattle.model.specs.Content.{SpacingClass, Kind}
-use Rattle.model.specs.Lists.{keep}
+use Rattle.model.specs.Lists.{keep, largest}
 
 -- "class mask (bit i names class id i; zero means no class)"
 unfoldable pub names : Kind → SpacingClass → Bool
@@ -30,18 +31,22 @@ unfoldable pub bestRanked : List SpacingClass → Option SpacingClass
 bestRanked [] = none
 bestRanked (c ∷ cs) = some (bestFrom c cs)
 
--- The gap of the class, "and 0 if it has no class".
-unfoldable pub gapOr0 : Option SpacingClass → ℕ
-gapOr0 none = 0
-gapOr0 (some c) = c .gap
-
 -- A type's "class with the smallest rank number", if it has a class: its best-ranked class.
 unfoldable pub bestClass : List SpacingClass → Kind → Option SpacingClass
 bestClass cs k = bestRanked (keep (names k) cs)
 
--- "A type's gap is the gap of its class with the smallest rank number, and 0 if it has no class."
+-- Document 02, "9/13": "the largest gap in the job's class list, or 0 if that list is empty". The list, whether a type names the class or not; the gap, whether it is marked or not.
+unfoldable pub largestGap : List SpacingClass → ℕ
+largestGap cs = largest (map (λ c. c .gap) cs)
+
+-- The gap of the class, and this other one where there is no class.
+unfoldable pub gapOr : ℕ → Option SpacingClass → ℕ
+gapOr g none = g
+gapOr g (some c) = c .gap
+
+-- "A type's gap is the gap of its class with the smallest rank number". Document 02, "9/13": "A type with no class now takes the largest gap in the job's class list".
 unfoldable pub kindGap : List SpacingClass → Kind → ℕ
-kindGap cs k = gapOr0 (bestClass cs k)
+kindGap cs k = gapOr (largestGap cs) (bestClass cs k)
 
 -- Both are "the same .. class and it is marked". "No id .. occurs twice", so that classes of one id are one class.
 unfoldable pub sameMarked : Option SpacingClass → Option SpacingClass → Bool

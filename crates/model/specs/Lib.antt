@@ -17,6 +17,5 @@ pub mod SameAnswers
 pub mod Demand3
 pub mod Output
 pub mod ClassOrder
-pub mod RankedCut
 pub mod Opened
 pub mod Boards

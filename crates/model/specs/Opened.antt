@@ -9,7 +9,7 @@ use Rattle.model.specs.Lists.{all, any, keep, countOf, concat, sum, larg
 use Rattle.model.specs.Content.{pieceCount, kindCount, kindAt}
 use Rattle.model.specs.Grid.{columns, rows, dots, numberOf, placementOf, numberLimit, setWords}
 use Rattle.model.specs.Geometry.{quarterTurn, rotated, moved, vertexAt, following, cross, strictlyLeft, edgeSound, sound, outwardNormal, normals, negated, directions, along, separates, disjoint, distanceSquared, alongEdge, nearEdge, cornersClear, separated, piecesConflict}
-use Rattle.model.specs.Gap.{names, outranks, better, bestFrom, bestRanked, gapOr0, bestClass, kindGap, sameMarked, shareCut, pairGap}
+use Rattle.model.specs.Gap.{names, outranks, better, bestFrom, bestRanked, bestClass, largestGap, gapOr, kindGap, sameMarked, shareCut, pairGap}
 use Rattle.model.specs.Problem.{cause13}
 use Rattle.model.specs.Candidate.{placedPart, placedParts, placedVertices, onBoard, admitted, isCandidate, candidates, natural, extent}
 use Rattle.model.specs.Format.{byteAt, wordAt, trailerAt, boardAt, classesAt, kindsAt, kindsLength, classesStated, kindsStated, lengthStated, marked, boardSection, classesSection, kindsSection, inPlace, shareByte, boardOf, marksCut, gapMeant, classAt, classesOf, byRisingId, joined, followed, many, vertices, readPart, headInRange, withParts, readKind, kindBytes, kindsGot, kindsIn, content, cause1, cause2, cause3, cause4, classInRange, distinct, cause5, namesPresent, kindsUnfit, cause6, vertexInRange, cause7, refusal}
@@ -40,7 +40,7 @@ unfolding quarterTurn rotated moved vertexAt following cross strictlyLeft edgeSo
 openedGeometry = 0
 
 unfoldable pub openedGap : ℕ
-unfolding names outranks better bestFrom bestRanked gapOr0 bestClass kindGap sameMarked shareCut pairGap
+unfolding names outranks better bestFrom bestRanked bestClass largestGap gapOr kindGap sameMarked shareCut pairGap
 openedGap = 0
 
 unfoldable pub openedCandidate : ℕ

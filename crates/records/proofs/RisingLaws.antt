@@ -40,11 +40,11 @@ module _ (s : List ℕ) (o n : ℕ) (fit : classesUnfit s o n ≡ false) where
   unfolding classesUnfit
   at-most-eight = ltb-false 8 n (or-left _ _ (or-left few-and-ranged _ (or-left (few-and-ranged || not (distinctColumn s o n)) _ fit)))
 
-  ranged : allInRange s o n ≡ true
+  pub ranged : allInRange s o n ≡ true
   unfolding classesUnfit
   ranged = not-false _ (or-right (ltb 8 n) _ (or-left few-and-ranged _ (or-left (few-and-ranged || not (distinctColumn s o n)) _ fit)))
 
-  ids-distinct : distinctColumn s o n ≡ true
+  pub ids-distinct : distinctColumn s o n ≡ true
   unfolding classesUnfit
   ids-distinct = not-false _ (or-right few-and-ranged _ (or-left (few-and-ranged || not (distinctColumn s o n)) _ fit))
 

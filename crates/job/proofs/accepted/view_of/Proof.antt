@@ -1,6 +1,6 @@
 use mathlib.Core.Path.{refl}
 use native.Mathlib.Omega.{arith}
-use Rattle.job.proofs.ViewLaws.{inside, board-in, kinds-in, ids-in, list-reads, length-list, view-is, board-read}
+use Rattle.job.proofs.ViewLaws.{inside, board-in, kinds-in, classes-in, list-reads, length-list, view-is, board-read}
 use borrow.Author.Needs.{needs}
 use Rattle.job.proofs.accepted.view_of.Statement.{statement}
 use Rattle.job.proofs.accepted.view_of.Tie as tie
@@ -29,7 +29,7 @@ read-kinds-requires c κs =
     let t = c .before .before .before .read-trailer .ensures in
     let i = inside s (c .before .before .before .before .before .pre) in
     let k = kinds-in s (c .before .before .before .before .before .pre) in
-    ((omega arith, omega arith, omega arith, omega (arith, length-list s (c .before .before .before .before .before .pre) _ _ _ (t .kinds) (t .kindsLength) (t .kindCount))), (list-reads s (c .before .before .before .before .before .pre) _ _ _ (t .kinds) (t .kindsLength) (t .kindCount), ids-in s (c .before .before .before .before .before .pre) _ _ (t .classes) (t .classCount)))
+    ((omega arith, omega arith, omega arith, omega (arith, length-list s (c .before .before .before .before .before .pre) _ _ _ (t .kinds) (t .kindsLength) (t .kindCount))), (list-reads s (c .before .before .before .before .before .pre) _ _ _ (t .kinds) (t .kindsLength) (t .kindCount), classes-in s (c .before .before .before .before .before .pre) _ _ (t .classes) (t .classCount)))
 
 multiples-requires : tie.Need-multiples-requires
 multiples-requires c κs = omega (arith, board-in (c .before .before .before .before .before .before .before .before .before .before .before .before .args .job .now) (c .before .before .before .before .before .before .before .before .before .before .before .before .pre), board-read (c .before .before .before .before .before .before .before .before .before .before .before .before .args .job .now) _ _ (c .before .before .before .before .before .before .before .before .before .before .read-trailer .ensures .board) (c .before .before .before .before .before .before .before .before .before .read-board .ensures))

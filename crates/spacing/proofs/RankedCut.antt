@@ -8,14 +8,14 @@ use Prim.Native.Nat.{ℕ, max}
 use borrow.Author.Tests.{eqb-true, eq-eqb, not-true}
 use lib.Dec.{eqb}
 use Rattle.words.proofs.Cases.{true-or-false}
 use Rattle.model.specs.Content.{SpacingClass, spacingClass, Part, Kind, kind}
 use Rattle.model.specs.Gap.{names, bestClass, kindGap, sameMarked, shareCut, pairGap}
 use Rattle.model.specs.Lists.{all, any}
 use Rattle.model.specs.Opened.{opened}
-use Rattle.model.specs.RankedCut.{SameBest, shareMarked, earlierGap, RanksFirst}
+use Rattle.spacing.specs.RankedCut.{SameBest, shareMarked, earlierGap, RanksFirst}
 use Rattle.model.proofs.Lists.{and-left, and-right, and-both, or-left, or-right}
 use Rattle.model.proofs.Ranks.{best-holds, best-named}
-use Rattle.model.proofs.SameClass.{best-same}
+use Rattle.spacing.proofs.SameClass.{best-same}
 
 -- A test that holds of no element fails of each.
 none-holds : (p : SpacingClass → Bool) (cs : List SpacingClass) → any p cs ≡ false → all (λ c. not (p c)) cs ≡ true

@@ -19,7 +19,7 @@ pub record SameBest (cs : List SpacingClass) (k m : Kind) : Type 0 where
 unfoldable pub shareMarked : List SpacingClass → Kind → Kind → Bool
 shareMarked cs k m = any (λ c. c .commonCut && names k c && names m c) cs
 
--- The gap of a pair as it was: "Two pieces that share a marked class have pair gap 0, and everything else about gaps holds."
+-- The gap of a pair as it was, by the gaps that the types have now: "Two pieces that share a marked class have pair gap 0, and everything else about gaps holds."
 unfoldable pub earlierGap : List SpacingClass → Kind → Kind → ℕ
 earlierGap cs k m = cond (shareMarked cs k m) 0 (max (kindGap cs k) (kindGap cs m))
 

@@ -1,0 +1,5 @@
+-- What is proved of gaps.
+pub mod SameClass
+pub mod RankedCut
+pub mod SameGaps
+pub mod NoClass
