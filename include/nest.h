@@ -65,9 +65,9 @@ extern "C" {
  *                         127, anticlockwise; every other corner lies strictly left of each edge.
  *
  * The gap of a type is that of its best-ranked class (smallest rank number), marked or not. A type that names no
- * class takes the largest gap of the job's class list, whether a type names that class or not and whether it is
- * marked or not, and 0 if the list is empty; a piece that may touch others is to be put in a class of gap 0.
- * The gap between two pieces is 0 if the best-ranked class of both is the same, as it is of two copies of one
+ * class takes the largest gap in the job's class list, or 0 if that list is empty. All classes count, also those
+ * that no type names, and a marked one with its gap. Pieces that may touch each other, as fillers do, are to be put
+ * in a class of gap 0. The gap between two pieces is 0 if the best-ranked class of both is the same, as it is of two copies of one
  * type in a class, and is marked as common cut; otherwise it is the larger of the two types' gaps. So a marked
  * class changes nothing for a type that names a better-ranked one, and types in no class share no common cut.
  * The order of the classes in a job changes no result.

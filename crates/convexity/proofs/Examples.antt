@@ -25,9 +25,9 @@ pub slanting-both : ((squareSeparated 3 slanting (squareAt 7 7) ≡ true) × (sq
 unfolding opened square squareAt slanting axes clearance separatesBy squareDirections squareSeparated
 slanting-both = ((refl, refl), (refl, refl))
 
--- A square in no class and one in a class of this gap, which is their pair's; W 10, L 9.
+-- A square in a class of gap 0 and one in a class of this gap, which is their pair's; W 10, L 9.
 unfoldable pub twoSquares : ℕ → List ℕ
-twoSquares gap = jobOf 10 9 (0 ∷ 0 ∷ gap ∷ []) 2 (squareOf 1 0 ++ squareOf 1 1)
+twoSquares gap = jobOf 10 9 (0 ∷ 0 ∷ gap ∷ 1 ∷ 1 ∷ 0 ∷ []) 2 (squareOf 1 2 ++ squareOf 1 1)
 
 -- The two as above, clear of margin 1: at (1,1) and (6,7).
 unfoldable pub across : Layout

@@ -6,7 +6,7 @@ use Prim.Native.Nat.{ℕ, _+_, _*_, _-_, _≤_}
 use native.Mathlib.Omega.{arith}
 use lib.ListN.{length, take, drop, length-drop}
 use lib.Seq.{length-take-le}
-use Rattle.model.specs.Format.{byteAt, boardAt, classesAt, classesStated, kindsAt, kindsLength, kindsStated, boardFrom, boardOf, classFrom, classAt, classesOf, distinct, kindBytes, kindsGot, cause4, cause5, cause6}
+use Rattle.model.specs.Format.{byteAt, boardAt, classesAt, classesStated, kindsAt, kindsLength, kindsStated, boardFrom, boardOf, classFrom, classAt, classesOf, kindBytes, kindsGot, cause4, cause5, cause6}
 use Rattle.model.specs.Lists.{between, below}
 use Rattle.model.proofs.Folds.{map-same}
 use Rattle.frame.specs.Board.{unfitBoard}

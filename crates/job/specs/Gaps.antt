@@ -42,7 +42,7 @@ offered b c = cond (not (b .found) || ltb (c .rank) (b .rank)) c b
 unfoldable pub offeredId : List ℕ → ℕ → ℕ → ℕ → ℕ → Best → Best
 offeredId s o n mask id b = cond (ltb (indexOf s o n id) n && testBit mask id) (offered b (bestAt s (o + indexOf s o n id * 3) id)) b
 
--- The best-ranked of the classes with an id below i.
+-- The best-ranked of the classes with an id below i that the mask names; as long as there is none, the default gap.
 unfoldable pub bestBelow : List ℕ → ℕ → ℕ → ℕ → ℕ → ℕ → Best
 bestBelow s o n default mask zero = noBest default
 bestBelow s o n default mask (suc i) = offeredId s o n mask i (bestBelow s o n default mask i)

@@ -1,4 +1,4 @@
--- Document 02, "3/13 Common cut": which gap bytes are refused; the gap of a pair, as "8/13" has it; that without a marked class it is document 01's, the larger of its types' two.
+-- Document 02, "3/13 Common cut": which gap bytes are refused; the gap of a pair, as "8/13" has it; that without a marked class it is the larger of its types' two, as document 01 says.
 use mathlib.Core.Bool.{Bool, true, false, not, cond, _&&_, and-assoc, and-comm, and-false}
 use mathlib.Core.List.{List, [], _∷_, map}
 use mathlib.Core.Logic.{_⊎_, inl, inr, ⊎-elim, _↔_}
@@ -119,7 +119,7 @@ numbers-unmarked [] e = refl
 numbers-unmarked (c ∷ cs) e =
     ap₂ (λ t r. c .id ∷ c .rank ∷ c .gap ∷ cond t 1 0 ∷ r) (not-true (c .commonCut) (and-left _ _ e)) (numbers-unmarked cs (and-right (not (c .commonCut)) _ e))
 
--- What the marks enter is document 01's where no class is marked: the class records and what is refused of them, and the gap of a pair, at which every conflict is. Read tells
+-- What the marks enter is as document 01 says where no class is marked: the class records and what is refused of them, and the gap of a pair, at which every conflict is. Read tells
 -- document 01's numbers of each class and the mark 0. Nothing else in the definitions of read, row, check and run speaks of marks.
 pub record AsBefore (s : List ℕ) : Type 0 where
   -- "Class, 3 bytes: id .., rank .., gap .."

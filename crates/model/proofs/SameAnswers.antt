@@ -24,7 +24,7 @@ under-same s t e m = ap {B = ℕ} (λ n. elim (eqb n 0) [
   | true ↦ cond (cause13 m) 13 0
 ]) e
 
--- What is made of the number of a refusal and, where it is 0, of what is accepted is the same for both, if these are.
+-- An answer made of the number of a refusal, or, where that is 0, of an accepted job is the same for both, if the number is and what the job gives.
 pub alike : {A : Type 0} (refused : ℕ → A) (a b : ℕ) (x y : A) → a ≡ b → (a ≡ 0 → x ≡ y) → cond (eqb a 0) x (refused a) ≡ cond (eqb b 0) y (refused b)
 alike {A} refused a b x y q f = go (eqb a 0) refl
   where

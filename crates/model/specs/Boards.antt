@@ -307,7 +307,7 @@ clampRefusals =
     ∷ (clamped 64 (runs star 1000000) ⇒ says (Refused 7) false (7 ∷ 7 ∷ 7 ∷ 7 ∷ []))
     ∷ []
 
--- Boards of document 02's third request. Gap byte 129 means gap 1 with the mark. Two squares in a marked class alone nest as those in no class do: shortest 4, where
+-- Boards of document 02's third request. Gap byte 129 means gap 1 with the mark. Two squares in a marked class alone nest as those of a job without classes do: shortest 4, where
 -- gap byte 1 gives 5 at L 5 and none at L 4.
 unfoldable pub cutRuns : List Marked
 cutRuns =
@@ -580,7 +580,7 @@ noClassConflicts =
     -- One square is in class 0, gap 1, and one in no class: the larger gap is that of class 1, which no type names.
     ∷ (checks (twoTypes threeGaps 1 0 7) (0 ∷ 0 ∷ 0 ∷ 0 ∷ 1 ∷ 4 ∷ 0 ∷ 0 ∷ []) ⇒ finds (C.Refused 11))
     ∷ (checks (twoTypes threeGaps 1 0 7) (0 ∷ 0 ∷ 0 ∷ 0 ∷ 1 ∷ 5 ∷ 0 ∷ 0 ∷ []) ⇒ finds (C.Passes 7))
-    -- "Their jobs must put fillers in a class of gap 0": then they touch, and in no class they do not.
+    -- "Their jobs must put fillers in a class of gap 0": then they touch; with one of them in no class they do not.
     ∷ (checks (twoTypes (0 ∷ 1 ∷ 3 ∷ 1 ∷ 5 ∷ 0 ∷ []) 2 2 4) (0 ∷ 0 ∷ 0 ∷ 0 ∷ 1 ∷ 2 ∷ 0 ∷ 0 ∷ []) ⇒ finds (C.Passes 4))
     ∷ (checks (twoTypes (0 ∷ 1 ∷ 3 ∷ 1 ∷ 5 ∷ 0 ∷ []) 2 0 4) (0 ∷ 0 ∷ 0 ∷ 0 ∷ 1 ∷ 2 ∷ 0 ∷ 0 ∷ []) ⇒ finds (C.Refused 11))
     ∷ []

@@ -35,7 +35,7 @@ bestRanked (c ∷ cs) = some (bestFrom c cs)
 unfoldable pub bestClass : List SpacingClass → Kind → Option SpacingClass
 bestClass cs k = bestRanked (keep (names k) cs)
 
--- Document 02, "9/13": "the largest gap in the job's class list, or 0 if that list is empty". The list, whether a type names the class or not; the gap, whether it is marked or not.
+-- Document 02, "9/13": "the largest gap in the job's class list, or 0 if that list is empty". All of the list counts, whether a type names the class or not, and of a marked class its gap without the mark.
 unfoldable pub largestGap : List SpacingClass → ℕ
 largestGap cs = largest (map (λ c. c .gap) cs)
 

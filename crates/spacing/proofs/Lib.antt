@@ -3,3 +3,4 @@ pub mod SameClass
 pub mod RankedCut
 pub mod SameGaps
 pub mod NoClass
+pub mod Examples

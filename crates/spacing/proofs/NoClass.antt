@@ -1,13 +1,13 @@
--- Document 02, "9/13 Pieces in no class": the gap of a type in no class is as the request says, the others' stay; a job without classes nests as before, and so does one whose fillers are
--- put in a class of gap 0.
+-- Document 02, "9/13 Pieces in no class": the gap of a type in no class is as the request says, the others' stay; a job without classes nests as before, and one whose fillers are put in a
+-- class of gap 0 nests as it did before that.
 use mathlib.Core.Bool.{Bool, true, false, not, cond, _&&_, _||_, true≢false}
-use mathlib.Core.List.{List, [], _∷_, map, List·Memᴰ, List·Memᴰ·head, List·Memᴰ·tail, List·Memᴰ·cases-cons, List·Memᴰ·not-nil}
+use mathlib.Core.List.{List, [], _∷_, List·Memᴰ·head, List·Memᴰ·tail, List·Memᴰ·cases-cons, List·Memᴰ·not-nil}
 use mathlib.Core.Logic.{_⊎_, inl, inr, ⊎-elim}
 use mathlib.Core.Option.{Option, none, some}
-use mathlib.Core.Path.{_≡_, refl, sym, ap, ap₂, subst, subst₂, _∙_}
+use mathlib.Core.Path.{_≡_, refl, sym, ap, ap₂, subst, _∙_}
 use Prim.Native.Nat.{ℕ, _≤_, _<_, max}
 use native.Mathlib.Omega.{arith}
-use borrow.Author.Tests.{eqb-true, not-false}
+use borrow.Author.Tests.{eqb-true}
 use lib.Dec.{eqb}
 use Rattle.words.specs.Bits.{testBit}
 use Rattle.words.proofs.Bit.{testBit-none}
@@ -24,7 +24,7 @@ use Rattle.model.proofs.Saving.Kept.{risen-permuted}
 use Rattle.spacing.specs.NoClass.{LargestOf, formerGap, formerPairGap, GapsAsBefore, NestsAsBefore, FillerPut, keeps, put, FillersPut}
 use Rattle.spacing.specs.SameGaps.{SameButClasses, gapIn}
 use Rattle.spacing.proofs.SameClass.{best-same}
-use Rattle.spacing.proofs.SameGaps.{gaps-decide}
+use Rattle.spacing.proofs.SameGaps.{kind-count-same, gaps-decide}
 
 -- ---- The gap of a type
 
@@ -40,7 +40,7 @@ largest-is (c ∷ cs) = go (largest-is cs) (le-or-lt (largestGap cs) (c .gap))
           most = λ d h. ⊎-elim (λ e. let q : d .gap ≡ c .gap = ap (λ c. c .gap) e in omega arith) (λ h. let m = r .most d h in omega arith) (List·Memᴰ·cases-cons h);
           taken = inr
               (⊎-elim (λ a. (c, List·Memᴰ·head refl, omega arith))
-              (λ b. ⊎-elim (λ none. absurd (let z = none .1 in omega arith)) (λ d. (d .0, List·Memᴰ·tail (d .1), let q = d .2 in omega arith)) (r .taken))
+              (λ b. ⊎-elim (λ empty. absurd (let z = empty .1 in omega arith)) (λ d. (d .0, List·Memᴰ·tail (d .1), let q = d .2 in omega arith)) (r .taken))
               l);
         }
 
@@ -93,29 +93,42 @@ mask-has-best s e a h byte some-bit =
     sym (ap (λ t. not t || any (λ c. eqb (c .id) (bit .0)) (classesOf s)) (bit .4)) ∙ all-below (λ i. not (testBit (k .classes) i) || any (λ c. eqb (c .id) i) (classesOf s)) 8 present (bit .0) (bit .2) in
     has-best (content s .classes) k (bit .0) (sym (any-permuted (λ c. eqb (c .id) (bit .0)) (risen-permuted (classesOf s) (classes-in-range s (no-cause s e .no5)))) ∙ there) (bit .4)
 
--- A filler put in a class of gap 0 has gap 0.
+-- A type whose best-ranked class has gap 0 has gap 0: so has a filler that is put in such a class.
 pub filler : (cs : List SpacingClass) (k : Kind) (c : SpacingClass) → bestClass cs k ≡ some c → c .gap ≡ 0 → kindGap cs k ≡ 0
 filler cs k c e z = in-a-class cs k c e .0 ∙ z
 
 -- ---- Jobs
 
+-- The gaps say how a job nests. (s and t have as many types.)
+by-gaps : (s t : List ℕ) → kindCount (content t .kinds) ≡ kindCount (content s .kinds) → GapsAsBefore s t → NestsAsBefore s t
+by-gaps s t n g =
+    record {
+      gaps = g;
+      alike = λ u same h. gaps-decide t u same (λ a b ha hb. g a b (omega (arith, n)) (omega (arith, n)) ∙ sym (h a b (omega (arith, n)) (omega (arith, n))));
+    }
+
 -- A job of which no type's gap has changed nests as before.
 pub unchanged : (s : List ℕ)
     → ((a : ℕ) → a < kindCount (content s .kinds) → kindGap (content s .classes) (kindAt (content s .kinds) a) ≡ formerGap (content s .classes) (kindAt (content s .kinds) a))
-    → NestsAsBefore s
+    → NestsAsBefore s s
 unfolding pairGap formerPairGap
-unchanged s e t same before =
-    gaps-decide s t same
-    (λ a b ha hb. ap₂ (λ x y. cond (shareCut (content s .classes) (kindAt (content s .kinds) a) (kindAt (content s .kinds) b)) 0 (max x y)) (e a ha) (e b hb) ∙ sym (before a b ha hb))
+unchanged s e =
+    by-gaps s s refl
+    (λ a b ha hb. ap₂ (λ x y. cond (shareCut (content s .classes) (kindAt (content s .kinds) a) (kindAt (content s .kinds) b)) 0 (max x y)) (e a ha) (e b hb))
+
+-- Without classes the gap of each two types is 0.
+pub without-gaps : (s : List ℕ) → content s .classes ≡ [] → (a b : ℕ) → gapIn s a b ≡ 0
+unfolding pairGap shareCut bestClass bestRanked keep sameMarked kindGap gapOr largestGap largest
+without-gaps s e a b = ap (λ cs. pairGap cs (kindAt (content s .kinds) a) (kindAt (content s .kinds) b)) e
 
 -- "A job without classes nests as before".
-pub without-classes : (s : List ℕ) → content s .classes ≡ [] → NestsAsBefore s
+pub without-classes : (s : List ℕ) → content s .classes ≡ [] → NestsAsBefore s s
 unfolding kindGap formerGap largestGap largest
 without-classes s e = unchanged s (λ a h. ap (λ cs. gapOr (largestGap cs) (bestClass (content s .classes) (kindAt (content s .kinds) a))) e)
 
 -- And so does one of which each type has a class.
 pub all-in-classes : (s : List ℕ)
-    → ((a : ℕ) → a < kindCount (content s .kinds) → (c : SpacingClass) × (bestClass (content s .classes) (kindAt (content s .kinds) a) ≡ some c)) → NestsAsBefore s
+    → ((a : ℕ) → a < kindCount (content s .kinds) → (c : SpacingClass) × (bestClass (content s .classes) (kindAt (content s .kinds) a) ≡ some c)) → NestsAsBefore s s
 all-in-classes s f = unchanged s (λ a h. let same = in-a-class (content s .classes) (kindAt (content s .kinds) a) (f a h .0) (f a h .1) in same .0 ∙ sym (same .1))
 
 -- A gap of 0 or another one, where both are this one.
@@ -123,10 +136,10 @@ either : (t : Bool) (g r : ℕ) → (t ≡ true → 0 ≡ r) → g ≡ r → con
 either true g r zero other = zero refl
 either false g r zero other = other
 
--- "Their jobs must put fillers in a class of gap 0": then the job's gaps are those that it had with its fillers in no class.
-pub fillers-put : (s t : List ℕ) → FillersPut s t → GapsAsBefore s t
+-- With the fillers in a class of gap 0 a job's gaps are those that it had with them in no class.
+fillers-gaps : (s t : List ℕ) → FillersPut s t → GapsAsBefore s t
 unfolding pairGap formerPairGap kindGap formerGap gapOr shareCut sameMarked
-fillers-put s t f a b ha hb = go _ _ _ _ refl refl (f a ha) (f b hb)
+fillers-gaps s t f a b ha hb = go _ _ _ _ refl refl (f a ha) (f b hb)
   where
     cs : List SpacingClass
     cs = content t .classes
@@ -146,3 +159,7 @@ fillers-put s t f a b ha hb = go _ _ _ _ refl refl (f a ha) (f b hb)
     go _ _ (some c) (some d) ec ed keeps (put z) = either (sameMarked (some c) (some d)) _ _ (λ e. let same = one c d ec ed e in omega arith) (omega arith)
     go _ _ (some c) (some d) ec ed (put z) keeps = either (sameMarked (some c) (some d)) _ _ (λ e. let same = one c d ec ed e in omega arith) (omega arith)
     go _ _ (some c) (some d) ec ed (put y) (put z) = either (sameMarked (some c) (some d)) _ _ (λ e. refl) (omega arith)
+
+-- "Their jobs must put fillers in a class of gap 0": then the job nests as it did with them in no class.
+pub fillers-put : (s t : List ℕ) → SameButClasses s t → FillersPut s t → NestsAsBefore s t
+fillers-put s t same f = by-gaps s t (sym (kind-count-same s t same)) (fillers-gaps s t f)

@@ -1,9 +1,9 @@
--- Two jobs that differ in their classes alone, and whose types have the same gaps, nest alike: of the classes, row, check and run see nothing but the gaps of pairs.
-use mathlib.Core.Bool.{Bool, true, false, not, cond, _&&_, _||_}
+-- Two jobs that differ in their classes alone, and whose pairs of types have the same gaps, nest alike: of the classes, row, check and run see nothing but the gaps of pairs.
+use mathlib.Core.Bool.{Bool, true, false, not, cond, _&&_}
 use mathlib.Core.List.{List, [], _∷_, map, map-map}
 use mathlib.Core.Logic.{⊎-elim}
 use mathlib.Core.Option.{Option, none, some}
-use mathlib.Core.Path.{_≡_, refl, sym, ap, ap₂, subst, _∙_, fun-ext}
+use mathlib.Core.Path.{_≡_, refl, sym, ap, ap₂, _∙_, fun-ext}
 use Prim.Native.Nat.{ℕ, zero, suc, _+_, _*_, _≤_, _<_}
 use native.Mathlib.Omega.{arith}
 use lib.Dec.{leb, ltb, eqb}
@@ -11,15 +11,15 @@ use lib.ListN.{length, getD, replicate, length-map}
 use Rattle.words.specs.Bits.{bitsWhere}
 use Rattle.words.proofs.Cases.{le-or-lt}
 use Rattle.model.specs.Candidate.{placedPart, placedParts, placedVertices, admitted, isCandidate, candidates, extent}
-use Rattle.model.specs.Content.{Board, SpacingClass, Part, Kind, noKind, kindAt, kindCount, pieceCount}
-use Rattle.model.specs.Format.{content, refusal}
+use Rattle.model.specs.Content.{Board, SpacingClass, Part, Kind, kindAt, kindCount, pieceCount}
+use Rattle.model.specs.Format.{content}
 use Rattle.model.specs.Gap.{pairGap}
-use Rattle.model.specs.Geometry.{separated, piecesConflict}
+use Rattle.model.specs.Geometry.{piecesConflict}
 use Rattle.model.specs.Grid.{Placement, placementOf, numberLimit, setWords}
 use Rattle.model.specs.Layout.{Entry, Layout, entryOf, entryNumber, entryKind, entryExtent, isEntry, conflict, inOrder, ordered, copies, demandMet, apart, passes, largestEnd, layoutLength}
 use Rattle.model.specs.Lists.{all, any, keep, countOf, concat, sum, largest, below}
 use Rattle.model.specs.Problem.{Problem, under}
-use Rattle.model.specs.Search.{Searched, step, searched, then, pieces, candidateTable, free, abovePrevious, beats, staysBelow, live, copiesLeft, forwardCheck, completed, tryCandidates, searchPieces, searchFrom, lengthOf, stepsFrom, stepsNeeded, isStopped, stepsTaken, held}
+use Rattle.model.specs.Search.{Searched, step, searched, then, pieces, candidateTable, free, abovePrevious, staysBelow, live, copiesLeft, forwardCheck, completed, tryCandidates, searchPieces, searchFrom, lengthOf, stepsFrom, stepsNeeded, isStopped, stepsTaken, held}
 use Rattle.model.specs.Services.{wordsIn, numbersIn, withWords, writeOutcome, refusalUnder, cause12, rowBit, rowWords, rowContent, conflictRow, entryIn, layoutIn, cause11, checkContent, check, givenLayout, givenUnfit, runOutcome, walked, workWords, cleared, heldAs, finishedAs, stepCount, verdict, runFrom, runContent, run}
 use Rattle.model.specs.declared.Checked.the-variants as C
 use Rattle.model.specs.declared.Held.the-variants as HV
@@ -37,6 +37,10 @@ unfolding kindAt
 bare-at [] t = refl
 bare-at (k ∷ ks) zero = refl
 bare-at (k ∷ ks) (suc t) = bare-at ks t
+
+bare-count : (ks ls : List Kind) → map bare ks ≡ map bare ls → kindCount ks ≡ kindCount ls
+unfolding kindCount
+bare-count ks ls e = sym (length-map ks bare) ∙ ap length e ∙ length-map ls bare
 
 -- Behind the last type there is none, and it has no part.
 no-parts : (ks : List Kind) (t : ℕ) → kindCount ks ≤ t → kindAt ks t .parts ≡ []
@@ -59,7 +63,7 @@ by-conds : {A : Type 0} (c d : Bool) (x y z : A) → _≡_ {A = A} (elim c as (�
 by-conds true d x y z = refl
 by-conds false d x y z = by-cond d y z
 
-module _ (b : Board) (m : ℕ) (cs ds : List SpacingClass) (ks ls : List Kind) (alike : map bare ks ≡ map bare ls)
+module _ (b : Board) (m : ℕ) (cs ds : List SpacingClass) (ks ls : List Kind) (types : map bare ks ≡ map bare ls)
     (gaps : (a c : ℕ) → a < kindCount ks → c < kindCount ks → pairGap cs (kindAt ks a) (kindAt ks c) ≡ pairGap ds (kindAt ls a) (kindAt ls c)) where
   -- The two problems.
   abbrev j : Problem
@@ -70,7 +74,7 @@ module _ (b : Board) (m : ℕ) (cs ds : List SpacingClass) (ks ls : List Kind) (
 
   -- ---- Types
   kinds-same : (t : ℕ) → bare (kindAt ks t) ≡ bare (kindAt ls t)
-  kinds-same t = bare-at ks t ∙ ap (λ l. kindAt l t) alike ∙ sym (bare-at ls t)
+  kinds-same t = bare-at ks t ∙ ap (λ l. kindAt l t) types ∙ sym (bare-at ls t)
 
   demand-same : (t : ℕ) → kindAt ks t .demand ≡ kindAt ls t .demand
   demand-same t = ap (λ k. k .demand) (kinds-same t)
@@ -79,8 +83,7 @@ module _ (b : Board) (m : ℕ) (cs ds : List SpacingClass) (ks ls : List Kind) (
   parts-same t = ap (λ k. k .parts) (kinds-same t)
 
   count-same : kindCount ks ≡ kindCount ls
-  unfolding kindCount
-  count-same = sym (length-map ks bare) ∙ ap length alike ∙ length-map ls bare
+  count-same = bare-count ks ls types
 
   pieces-same : pieces ks ≡ pieces ls
   unfolding pieces
@@ -88,7 +91,7 @@ module _ (b : Board) (m : ℕ) (cs ds : List SpacingClass) (ks ls : List Kind) (
 
   total-same : pieceCount ks ≡ pieceCount ls
   unfolding pieceCount
-  total-same = sym (ap sum (map-map (λ k. k .demand) bare ks)) ∙ ap (λ l. sum (map (λ k. k .demand) l)) alike ∙ ap sum (map-map (λ k. k .demand) bare ls)
+  total-same = sym (ap sum (map-map (λ k. k .demand) bare ks)) ∙ ap (λ l. sum (map (λ k. k .demand) l)) types ∙ ap sum (map-map (λ k. k .demand) bare ls)
 
   -- ---- Candidates and lengths
   admitted-same : (t : ℕ) (p : Placement) → admitted j (kindAt ks t) p ≡ admitted i (kindAt ls t) p
@@ -300,6 +303,10 @@ module _ (b : Board) (m : ℕ) (cs ds : List SpacingClass) (ks ls : List Kind) (
       ∙ sym (by-cond (givenUnfit i given) _ _)
 
 -- ---- Two jobs
+
+-- They have as many types.
+pub kind-count-same : (s t : List ℕ) → SameButClasses s t → kindCount (content s .kinds) ≡ kindCount (content t .kinds)
+kind-count-same s t same = bare-count (content s .kinds) (content t .kinds) (same .kinds)
 
 module _ (s t : List ℕ) (same : SameButClasses s t) (gaps : SameGaps s t) where
   margins-same : (m : ℕ) → refusalUnder m s ≡ refusalUnder m t

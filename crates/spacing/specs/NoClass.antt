@@ -23,15 +23,16 @@ formerGap cs k = gapOr 0 (bestClass cs k)
 unfoldable pub formerPairGap : List SpacingClass → Kind → Kind → ℕ
 formerPairGap cs k m = cond (shareCut cs k m) 0 (max (formerGap cs k) (formerGap cs m))
 
--- Each two types of t have now the gap that they had in s before the request.
+-- Each two types of t have now the gap that they had in s before the request. (They are the same types, but for the classes.)
 abbrev pub GapsAsBefore : List ℕ → List ℕ → Type 0
 GapsAsBefore s t =
     (a b : ℕ) → a < kindCount (content s .kinds) → b < kindCount (content s .kinds)
     → gapIn t a b ≡ formerPairGap (content s .classes) (kindAt (content s .kinds) a) (kindAt (content s .kinds) b)
 
--- "nests as before": as every job does whose gaps are now what its own were before.
-abbrev pub NestsAsBefore : List ℕ → Type 0
-NestsAsBefore s = (t : List ℕ) → SameButClasses s t → GapsAsBefore s t → NestAlike s t
+-- t nests as s did before: its gaps are those that s had, and it nests as every job of its board and types does that has these gaps now. "A job .. nests as before" if t is s.
+pub record NestsAsBefore (s t : List ℕ) : Type 0 where
+  pub gaps : GapsAsBefore s t
+  pub alike : (u : List ℕ) → SameButClasses t u → GapsAsBefore s u → NestAlike t u
 
 -- "Their jobs must put fillers in a class of gap 0": a type that had a class keeps its best-ranked one, and a type in no class has been put in one of gap 0.
 pub data FillerPut : Option SpacingClass → Option SpacingClass → Type 0 where

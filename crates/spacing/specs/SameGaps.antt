@@ -1,4 +1,4 @@
--- What row, check and run turn on of a job's classes: two jobs that differ in nothing else, and what it is for them to nest alike.
+-- What row, check and run see of a job's classes: two jobs that differ in their classes alone, and what it is for them to nest alike.
 use mathlib.Core.List.{List, map}
 use mathlib.Core.Path.{_≡_}
 use Prim.Native.Nat.{ℕ, _<_}

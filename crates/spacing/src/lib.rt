@@ -1,1 +1,1 @@
-// No code: the theory of gaps, on what results turn on the classes of a job. Read specs/ and the theorems of the same names in proofs/.
+// No code: the theory of gaps, and of what the classes of a job decide. Read specs/ and the theorems of the same names in proofs/.
