@@ -85,6 +85,17 @@ COATED, CUT = (0, 1, 3), (2, 9, COMMON_CUT + 1)
 COATED_AND_CUT = 1 << 0 | 1 << 2
 
 
+# Two crosses and a rhomb. The class of the crosses, one of gap 63 that no type names, and one of gap 0 for fillers.
+CROSS = [rectangle(-2, -1, 4, 3), rectangle(-1, -2, 2, 5)]
+RHOMB = [(-3, 0), (0, -2), (3, 0), (0, 2)]
+OF_CROSSES, UNNAMED, FILLERS = (2, 9, 1), (7, 0, 63), (5, 4, 0)
+
+
+def any_order(rhomb_in, classes):
+    types = [piece(2, CROSS, turns=3, classes=1 << 2), piece(1, [RHOMB], classes=rhomb_in)]
+    return Job(9, 21, 2, types, classes, order="types classes board", skip=b"skipped")
+
+
 def brackets(classes):
     return Job(5, 14, 1, [piece(3, BRACKET, turns=5, classes=TWO_CLASSES)], classes)
 
@@ -157,6 +168,14 @@ JOBS = {
         "One square in both and two in the common cut alone, of gap 1: the two touch, the coated one stands 3 apart.",
         Job(2, 9, 1, [piece(1, [SQUARE], classes=COATED_AND_CUT), piece(2, [SQUARE], classes=1 << 2)], [COATED, CUT]),
     ),
+    "no-class": (
+        "Two squares in no class, where packing has gap 3 and coating, which is ranked first, gap 1: the largest counts, they stand 3 apart.",
+        Job(2, 7, 1, [piece(2, [SQUARE])], [PACKING, COATING]),
+    ),
+    "no-class-beside-common-cut": (
+        "Two squares in no class, where the largest gap is that of a common cut: they stand 2 apart, and share no cut.",
+        Job(2, 6, 1, [piece(2, [SQUARE])], [(0, 5, COMMON_CUT + 2), (3, 1, 1)]),
+    ),
     "round-gap": (
         "Two squares with a gap of 5 on a board that leaves 4 between them across: 3 along it are enough, corner to corner.",
         Job(8, 9, 1, [piece(2, [SQUARE], classes=1)], [(0, 0, 5)]),
@@ -198,19 +217,12 @@ JOBS = {
         Job(12, 20, 1, [piece(2, [STRIP])]),
     ),
     "any-order": (
-        "Types, classes, board, in that order, with skipped bytes between; step 2, negative corners, overlapping parts.",
-        Job(
-            9,
-            21,
-            2,
-            [
-                piece(2, [rectangle(-2, -1, 4, 3), rectangle(-1, -2, 2, 5)], turns=3, classes=4),
-                piece(1, [[(-3, 0), (0, -2), (3, 0), (0, 2)]]),
-            ],
-            [(2, 9, 1), (7, 0, 63)],
-            order="types classes board",
-            skip=b"skipped",
-        ),
+        "Types, classes, board, in that order, with skipped bytes between; step 2, negative corners, overlapping parts. A rhomb in no class takes gap 63, of a class that no type names: there is no room.",
+        any_order(0, [OF_CROSSES, UNNAMED]),
+    ),
+    "any-order-filler": (
+        "The same job with the rhomb as a filler, in a class of gap 0: it nests as `any-order` did before pieces in no class took a gap.",
+        any_order(1 << 5, [OF_CROSSES, UNNAMED, FILLERS]),
     ),
     "full-board": (
         "The most that a job may have: 1024 dots, 8 types, 12 pieces, every turn; the first column takes them all.",
@@ -258,6 +270,7 @@ JOBS = {
 SAVED = ["printed", "any-order", "classes-one-order", "classes-other-order", "common-cut"]
 
 # Layouts that runs of some jobs are begun from, NAME.layout: an entry is type, column, row and turn.
+TOUCHING = [(0, 0, 0, 0), (0, 2, 0, 0)]
 GIVEN = {
     "carried-shortened": (
         "Held by a run that stopped while the gap was a square: 5 apart along the board. The round gap shortens it.",
@@ -277,11 +290,15 @@ GIVEN = {
     ),
     "two-squares-gap": (
         "Two squares that touch, although their gap is 1.",
-        [(0, 0, 0, 0), (0, 2, 0, 0)],
+        TOUCHING,
     ),
     "common-cut-outranked": (
         "Two squares that touch: held by a run from before coating came first.",
-        [(0, 0, 0, 0), (0, 2, 0, 0)],
+        TOUCHING,
+    ),
+    "no-class": (
+        "Two squares that touch: held by a run from before pieces in no class took a gap.",
+        TOUCHING,
     ),
 }
 
@@ -295,7 +312,9 @@ is no part of a job: the C example takes one behind the job's name. Outlines, wh
 Gaps are those of a round cutter. Measured as a square, as document 01 had it, `round-gap` would be 9 long,
 `round-gap-slanting` 15 and `carried-shortened` 16; no other job here would have another output. And a common cut is the
 best-ranked class of both pieces. If any marked class that they share would do, as before request 8/13 of document 02,
-`common-cut-outranked` would be 4 long and `common-cut-outranked-by-one` 6; no other would have another output.
+`common-cut-outranked` would be 4 long and `common-cut-outranked-by-one` 6; no other would have another output. A piece
+in no class takes the largest gap in the class list. If it had none, as before request 9/13, `any-order` would be 12 long,
+`no-class` 4 and `no-class-beside-common-cut` 4; no other would have another output.
 
 `NAME.saved`, for five of them, is the job as the engine saves it: board, classes by rising id, types, trailer.
 `make.py` puts it together from the job's description alone. `classes-one-order` and `classes-other-order` are saved

@@ -68,8 +68,25 @@ fn free_id(job: &Job) -> Option<u8> {
 /// One that no type names.
 fn add_class(noise: &mut Noise, job: &mut Job) {
     let Some(id) = free_id(job) else { return };
-    job.classes.push(Class { id, rank: noise.byte(), gap: 1, marked: noise.one_in(2) });
+    put_class(job, Class { id, rank: noise.byte(), gap: 1, marked: noise.one_in(2) });
+}
+
+fn put_class(job: &mut Job, class: Class) {
+    job.classes.push(class);
     job.classes.sort_by_key(|class| class.id);
+}
+
+/// The types in no class as fillers: in a class of gap 0 that is added for them, with the last rank that is free.
+/// Nothing if there are no such types, or as many classes as may be.
+pub fn with_fillers(job: &Job) -> Option<Job> {
+    let rank = (0..=255).rev().find(|&rank| job.classes.iter().all(|class| class.rank != rank))?;
+    let class = Class { id: free_id(job)?, rank, gap: 0, marked: false };
+    let mut filled = job.clone();
+    for kind in filled.types.iter_mut().filter(|kind| kind.class_mask == 0) {
+        kind.class_mask = 1 << class.id;
+    }
+    put_class(&mut filled, class);
+    (filled.types != job.types).then_some(filled)
 }
 
 /// One that no type names.

@@ -19,17 +19,18 @@ pub struct Made {
 }
 
 pub fn make(noise: &mut Noise) -> Made {
-    match noise.below(33) {
-        0..=5 => sound(noise, small_draft, usual_margin),
-        6 => sound(noise, narrow_draft, margin_past_a_side),
-        7 => sound(noise, roomy_draft, usual_margin),
-        8..=9 => sound(noise, crowded_draft, usual_margin),
-        10 => sound(noise, large_draft, usual_margin),
-        11..=16 => sound(noise, common_cut_draft, usual_margin),
-        17..=21 => sound(noise, round_gap_draft, seldom_a_margin),
-        22..=23 => sound(noise, strip_draft, seldom_a_margin),
-        24..=28 => spoilt(noise),
-        29..=31 => spoilt_twice(noise),
+    match noise.below(38) {
+        0..=4 => sound(noise, small_draft, usual_margin),
+        5 => sound(noise, narrow_draft, margin_past_a_side),
+        6 => sound(noise, roomy_draft, usual_margin),
+        7..=8 => sound(noise, crowded_draft, usual_margin),
+        9 => sound(noise, large_draft, usual_margin),
+        10..=16 => sound(noise, common_cut_draft, usual_margin),
+        17..=21 => sound(noise, no_class_draft, usual_margin),
+        22..=26 => sound(noise, round_gap_draft, seldom_a_margin),
+        27..=28 => sound(noise, strip_draft, seldom_a_margin),
+        29..=33 => spoilt(noise),
+        34..=36 => spoilt_twice(noise),
         _ => hit_at_random(noise),
     }
 }
@@ -158,27 +159,34 @@ pub fn narrow_draft(noise: &mut Noise) -> Draft {
     draft
 }
 
-/// Many small pieces on a small board: long walks with much to look ahead at.
+/// Many small pieces on a small board, most of them fillers if there are classes: long walks, much to look ahead at.
 pub fn crowded_draft(noise: &mut Noise) -> Draft {
     let (width, length) = (noise.between(1, 4) as u16, noise.between(2, 9) as u16);
     let mut draft = Draft::new(width, length, 1);
     draft.classes = random_classes(noise, 1);
+    let fillers = class_of_fillers(noise, &mut draft.classes);
     let kinds = noise.between(1, 4);
     for _ in 0..kinds {
-        let size = noise.between(1, 2);
-        let mut kind = random_type(noise, size, |noise, size| vec![random_part(noise, size, 0, 0)]);
+        let mut kind = small_type(noise);
         kind.demand = noise.between(1, 12 / kinds) as u8;
-        kind.class_mask = if noise.one_in(3) { random_mask(noise, &draft.classes) } else { 0 };
+        kind.class_mask = if noise.one_in(3) { random_mask(noise, &draft.classes) } else { fillers };
         draft.types.push(kind);
     }
     draft
 }
 
+/// One of the classes, if there are any, gets a gap of 0. Gives the mask that names it.
+fn class_of_fillers(noise: &mut Noise, classes: &mut [[u8; 3]]) -> u8 {
+    let hit = noise.below(classes.len().max(1));
+    let Some(class) = classes.get_mut(hit) else { return 0 };
+    class[2] &= MARK_OF_A_CUT;
+    1 << class[0]
+}
+
 /// One type of several copies, or two types, on a board where a gap soon takes too much room. Which classes are marked,
 /// and which of them each type names, is picked from a list; ids, gaps and the order of the classes fall as they may.
 pub fn common_cut_draft(noise: &mut Noise) -> Draft {
-    let (width, length) = (noise.between(1, 3) as u16, noise.between(4, 9) as u16);
-    let mut draft = Draft::new(width, length, 1);
+    let mut draft = tight_sheet(noise);
     let Cuts { marked, mut named } = noise.pick(&CUTS);
     let mut classes = ids_and_ranks(noise, 4);
     classes.sort_unstable_by_key(|&[_, rank]| rank);
@@ -186,13 +194,46 @@ pub fn common_cut_draft(noise: &mut Noise) -> Draft {
     noise.shuffle(&mut named);
     let kinds = noise.pick(&[1, 2, 2, 2, 2]);
     for places in &named[..kinds] {
-        let size = noise.between(1, 2);
-        let mut kind = random_type(noise, size, |noise, size| vec![random_part(noise, size, 0, 0)]);
-        kind.demand = if kinds == 1 { noise.between(2, 3) } else { noise.between(1, 2) } as u8;
+        let mut kind = small_type(noise);
+        kind.demand = few_copies(noise, kinds);
         kind.class_mask = places.iter().fold(0, |mask, &place| mask | 1 << classes[place][0]);
         draft.types.push(kind);
     }
     noise.shuffle(&mut draft.classes);
+    draft
+}
+
+/// On which a gap soon takes too much room.
+fn tight_sheet(noise: &mut Noise) -> Draft {
+    let (width, length) = (noise.between(1, 3) as u16, noise.between(4, 9) as u16);
+    Draft::new(width, length, 1)
+}
+
+/// Several of a type that is alone.
+fn few_copies(noise: &mut Noise, kinds: usize) -> u8 {
+    (if kinds == 1 { noise.between(2, 3) } else { noise.between(1, 2) }) as u8
+}
+
+/// A type in no class, alone or beside others that are in one class or in none, on such a board. Which class has the
+/// largest gap, whether it is marked, whether a type names it, and where it stands by rank, by id and in the file, all
+/// that falls as it may. In half of the jobs one of several classes is for fillers.
+pub fn no_class_draft(noise: &mut Noise) -> Draft {
+    let mut draft = tight_sheet(noise);
+    let count = noise.pick(&[1, 2, 3, 3, 4, 6]);
+    for class in ids_and_ranks(noise, count) {
+        let marked = noise.one_in(2);
+        draft.classes.push(cut_class(noise, class, marked));
+    }
+    let fillers = if count > 1 && noise.one_in(2) { class_of_fillers(noise, &mut draft.classes) } else { 0 };
+    let kinds = noise.pick(&[1, 2, 2, 3, 3]);
+    for place in 0..kinds {
+        let mut kind = small_type(noise);
+        kind.demand = few_copies(noise, kinds);
+        let some_class = 1 << noise.pick(&draft.classes)[0];
+        kind.class_mask = if place == 0 { 0 } else { noise.pick(&[0, 0, some_class, some_class, fillers]) };
+        draft.types.push(kind);
+    }
+    noise.shuffle(&mut draft.types);
     draft
 }
 
@@ -319,6 +360,12 @@ fn random_mask(noise: &mut Noise, classes: &[[u8; 3]]) -> u8 {
 fn random_type(noise: &mut Noise, size: i64, parts: fn(&mut Noise, i64) -> Vec<DraftPart>) -> DraftType {
     let turn_mask = noise.pick(&[1, 1, 2, 3, 4, 5, 8, 10, 15, 15]);
     DraftType { demand: 1, turn_mask, class_mask: 0, parts: parts(noise, size) }
+}
+
+/// A small one of one part.
+fn small_type(noise: &mut Noise) -> DraftType {
+    let size = noise.between(1, 2);
+    random_type(noise, size, |noise, size| vec![random_part(noise, size, 0, 0)])
 }
 
 fn several_parts(noise: &mut Noise, size: i64) -> Vec<DraftPart> {

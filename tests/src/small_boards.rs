@@ -1,10 +1,12 @@
 //! The section "Small boards" of document 01, marked and unmarked, with what it says of each, or document 02 after it;
-//! and small boards that are refused, under a margin, of common cut, of the round gap, saved and begun from a given layout,
-//! with what documents 01 and 02 make of them, worked out by hand (but for the bytes of the largest content, which the
-//! encoder of the drafts puts together).
+//! and small boards that are refused, under a margin, of common cut, of types in no class, of the round gap, saved and
+//! begun from a given layout, with what documents 01 and 02 make of them, worked out by hand (but for the bytes of the
+//! largest content, which the encoder of the drafts puts together).
 
 mod common_cut;
 mod given;
+mod no_class;
+mod pairs;
 mod round_gap;
 
 use crate::draft::{encode, Arrangement, Draft};
@@ -94,6 +96,7 @@ pub fn small_boards() -> Vec<SmallBoard> {
     boards.extend(boards_refused());
     boards.extend(boards_under_a_margin());
     boards.extend(common_cut::boards_of_common_cut());
+    boards.extend(no_class::boards_of_no_class());
     boards.extend(boards_of_gap_bytes());
     boards.extend(round_gap::boards_of_the_round_gap());
     boards.extend(boards_saved());
@@ -300,7 +303,8 @@ fn boards_saved_in_order() -> Vec<SmallBoard> {
         board(
             "three classes that no type names",
             Draft::new(2, 4, 1).classes(&[[5, 200, 191], [2, 7, 63], [0, 9, 128]]).with(2, 1, 0, &[SQUARE]),
-            vec![saves(&three_classes.concat())],
+            // The squares are to be 63 apart, and the first is tried on each of the three columns.
+            vec![saves(&three_classes.concat()), run(u32::MAX, "none 3\n")],
         ),
     ]
 }

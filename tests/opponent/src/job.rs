@@ -1,6 +1,7 @@
 //! The job's bytes, read into fixed arrays without a heap.
 
 use crate::mistaken_cut;
+use crate::mistaken_default;
 use crate::mutant;
 
 #[derive(Clone, Copy, Default, Debug)]
@@ -34,6 +35,8 @@ pub struct Job {
     pub classes: [[u8; 3]; 8],
     /// The ids of those that are marked as common cut, as a mask.
     pub cuts: u8,
+    /// The largest of all gaps, which types in no class take.
+    pub largest_gap: i32,
     pub kind_count: usize,
     pub kinds: [Kind; 8],
     pub pieces: usize,
@@ -80,14 +83,18 @@ pub fn read_records(job: &mut Job, bytes: &[u8]) -> Result<(), u8> {
     }
     let sections = sections(t);
     check_sections(&sections, end)?;
-    read_board(job, &bytes[sections[0].0..])?;
-    read_classes(job, &bytes[sections[1].0..sections[1].0 + sections[1].1])?;
-    let list = &bytes[sections[2].0..sections[2].0 + sections[2].1];
+    let [board, classes, list] = sections.map(|(at, length)| &bytes[at..at + length]);
+    read_board(job, board)?;
+    read_classes(job, classes)?;
     if mutant::is("seven_before_six") {
         // Judges each part as it comes.
         read_kinds(job, list, t[9] as usize, true)?;
     }
-    read_kinds(job, list, t[9] as usize, false)
+    read_kinds(job, list, t[9] as usize, false)?;
+    if !mutant::none() {
+        mistaken_default::spoil(job, classes);
+    }
+    Ok(())
 }
 
 fn check_sections(sections: &[(usize, usize); 3], end: usize) -> Result<(), u8> {
@@ -144,6 +151,7 @@ fn read_classes(job: &mut Job, list: &[u8]) -> Result<(), u8> {
         ranks[rank as usize / 64] |= 1 << (rank % 64);
         let (gap, mark) = gap_and_mark(byte);
         job.classes[job.class_count] = [id, rank, gap];
+        job.largest_gap = job.largest_gap.max(gap.into());
         // A mistake: the place in the list in the place of the id.
         job.cuts |= mark << if mutant::is("marked_by_place") { job.class_count } else { id.into() };
         job.class_count += 1;
@@ -178,7 +186,7 @@ fn gap_and_mark(byte: u8) -> (u8, u8) {
 
 /// A type of these four fields, with its parts still to be read.
 fn kind_of(job: &Job, head: &[u8]) -> Kind {
-    let (best, gap) = best_ranked(job, head[2]);
+    let (best, gap) = if head[2] == 0 { (0, job.largest_gap) } else { best_ranked(job, head[2]) };
     Kind {
         demand: head[0] as usize,
         turns: head[1],

@@ -9,6 +9,7 @@ pub mod geometry;
 pub mod job;
 mod mistaken;
 mod mistaken_cut;
+pub mod mistaken_default;
 pub mod mutant;
 mod outline;
 pub mod rows;

@@ -2,7 +2,11 @@
 //! together, and what gap the others get.
 
 use crate::job::Job;
+use crate::mistaken_default;
 use crate::mutant;
+
+/// Every class.
+pub const ALL: u8 = 255;
 
 /// The classes that count as the cut of a type with this mask, whose best-ranked class is given.
 pub fn of_type(job: &Job, mask: u8, best: u8) -> u8 {
@@ -21,7 +25,7 @@ pub fn of_type(job: &Job, mask: u8, best: u8) -> u8 {
         ("gap_0_outranks_nothing", marked & least(job, mask & (marked | with_a_gap(job)), rank)),
         // Another class than the best-ranked.
         ("cut_of_the_worst_rank", marked & least(job, mask, |class| -rank(class))),
-        ("cut_of_the_largest_gap", marked & least(job, mask, |[_, _, gap]| -i32::from(gap))),
+        ("cut_of_the_largest_gap", marked & largest(job, mask)),
         ("cut_of_the_lowest_id", marked & least(job, mask, |[id, ..]| id.into())),
         ("cut_of_the_highest_id", marked & highest_id),
         // The mark of another class, or of none.
@@ -34,12 +38,17 @@ pub fn of_type(job: &Job, mask: u8, best: u8) -> u8 {
         ("class_0_never_cut", right & !1),
         ("class_7_never_cut", right & !(1 << 7)),
         ("no_class_as_class_0", if mask == 0 { marked & 1 } else { right }),
+        ("no_class_as_every_class", if mask == 0 { marked & least(job, ALL, rank) } else { right }),
+        ("no_class_as_the_largest_gap", if mask == 0 { marked & largest(job, ALL) } else { right }),
     ];
-    chosen(&mistakes).unwrap_or(right)
+    mutant::among(&mistakes).unwrap_or(right)
 }
 
 /// Of a pair of types, under a margin.
 pub fn pair_gap(job: &Job, kind: usize, other: usize, margin: i32) -> i32 {
+    if let Some(mistaken) = mistaken_default::pair_gap(job, kind, other) {
+        return mistaken;
+    }
     if cut_together(job, kind, other) {
         return 0;
     }
@@ -51,11 +60,11 @@ pub fn pair_gap(job: &Job, kind: usize, other: usize, margin: i32) -> i32 {
         ("outranked_cut_smaller_gap", a.gap.min(b.gap)),
         ("outranked_cut_own_gap", gap_of(job, least(job, shared, rank))),
         ("outranked_cut_gap_of_the_better_rank", gap_of(job, least(job, of_both, rank))),
-        ("outranked_cut_largest_gap", gap_of(job, least(job, of_both, |[_, _, gap]| -i32::from(gap)))),
+        ("outranked_cut_largest_gap", gap_of(job, largest(job, of_both))),
     ];
-    let mistaken = chosen(&outranked).filter(|_| shared != 0);
+    let mistaken = mutant::among(&outranked).filter(|_| shared != 0);
     let others = [("smaller_pair_gap", a.gap.min(b.gap)), ("margin_in_the_gap", a.gap.max(b.gap) + margin)];
-    mistaken.or(chosen(&others)).unwrap_or(a.gap.max(b.gap))
+    mistaken.or(mutant::among(&others)).unwrap_or(a.gap.max(b.gap))
 }
 
 fn cut_together(job: &Job, kind: usize, other: usize) -> bool {
@@ -83,22 +92,22 @@ fn cut_together(job: &Job, kind: usize, other: usize) -> bool {
         ("copies_without_rank", right || kind == other && job.cuts & shared != 0),
         ("types_without_rank", right || kind != other && job.cuts & shared != 0),
     ];
-    chosen(&mistakes).unwrap_or(right)
+    mutant::among(&mistakes).unwrap_or(right)
 }
 
-/// What the mistake that is to be made has in the place of the right thing, if it is one of these.
-fn chosen<T: Copy>(mistakes: &[(&str, T)]) -> Option<T> {
-    mistakes.iter().find(|(name, _)| mutant::is(name)).map(|&(_, mistaken)| mistaken)
-}
-
-fn rank([_, rank, _]: [u8; 3]) -> i32 {
+pub fn rank([_, rank, _]: [u8; 3]) -> i32 {
     rank.into()
 }
 
 /// The class of the mask with the least number, as a mask of that one; none for none.
-fn least(job: &Job, mask: u8, number: impl Fn([u8; 3]) -> i32) -> u8 {
+pub fn least(job: &Job, mask: u8, number: impl Fn([u8; 3]) -> i32) -> u8 {
     let named = job.classes[..job.class_count].iter().filter(|[id, ..]| mask >> id & 1 == 1);
     named.min_by_key(|&&class| number(class)).map_or(0, |[id, ..]| 1 << id)
+}
+
+/// The class of the mask with the largest gap, likewise.
+pub fn largest(job: &Job, mask: u8) -> u8 {
+    least(job, mask, |[_, _, gap]| -i32::from(gap))
 }
 
 /// The marked classes of the mask that no unmarked one of it comes before.
@@ -109,7 +118,7 @@ fn marked_before_unmarked(job: &Job, mask: u8) -> u8 {
 }
 
 /// The gap of the class of a mask of one.
-fn gap_of(job: &Job, class: u8) -> i32 {
+pub fn gap_of(job: &Job, class: u8) -> i32 {
     job.classes[..job.class_count].iter().find(|[id, ..]| class >> id & 1 == 1).map_or(0, |&[_, _, gap]| gap.into())
 }
 

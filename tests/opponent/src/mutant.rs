@@ -134,6 +134,8 @@ pub const NAMES: &[&str] = &[
     "class_0_never_cut",
     "class_7_never_cut",
     "no_class_as_class_0",
+    "no_class_as_every_class",
+    "no_class_as_the_largest_gap",
     // Common cut: what the two of a pair have to have in common, and the gap of those that have less.
     "mark_of_one_piece_suffices",
     "best_of_the_first_suffices",
@@ -154,6 +156,48 @@ pub const NAMES: &[&str] = &[
     "outranked_cut_own_gap",
     "outranked_cut_gap_of_the_better_rank",
     "outranked_cut_largest_gap",
+    // Types in no class: whose gap they take.
+    "default_0",
+    "default_63",
+    "default_1_without_classes",
+    "default_of_all_together",
+    "default_of_named_classes",
+    "default_of_the_smallest_gap",
+    "default_of_the_best_rank",
+    "default_of_the_worst_rank",
+    "default_of_the_lowest_id",
+    "default_of_the_highest_id",
+    "default_of_the_first_class",
+    "default_of_the_last_class",
+    "default_without_the_first_class",
+    "default_without_the_last_class",
+    "default_without_id_0",
+    "default_without_id_7",
+    "default_without_gap_63",
+    "default_of_unmarked_classes",
+    "default_of_marked_classes",
+    "default_of_the_largest_gap_byte",
+    "default_with_its_mark",
+    // Types in no class: which types take that gap, between which pieces, each service by itself, what read gives.
+    "default_of_the_first_type_alone",
+    "default_only_beside_classed_types",
+    "default_only_without_classed_types",
+    "default_as_the_least_gap",
+    "gap_0_as_no_class",
+    "default_only_beside_a_class",
+    "default_only_beside_no_class",
+    "default_not_between_copies",
+    "default_only_between_copies",
+    "default_of_the_first_piece_alone",
+    "default_of_the_second_piece_alone",
+    "default_and_the_other_gap",
+    "default_or_a_smaller_gap",
+    "copies_in_no_class_share_the_largest_cut",
+    "types_in_no_class_share_the_largest_cut",
+    "row_without_default",
+    "check_without_default",
+    "run_without_default",
+    "read_no_class_as_the_largest_gap",
     // The gap of a round cutter: what is measured, from which corners to which edges, and how it is compared.
     "square_gap",
     "row_with_square_gap",
@@ -203,6 +247,7 @@ pub const NAMES: &[&str] = &[
     "save_without_mark",
     "save_mark_of_64",
     "save_marked_gap_0",
+    "save_no_class_as_the_largest_gap",
     "save_types_by_rising_demand",
     "save_without_the_last_type",
     "save_sides_exchanged",
@@ -233,6 +278,7 @@ pub const NAMES: &[&str] = &[
     "given_unclamped",
     "given_with_square_gap",
     "given_with_unranked_cut",
+    "given_without_default",
     "given_byte_as_none",
     "given_incomplete_number_counted",
     "given_longer_taken",
@@ -334,6 +380,11 @@ pub fn is(name: &str) -> bool {
 #[cfg(feature = "mutants")]
 pub fn none() -> bool {
     chosen().is_empty()
+}
+
+/// What the mistake that is to be made has in the place of the right thing, if it is one of these.
+pub fn among<T: Copy>(mistakes: &[(&str, T)]) -> Option<T> {
+    mistakes.iter().find(|(name, _)| is(name)).map(|&(_, mistaken)| mistaken)
 }
 
 /// The name of the mistake to make, empty for none.

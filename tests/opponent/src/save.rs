@@ -3,6 +3,7 @@
 use std::borrow::Cow;
 
 use crate::job::{read, read_records, sections, Job, Kind};
+use crate::mistaken_default::told_classes;
 use crate::mutant;
 
 const TRAILER: usize = 14;
@@ -148,18 +149,21 @@ fn gap_byte(gap: u8, mark: u8) -> u8 {
     }
 }
 
-/// The type list, as it is. The mistakes: by rising demand, or without its last record.
+/// The type list, as it is. The mistakes: with a class for types in none, by rising demand, or without its last record.
 fn type_list<'a>(content: &Job, list: &'a [u8]) -> Cow<'a, [u8]> {
-    let by_demand = mutant::is("save_types_by_rising_demand");
-    if !by_demand && !mutant::is("save_without_the_last_type") {
+    if mutant::none() {
         return Cow::Borrowed(list);
     }
     let mut rest = list;
     let kinds = content.kinds[..content.kind_count].iter();
-    let mut records: Vec<&[u8]> = kinds.map(|kind| rest.split_off(..record_length(kind)).expect("a record")).collect();
-    if by_demand {
+    let mut records: Vec<Vec<u8>> =
+        kinds.map(|kind| rest.split_off(..record_length(kind)).expect("a record").to_vec()).collect();
+    for record in &mut records {
+        record[2] = told_classes(content, record[2], "save_no_class_as_the_largest_gap");
+    }
+    if mutant::is("save_types_by_rising_demand") {
         records.sort_by_key(|record| record[0]);
-    } else {
+    } else if mutant::is("save_without_the_last_type") {
         records.pop();
     }
     Cow::Owned(records.concat())

@@ -260,7 +260,7 @@ fn dot_for(noise: &mut Noise, low: i64, high: i64, step: i64, side: i64) -> i64 
     noise.pick(&near)
 }
 
-/// The gap is that of both, or of one of them while the other has none or a smaller one.
+/// The gap is that of both, of which one may be in no class, or of one of them while the other has a smaller one.
 fn in_classes(noise: &mut Noise, draft: &mut Draft, gap: u8) {
     let classes = ids_and_ranks(noise, 2);
     let gaps = [gap, noise.between(0, gap.into()) as u8];

@@ -145,22 +145,35 @@ impl Job {
         self.classes_of(kind).min_by_key(|c| c.rank)
     }
 
-    /// The gap of the best-ranked class, 0 if the type has no class.
+    /// The gap of the best-ranked class; a type with no class takes the largest gap in the job's class list.
     fn gap(&self, kind: usize) -> i64 {
-        self.best_ranked(kind).map_or(0, |c| c.gap.into())
+        self.best_ranked(kind).map_or(self.largest_gap(), |c| c.gap.into())
+    }
+
+    /// Of all classes, whether or not a type names them; 0 if there are none.
+    pub fn largest_gap(&self) -> i64 {
+        self.classes.iter().map(|c| c.gap.into()).max().unwrap_or(0)
     }
 
     pub fn larger_gap(&self, one: usize, other: usize) -> i64 {
         self.gap(one).max(self.gap(other))
     }
 
-    /// The rank is applied first: 0 where both have the same best-ranked class and it is marked, as two copies of one
-    /// type may; otherwise the larger of the two gaps.
-    pub fn pair_gap(&self, one: usize, other: usize) -> i64 {
+    /// The rank is applied first: both have the same best-ranked class and it is marked, as two copies of one type may.
+    /// A type with no class has none that is best-ranked, whichever gap it takes.
+    pub fn cut_together(&self, one: usize, other: usize) -> bool {
         match (self.best_ranked(one), self.best_ranked(other)) {
-            (Some(first), Some(second)) if first.id == second.id && first.marked => 0,
-            _ => self.larger_gap(one, other),
+            (Some(first), Some(second)) => first.id == second.id && first.marked,
+            _ => false,
         }
+    }
+
+    /// 0 for a common cut, otherwise the larger of the two gaps.
+    pub fn pair_gap(&self, one: usize, other: usize) -> i64 {
+        if self.cut_together(one, other) {
+            return 0;
+        }
+        self.larger_gap(one, other)
     }
 }
 

@@ -6,6 +6,7 @@ pub mod cutting;
 pub mod exhaustive;
 pub mod geometry;
 pub mod layout;
+pub mod no_default;
 pub mod print;
 pub mod reader;
 pub mod services;

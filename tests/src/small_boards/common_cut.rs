@@ -1,6 +1,6 @@
-//! Boards of common cut, worked out by hand. On W 2 squares stand in one row. Two that are to be a gap apart nest with the
-//! second 2 + gap columns behind the first, in two steps; the first is then tried on the 1 + gap columns between them.
+//! Boards of common cut, worked out by hand, mostly of two squares in one row as in `pairs`.
 
+use super::pairs::{at_gap_0, at_gap_2, at_gap_3, copies, copies_at_gap_3, two_types};
 use super::*;
 
 pub fn boards_of_common_cut() -> Vec<SmallBoard> {
@@ -18,7 +18,7 @@ const OUTRANKED: [[u8; 3]; 2] = [[0, 1, 3], [2, 9, 129]];
 
 /// Two squares of one type: its best-ranked class is that of both.
 fn boards_of_copies() -> Vec<SmallBoard> {
-    let in_both = |classes: &[[u8; 3]]| Draft::new(2, 4, 1).classes(classes).with(2, 1, 0b101, &[SQUARE]);
+    let in_both = |classes: &[[u8; 3]]| copies(4, classes, 0b101);
     vec![
         board("common cut, L 4", squares_with_gap(2, 4, 129), as_printed()),
         board("common cut, L 3", squares_with_gap(2, 3, 129), vec![run(u32::MAX, "none 2\n")]),
@@ -44,55 +44,12 @@ fn boards_of_copies() -> Vec<SmallBoard> {
 fn boards_of_outranked_copies() -> Vec<SmallBoard> {
     let on = |width, length| Draft::new(width, length, 1).classes(&OUTRANKED).with(2, 1, 0b101, &[SQUARE]);
     vec![
-        board(
-            "common cut behind a better-ranked class, L 7",
-            on(2, 7),
-            vec![
-                run(u32::MAX, "shortest 7 6\n0 0 0 0\n0 5 0 0\n"),
-                run(2, "stopped 7 2\n0 0 0 0\n0 5 0 0\n"),
-                check(&[0, 0, 0, 0, 0, 5, 0, 0], Ok(7)),
-                check(&[0, 0, 0, 0, 0, 4, 0, 0], Err(11)),
-                check(TOUCHING, Err(11)),
-                conflict((0, 0), (5, 0), false),
-                conflict((0, 0), (4, 0), true),
-                conflict((0, 0), (2, 0), true),
-            ],
-        ),
+        board("common cut behind a better-ranked class, L 7", on(2, 7), copies_at_gap_3()),
         // The first square is tried on each of the five columns.
         board("the same, L 6", on(2, 6), vec![run(u32::MAX, "none 5\n")]),
         // What is left between the clamps is as large as W 2, L 7.
         board("the same, margin 1", on(4, 9), vec![run_under(1, "shortest 9 6\n0 1 1 0\n0 6 1 0\n")]),
     ]
-}
-
-/// A square each of two types, whose masks name these of the classes.
-fn two_types(length: u16, classes: &[[u8; 3]], masks: [u8; 2]) -> Draft {
-    let [one, other] = masks;
-    Draft::new(2, length, 1).classes(classes).with(1, 1, one, &[SQUARE]).with(1, 1, other, &[SQUARE])
-}
-
-/// What holds of them if they nest with the second on this column, as in the first layout, and may be no nearer, as they
-/// are in the other.
-fn nested_at(column: usize, printed: &'static str, layouts: [&'static [u16]; 2]) -> Vec<Claim> {
-    let [first, too_near] = layouts;
-    let mut claims = vec![run(u32::MAX, printed), check(first, Ok(column as u16 + 2)), check(too_near, Err(11))];
-    for types in [(0, 1), (1, 0)] {
-        let on = |column, holds| conflict_of(types, (0, 0), (column, 0), holds);
-        claims.extend([on(column, false), on(column - 1, true)]);
-    }
-    claims
-}
-
-fn at_gap_0() -> Vec<Claim> {
-    nested_at(2, "shortest 4 3\n0 0 0 0\n1 2 0 0\n", [&[0, 0, 0, 0, 1, 2, 0, 0], &[0, 0, 0, 0, 1, 1, 0, 0]])
-}
-
-fn at_gap_2() -> Vec<Claim> {
-    nested_at(4, "shortest 6 5\n0 0 0 0\n1 4 0 0\n", [&[0, 0, 0, 0, 1, 4, 0, 0], &[0, 0, 0, 0, 1, 3, 0, 0]])
-}
-
-fn at_gap_3() -> Vec<Claim> {
-    nested_at(5, "shortest 7 6\n0 0 0 0\n1 5 0 0\n", [&[0, 0, 0, 0, 1, 5, 0, 0], &[0, 0, 0, 0, 1, 4, 0, 0]])
 }
 
 /// Where the best-ranked class of both is one and marked, whatever is behind it, the squares touch.
@@ -149,7 +106,7 @@ fn boards_without_a_shared_cut() -> Vec<SmallBoard> {
         apart("a cut each", &[[0, 5, 129], [1, 7, 130]], [0b01, 0b10]),
         apart("a cut each, of one gap", &[[0, 5, 130], [1, 7, 130]], [0b01, 0b10]),
         apart("a cut of one, a class of both", &[[0, 5, 130], [1, 9, 0]], [0b11, 0b10]),
-        apart("a cut behind the class that counts", &[[0, 9, 131], [1, 5, 2]], [0b11, 0]),
+        apart("a cut behind the class that counts", &[[0, 9, 131], [1, 5, 2], [2, 7, 0]], [0b011, 0b100]),
         apart("a cut of each behind a class of both", &[[0, 5, 2], [1, 7, 131], [2, 9, 129]], [0b011, 0b101]),
     ]
 }

@@ -1,6 +1,7 @@
 //! Boards of runs that begin from a given layout, worked out by hand. A square is 2 by 2, so that from column c it reaches
 //! to c + 2; a given layout is a bound from the beginning, below which every candidate has to stay.
 
+use super::pairs::copies;
 use super::*;
 use crate::reference::services::bytes_of;
 
@@ -13,7 +14,7 @@ pub fn boards_with_a_given_layout() -> Vec<SmallBoard> {
     boards.extend(boards_with_equal_lengths());
     boards.push(board_under_a_margin());
     boards.extend(boards_made_by_squares());
-    boards.extend(boards_made_without_ranks());
+    boards.extend(boards_made_with_less_room());
     boards.extend(boards_of_unfit_layouts());
     boards
 }
@@ -163,27 +164,26 @@ fn boards_made_by_squares() -> Vec<SmallBoard> {
     ]
 }
 
-/// What runs held while any shared common cut was enough to touch: in a class of gap 3 and a cut, of which one is ranked
-/// first.
-fn boards_made_without_ranks() -> Vec<SmallBoard> {
-    let in_both = |length, classes: &[[u8; 3]]| Draft::new(2, length, 1).classes(classes).with(2, 1, 0b101, &[SQUARE]);
+/// Two squares that touch, as runs held them by rules of before, and whether they still may.
+fn boards_made_with_less_room() -> Vec<SmallBoard> {
     let three_along = &[0, 0, 0, 0, 0, 5, 0, 0];
+    // Below 7 the first square is tried on the columns 0 to 4.
+    let now_apart = |name, classes: &[[u8; 3]], mask| {
+        let kept = begun(three_along, u32::MAX, "shortest 7 5\n0 0 0 0\n0 5 0 0\n");
+        board(name, copies(7, classes, mask), vec![begun(TOUCHING, u32::MAX, "refused 11\n"), kept])
+    };
+    // As on W 2, L 5 without a gap.
+    let still_touching = |name, classes: &[[u8; 3]], mask| {
+        let kept = begun(TOUCHING, u32::MAX, "shortest 4 2\n0 0 0 0\n0 2 0 0\n");
+        board(name, copies(5, classes, mask), vec![kept, begun(APART, u32::MAX, NESTED)])
+    };
     vec![
-        // Below 7 the first square is tried on the columns 0 to 4.
-        board(
-            "given, a cut behind a class",
-            in_both(7, &[[0, 1, 3], [2, 9, 129]]),
-            vec![
-                begun(TOUCHING, u32::MAX, "refused 11\n"),
-                begun(three_along, u32::MAX, "shortest 7 5\n0 0 0 0\n0 5 0 0\n"),
-            ],
-        ),
-        // As on W 2, L 5 without a gap.
-        board(
-            "given, a cut before a class",
-            in_both(5, &[[0, 9, 3], [2, 1, 129]]),
-            vec![begun(TOUCHING, u32::MAX, "shortest 4 2\n0 0 0 0\n0 2 0 0\n"), begun(APART, u32::MAX, NESTED)],
-        ),
+        // While any shared common cut was enough: in a class of gap 3 and a cut, of which one is ranked first.
+        now_apart("given, a cut behind a class", &[[0, 1, 3], [2, 9, 129]], 0b101),
+        still_touching("given, a cut before a class", &[[0, 9, 3], [2, 1, 129]], 0b101),
+        // While types in no class had no gap: still in none, or fillers now.
+        now_apart("given, in no class", &[[0, 1, 0], [2, 9, 3]], 0),
+        still_touching("given, fillers", &[[0, 1, 0], [2, 9, 3]], 0b001),
     ]
 }
 

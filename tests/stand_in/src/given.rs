@@ -5,7 +5,7 @@ use opponent::mutant;
 use opponent::rows::Board;
 use opponent::walk::{Outcome, Walk};
 
-use crate::{checked, refused, without_ranks, Layout};
+use crate::{by_an_earlier_rule, checked, refused, Layout};
 
 /// None where the buffer has no bytes; or what refuses it.
 pub fn layout(job: &Job, margin: i32, bytes: &[u8]) -> Result<Option<Layout>, u8> {
@@ -19,8 +19,8 @@ pub fn layout(job: &Job, margin: i32, bytes: &[u8]) -> Result<Option<Layout>, u8
     let more = bytes.len() > 8 * job.pieces && mutant::is("given_longer_taken");
     let bytes = if more { &bytes[..8 * job.pieces] } else { bytes };
     let clamps = if mutant::is("given_checked_without_margin") { 0 } else { margin };
-    let judged = if mutant::is("given_with_unranked_cut") { &without_ranks(*job) } else { job };
-    match checked(judged, clamps, bytes, ["given_unclamped", "given_with_square_gap"]) {
+    let judged = by_an_earlier_rule(*job, ["given_with_unranked_cut", "given_without_default"]);
+    match checked(&judged, clamps, bytes, ["given_unclamped", "given_with_square_gap"]) {
         Some((length, numbers)) => Ok(Some((known_length(job, margin, length + margin - clamps, &numbers), numbers))),
         None if mutant::is("given_not_checked") && bytes.len() == 8 * job.pieces => Ok(Some(unchecked(job, bytes))),
         None => Err(11),

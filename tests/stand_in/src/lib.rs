@@ -7,6 +7,7 @@ use std::slice;
 
 use opponent::cut::cut;
 use opponent::job::{read, Job};
+use opponent::mistaken_default::told_classes;
 use opponent::mutant;
 use opponent::rows::{place, Board, Rows};
 use opponent::save::save;
@@ -65,8 +66,8 @@ fn write_content(job: &Job, answer: &mut [u8]) -> u64 {
     }
     out.push(job.kind_count as i32);
     for kind in &job.kinds[..job.kind_count] {
-        let head = [kind.demand as i32, i32::from(kind.turns), i32::from(kind.classes), kind.part_count as i32];
-        out.extend(head);
+        let classes = told_classes(job, kind.classes, "read_no_class_as_the_largest_gap");
+        out.extend([kind.demand as i32, i32::from(kind.turns), i32::from(classes), kind.part_count as i32]);
         for part in &kind.parts[..kind.part_count] {
             out.push(part.corners as i32);
             for i in 0..part.corners {
@@ -111,22 +112,32 @@ fn spoil_odd_byte(buffer: &mut [u8]) {
 }
 
 /// The job of a service that takes a margin. The mistakes: the margin is judged first; with the first one named, the
-/// service knows nothing of marks, with the second it does not ask for ranks.
-fn read_under(job: &[u8], margin: u64, mistakes: [&str; 2]) -> Result<Job, u8> {
+/// service knows nothing of marks, with the second it does not ask for ranks, with the third it has no gap for types in
+/// no class.
+fn read_under(job: &[u8], margin: u64, mistakes: [&str; 3]) -> Result<Job, u8> {
     if mutant::is("thirteen_before_the_job") && accepted(margin).is_none() {
         return Err(13);
     }
     let mut job = read(job)?;
-    let [unmarked, unranked] = mistakes;
+    let [unmarked, unranked, no_default] = mistakes;
     if mutant::is(unmarked) {
         job.kinds.iter_mut().for_each(|kind| kind.cut = 0);
     }
-    Ok(if mutant::is(unranked) { without_ranks(job) } else { job })
+    Ok(by_an_earlier_rule(job, [unranked, no_default]))
 }
 
-/// For mistakes: every marked class of a type counts, as if it were the best-ranked.
-fn without_ranks(mut job: Job) -> Job {
-    job.kinds.iter_mut().for_each(|kind| kind.cut = job.cuts & kind.classes);
+/// The job as it is. The mistakes: every marked class of a type counts, as if it were the best-ranked; or types in no
+/// class have no gap.
+fn by_an_earlier_rule(mut job: Job, mistakes: [&str; 2]) -> Job {
+    let [unranked, no_default] = mistakes.map(mutant::is);
+    for kind in &mut job.kinds {
+        if unranked {
+            kind.cut = job.cuts & kind.classes;
+        }
+        if no_default && kind.classes == 0 {
+            kind.gap = 0;
+        }
+    }
     job
 }
 
@@ -181,7 +192,7 @@ pub unsafe extern "C" fn nest_row(
 ) -> u64 {
     let job = lent(job, job_len);
     let row = lent_mut(row, row_len);
-    match read_under(job, margin, ["row_without_common_cut", "row_with_unranked_cut"]) {
+    match read_under(job, margin, ["row_without_common_cut", "row_with_unranked_cut", "row_without_default"]) {
         Err(number) => refused(number),
         Ok(job) => write_row(&job, margin, kind, number, other, row),
     }
@@ -238,7 +249,7 @@ pub unsafe extern "C" fn nest_check(
 ) -> u64 {
     let job = lent(job, job_len);
     let layout = lent(layout, layout_len);
-    match read_under(job, margin, ["check_without_common_cut", "check_with_unranked_cut"]) {
+    match read_under(job, margin, ["check_without_common_cut", "check_with_unranked_cut", "check_without_default"]) {
         Err(number) => refused(number),
         Ok(job) => check(&job, margin, layout),
     }
@@ -322,7 +333,8 @@ pub unsafe extern "C" fn nest_run(
         // The byte past the lent ones.
         work.as_mut_ptr().add(work_len).write(0xA5);
     }
-    let result = match read_under(job, margin, ["run_without_common_cut", "run_with_unranked_cut"]) {
+    let mistakes = ["run_without_common_cut", "run_with_unranked_cut", "run_without_default"];
+    let result = match read_under(job, margin, mistakes) {
         Err(number) => refused(number),
         Ok(job) => run(&job, margin, budget, given, work, answer),
     };

@@ -21,12 +21,24 @@ fn named(name: String, draft: Draft) -> BenchJob {
     BenchJob { name, bytes: encode(&draft, &Arrangement::plain()).bytes, margin: 0 }
 }
 
+/// A class of gap 1, and one of gap 0 for fillers.
+const CLASSES: [[u8; 3]; 2] = [[0, 1, 1], [1, 0, 0]];
+
+/// Of three types one has the gap; the others are fillers, since in no class they would have it too.
+fn class_mask(kind: usize) -> u8 {
+    if kind % 3 == 1 {
+        1 << 0
+    } else {
+        1 << 1
+    }
+}
+
 /// A board of so many rows and columns, with so many types and pieces, in all four turns.
 fn grid(name: &str, rows: u16, columns: u16, types: usize, pieces: usize) -> BenchJob {
-    let mut draft = Draft::new(rows - 1, columns - 1, 1).classes(&[[0, 1, 1], [1, 0, 0]]);
+    let mut draft = Draft::new(rows - 1, columns - 1, 1).classes(&CLASSES);
     for kind in 0..types {
         let demand = pieces / types + usize::from(kind < pieces % types);
-        draft = draft.with(demand as u8, 15, (kind % 3) as u8, &[SHAPES[kind % SHAPES.len()]]);
+        draft = draft.with(demand as u8, 15, class_mask(kind), &[SHAPES[kind % SHAPES.len()]]);
     }
     named(format!("{name}: {}d {types}t {pieces}p", rows * columns), draft)
 }
@@ -63,12 +75,12 @@ fn gapped(gap: u8, scale: u8) -> BenchJob {
 
 /// Eight types in four turns on 1024 dots, each a third of the board long: far-reaching pieces.
 fn thirds() -> BenchJob {
-    let mut draft = Draft::new(31, 31, 1).classes(&[[0, 1, 1], [1, 0, 0]]);
+    let mut draft = Draft::new(31, 31, 1).classes(&CLASSES);
     for kind in 0..8 {
         let (length, height) = (10, 2 + (kind % 4) as i8);
         let cut = (kind / 4) as i8;
         let shape: &[(i8, i8)] = &[(0, 0), (length, cut), (length, height), (0, height - cut)];
-        draft = draft.with(if kind < 4 { 2 } else { 1 }, 15, (kind % 3) as u8, &[shape]);
+        draft = draft.with(if kind < 4 { 2 } else { 1 }, 15, class_mask(kind), &[shape]);
     }
     named("thirds: 1024d 8t 12p".into(), draft)
 }

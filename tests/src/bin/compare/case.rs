@@ -2,8 +2,10 @@
 
 use std::cell::OnceCell;
 
+use nest_tests::changes::with_fillers;
 use nest_tests::reference::board::{Board, PairGap, Piece};
 use nest_tests::reference::exhaustive::{how_many, passing_layouts};
+use nest_tests::reference::no_default;
 use nest_tests::reference::reader::read_job;
 use nest_tests::reference::services::{Clamped, Reading};
 use nest_tests::reference::square_gap;
@@ -25,9 +27,16 @@ pub struct Case {
     pub clamped: Clamped,
     /// Jobs of the same content in other bytes.
     pub twins: Vec<Twin>,
+    worked_out: WorkedOut,
+}
+
+/// What is worked out once, when it is first asked for.
+#[derive(Default)]
+struct WorkedOut {
     walked: OnceCell<Walked>,
-    walked_by_squares: OnceCell<Option<Walked>>,
-    walked_without_ranks: OnceCell<Option<Walked>>,
+    by_squares: OnceCell<Option<Walked>>,
+    without_ranks: OnceCell<Option<Walked>>,
+    without_default: OnceCell<Option<Walked>>,
     passing: OnceCell<Option<Vec<Vec<Piece>>>>,
 }
 
@@ -63,16 +72,28 @@ impl Case {
         Case::of(self.bytes.clone(), margin, self.reading.clone(), self.twins.clone())
     }
 
+    /// The job with its types in no class as fillers, if it has such types and may have a class more. What is expected of
+    /// it is what the job itself got before such types took a gap.
+    pub fn filled(&self) -> Option<Case> {
+        let job = &self.clamped.as_ref().ok()?.job;
+        let filled = with_fillers(job)?;
+        let before = Board::gapped(job.clone(), self.margin, no_default::pair_gap);
+        Some(Case::expecting(before, saved(&filled), self.margin, Ok(filled), vec![]))
+    }
+
     fn of(bytes: Vec<u8>, margin: u64, reading: Reading, twins: Vec<Twin>) -> Case {
         let clamped = reading.clone().and_then(|job| Board::new(job, margin));
-        let (walked, walked_by_squares, walked_without_ranks, passing) = Default::default();
-        Case { bytes, margin, reading, clamped, twins, walked, walked_by_squares, walked_without_ranks, passing }
+        Case::expecting(clamped, bytes, margin, reading, twins)
+    }
+
+    fn expecting(clamped: Clamped, bytes: Vec<u8>, margin: u64, reading: Reading, twins: Vec<Twin>) -> Case {
+        Case { bytes, margin, reading, clamped, twins, worked_out: WorkedOut::default() }
     }
 
     /// The walk, where nothing is refused; to its end, where it is short enough.
     pub fn walked(&self) -> Option<&Walked> {
         let board = self.clamped.as_ref().ok()?;
-        Some(self.walked.get_or_init(|| walked_far(board)))
+        Some(self.worked_out.walked.get_or_init(|| walked_far(board)))
     }
 
     /// The walk with the gap as a square, where some pair has a gap and the board is not large. Candidates are the same by
@@ -88,12 +109,17 @@ impl Case {
             let other = Board::measured(board.job.clone(), self.margin, square_gap::in_conflict);
             other.ok().map(|other| walked_far(&other))
         };
-        self.walked_by_squares.get_or_init(walked).as_ref()
+        self.worked_out.by_squares.get_or_init(walked).as_ref()
     }
 
     /// The walk with common cut as it was before the rank came first, where that gives some pair another gap.
     pub fn walked_without_ranks(&self) -> Option<&Walked> {
-        self.walked_without_ranks.get_or_init(|| self.walked_with(unranked_cut::pair_gap)).as_ref()
+        self.worked_out.without_ranks.get_or_init(|| self.walked_with(unranked_cut::pair_gap)).as_ref()
+    }
+
+    /// The walk as it was while types in no class had no gap, where that gives some pair another gap.
+    pub fn walked_without_default(&self) -> Option<&Walked> {
+        self.worked_out.without_default.get_or_init(|| self.walked_with(no_default::pair_gap)).as_ref()
     }
 
     /// The walk with these gaps, where some pair has another one than it should. Candidates are the same.
@@ -123,7 +149,7 @@ impl Case {
             return None;
         }
         let searched = || how_many(board, LAYOUTS_AT_MOST).map(|_| passing_layouts(board));
-        self.passing.get_or_init(searched).as_deref()
+        self.worked_out.passing.get_or_init(searched).as_deref()
     }
 }
 

@@ -1,12 +1,13 @@
 //! Runs that begin from a given layout: fit ones at every budget, unfit ones with room and without, and layouts made with
-//! the gap as a square, or before common cut asked for ranks; and what is counted of them.
+//! the gap as a square, before common cut asked for ranks, or while types in no class had no gap; and what of them is
+//! counted.
 
 use nest_tests::answer::{Answer, ENDED};
 use nest_tests::changes::other_contents;
 use nest_tests::reference::board::{Board, Piece};
 use nest_tests::reference::layout::{passing, to_numbers};
 use nest_tests::reference::services::{self, bytes_of, work_words};
-use nest_tests::reference::walk::walk;
+use nest_tests::reference::walk::{walk, Walked};
 
 use crate::carried;
 use crate::case::{is_large, Case};
@@ -33,12 +34,13 @@ const SHORT_ANSWER_TOO: &str = "runs from an unfit layout, with too few answer n
 const BY_SQUARES: &str = "layouts that were made with the gap as a square, taken over";
 const LONGER_BY_SQUARES: &str = "layouts that were made with the gap as a square, longer than the shortest now";
 const WITHOUT_RANKS: &str = "layouts that were made before common cut asked for ranks, and do not pass";
+const WITHOUT_DEFAULT: &str = "layouts that were made while types in no class had no gap, and do not pass";
 const FIT_ELSEWHERE: &str = "runs from a layout that was found under another margin, and passes";
 const UNFIT_ELSEWHERE: &str = "runs from a layout that was found under another margin, and does not pass";
 pub const SEARCHED: &str = "runs from a given layout compared with all layouts";
 
 /// All that is counted.
-pub const COUNTED: [&str; 16] = [
+pub const COUNTED: [&str; 17] = [
     KEPT,
     FIRST_ELSEWHERE,
     REPLACED,
@@ -51,6 +53,7 @@ pub const COUNTED: [&str; 16] = [
     BY_SQUARES,
     LONGER_BY_SQUARES,
     WITHOUT_RANKS,
+    WITHOUT_DEFAULT,
     FIT_ELSEWHERE,
     UNFIT_ELSEWHERE,
     SEARCHED,
@@ -91,7 +94,8 @@ impl Harness<'_> {
             self.runs_from(case, board, &layout);
         }
         self.layouts_by_squares(case, board);
-        self.layout_without_ranks(case, board);
+        self.layout_with_less_room(case, board, case.walked_without_ranks(), WITHOUT_RANKS);
+        self.layout_with_less_room(case, board, case.walked_without_default(), WITHOUT_DEFAULT);
         for layout in self.unfit_layouts(case, board) {
             self.short_run(case, &layout);
         }
@@ -220,12 +224,12 @@ impl Harness<'_> {
         self.runs_from(case, board, best);
     }
 
-    /// What a walk ends with where common cut does not ask for ranks: pieces may stand too near.
-    fn layout_without_ranks(&mut self, case: &Case, board: &Board) {
-        let Some(best) = case.walked_without_ranks().and_then(|walked| walked.best.as_ref()) else { return };
+    /// What a walk ends with by a rule that has less room between some pieces: they may stand too near.
+    fn layout_with_less_room(&mut self, case: &Case, board: &Board, walked: Option<&Walked>, too_near: &'static str) {
+        let Some(best) = walked.and_then(|walked| walked.best.as_ref()) else { return };
         let numbers = to_numbers(board, best);
         if passing(board, &numbers).is_none() {
-            self.report.note(WITHOUT_RANKS);
+            self.report.note(too_near);
         }
         let bytes = bytes_of(&numbers);
         self.check(case, &bytes);

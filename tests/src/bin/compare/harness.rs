@@ -56,6 +56,7 @@ impl Harness<'_> {
         self.exhaustive_search(case, None);
         self.given_layouts(case);
         self.carry_across(case);
+        self.fillers(case);
         self.other_margins(case);
         self.refused_margins(case);
     }

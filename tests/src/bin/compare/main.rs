@@ -8,6 +8,7 @@ mod common_cut;
 mod covering;
 mod cutting;
 mod empties;
+mod fillers;
 mod given;
 mod grids;
 mod harness;
@@ -16,6 +17,7 @@ mod lent;
 mod margins;
 #[path = "../../nest.rs"]
 mod nest;
+mod no_class;
 mod outline_counts;
 mod paper;
 mod report;
@@ -31,8 +33,8 @@ use nest_tests::noise::Noise;
 use report::Report;
 
 const DEFAULT_COUNT: u64 = 4000;
-/// From the default count on, each refusal and each thing counted of common cut, of the round gap, of saving, of given
-/// layouts and of outlines must have been seen this often.
+/// From the default count on, each refusal and each thing counted of common cut, of types in no class, of the round gap,
+/// of fillers, of saving, of given layouts and of outlines must have been seen this often.
 const SEEN_AT_LEAST: u64 = 100;
 
 fn main() {
@@ -72,8 +74,9 @@ fn rarely_seen(report: &Report) -> Vec<String> {
         let rare = numbers.iter().filter(move |&&n| report.seen_of(service, n) < SEEN_AT_LEAST);
         rare.map(move |n| format!("answer {n} of {service}"))
     });
-    let of_jobs = common_cut::COUNTED.into_iter().chain(round_gap::COUNTED).chain(saving::counted_things());
-    let counted = of_jobs.chain(given::COUNTED).chain(outline_counts::counted_things());
+    let of_gaps = common_cut::COUNTED.into_iter().chain(no_class::counted_things()).chain(round_gap::COUNTED);
+    let of_jobs = of_gaps.chain(fillers::COUNTED).chain(saving::counted_things()).chain(given::COUNTED);
+    let counted = of_jobs.chain(outline_counts::counted_things());
     let things = counted.filter(|what| report.noted(what) < SEEN_AT_LEAST).map(str::to_string);
     refusals.chain(of_services).chain(things).collect()
 }
@@ -109,6 +112,7 @@ fn random_case(seed: u64, report: &mut Report) {
         report.mismatch(&what, &case.bytes, case.margin);
     }
     common_cut::count(&case, report);
+    no_class::count(&case, report);
     round_gap::count_job(&case, report);
     saving::count(&case, report);
     let mut harness = Harness { noise: &mut noise, report };

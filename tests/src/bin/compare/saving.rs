@@ -87,14 +87,13 @@ pub fn count(case: &Case, report: &mut Report) {
     let Ok(job) = &case.reading else { return };
     let saved = saved(job);
     let [board_at, classes_at, types_at] = [0, 2, 4].map(|field| trailer_number(&case.bytes, field));
-    let class_ids: Vec<u8> = (0..job.classes.len()).map(|place| case.bytes[classes_at + 3 * place]).collect();
     let named = job.types.iter().fold(0, |mask, kind| mask | kind.class_mask);
     let no_class = job.classes.is_empty();
     let seen = [
         (OTHER_BYTES, saved != case.bytes),
         (SKIPPED, saved.len() < case.bytes.len()),
         (OTHER_ORDER, board_at > types_at || !no_class && (board_at > classes_at || classes_at > types_at)),
-        (SHUFFLED, !class_ids.is_sorted()),
+        (SHUFFLED, !class_ids(case, job).is_sorted()),
         (MARKED, job.classes.iter().any(|class| class.marked)),
         (UNNAMED, job.classes.iter().any(|class| named >> class.id & 1 == 0)),
         (EMPTY_ELSEWHERE, no_class && classes_at != 6),
@@ -102,6 +101,12 @@ pub fn count(case: &Case, report: &mut Report) {
         (ODD, saved.len() % 2 == 1),
     ];
     seen.into_iter().filter(|&(_, holds)| holds).for_each(|(what, _)| report.note(what));
+}
+
+/// The ids of the classes in the order of the file.
+pub fn class_ids(case: &Case, job: &Job) -> Vec<u8> {
+    let classes_at = trailer_number(&case.bytes, 2);
+    (0..job.classes.len()).map(|place| case.bytes[classes_at + 3 * place]).collect()
 }
 
 fn trailer_number(job: &[u8], field: usize) -> usize {
