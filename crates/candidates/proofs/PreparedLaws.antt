@@ -26,7 +26,7 @@ use Rattle.model.proofs.Accepted.{accepted-sensible}
 use Rattle.model.proofs.Box.{all-onBoard, placed-vertices, extent-placed, largest-x-moved, largest-y-moved, smallest-x-moved, smallest-y-moved}
 use Rattle.model.proofs.Lists.{and-left}
 use Rattle.model.proofs.Numbers.{rows-positive}
-use Rattle.model.proofs.AcceptedKinds.{gap-most}
+use Rattle.model.proofs.Gaps.{gap-most}
 use Rattle.model.proofs.Causes.{no-cause, board-fits}
 use Rattle.model.proofs.Turning.{vertexed, conflict-placed}
 use Rattle.polygons.specs.Boxes.{extentsOf}

@@ -13,7 +13,7 @@ use Rattle.model.specs.Content.{SpacingClass, Kind}
 use Rattle.model.specs.Format.{byteAt, marksCut, gapMeant, classFrom, byRisingId}
 use Rattle.model.specs.Gap.{names, outranks, better, bestFrom, bestRanked, bestClass, largestGap, gapOr, sameMarked, shareCut}
 use Rattle.model.specs.Lists.{keep, concat, largest, rising, below}
-use Rattle.model.proofs.Folds.{map-append, keep-append, largest-more, map-below-more}
+use Rattle.model.proofs.Folds.{keep-append, largest-below-more}
 use Rattle.model.proofs.Permuted.{map-permuted, largest-permuted}
 use Rattle.model.proofs.Saving.Kept.{risen-permuted}
 use Rattle.records.specs.Classes.{classesFrom, indexOf, allInRange, distinctColumn}
@@ -125,10 +125,7 @@ pub largest-next : (s : List ℕ) (o i m r : ℕ) → m ≡ largestGap (classesF
     → r ≡ largestGap (classesFrom s o (i + 1))
 unfolding largestGap
 largest-next s o i m r e q =
-    q ∙ ap (λ m. max m (gapMeant (byteAt s (o + i * 3 + 2)))) e
-    ∙ sym (ap (λ cs. largest (map (λ c. c .gap) cs)) (map-below-more (λ i. classFrom s (o + i * 3)) i)
-    ∙ ap largest (map-append (λ c. c .gap) (classesFrom s o i) (classFrom s (o + i * 3) ∷ []))
-    ∙ largest-more (map (λ c. c .gap) (classesFrom s o i)) (gapMeant (byteAt s (o + i * 3 + 2))))
+    q ∙ ap (λ m. max m (gapMeant (byteAt s (o + i * 3 + 2)))) e ∙ sym (largest-below-more (λ i. classFrom s (o + i * 3)) (λ c. c .gap) i)
 
 -- In the order of the file it is the largest by rising id.
 pub largest-risen : (s : List ℕ) (o n : ℕ) → allInRange s o n ≡ true → largestGap (classesFrom s o n) ≡ largestGap (byRisingId (classesFrom s o n))

@@ -20,7 +20,7 @@ use Rattle.model.specs.Candidate.{natural}
 use Rattle.model.specs.Layout.{Entry, Layout, noEntry}
 use Rattle.model.specs.Lists.{all, largest, rising, below}
 use Rattle.model.specs.Services.{entryIn}
-use Rattle.model.proofs.Folds.{map-append, largest-more}
+use Rattle.model.proofs.Folds.{largest-below-more}
 use Rattle.model.proofs.Lists.{and-left, and-right, not-both, all-at, length-below, getD-map-below}
 use Rattle.job.specs.declared.View.{View}
 use Rattle.shapes.specs.Boxes.{boxAt}
@@ -28,7 +28,6 @@ use Rattle.candidates.specs.Placements.{Bounded, within, fitsAt, placeable, ext
 use Rattle.shapes.specs.declared.boxes.Boxes.{Boxes}
 use Rattle.layouts.specs.Entries.{entriesIn}
 use Rattle.layouts.specs.Passing.{admittedBy, extentBy}
-use Rattle.layouts.proofs.EntryLaws.{entries-more}
 
 -- ---- an entry
 
@@ -94,6 +93,5 @@ largest-none f s = refl
 
 pub largest-next : (f : Entry → ℕ) (s : List ℕ) (i m k r : ℕ) → m ≡ largest (map f (entriesIn s i)) → k ≡ f (entryIn s i) → r ≡ max m k
     → r ≡ largest (map f (entriesIn s (i + 1)))
-largest-next f s i m k r e g q =
-    q ∙ ap₂ max e g
-    ∙ sym (ap (λ (es : Layout). largest (map f es)) (entries-more s i) ∙ ap largest (map-append f (entriesIn s i) (entryIn s i ∷ [])) ∙ largest-more (map f (entriesIn s i)) (f (entryIn s i)))
+unfolding entriesIn
+largest-next f s i m k r e g q = q ∙ ap₂ max e g ∙ sym (largest-below-more (entryIn s) f i)

@@ -19,7 +19,7 @@ use Rattle.model.specs.Layout.{Entry, entryKind, conflict}
 use Rattle.model.specs.Lists.{all, concat, below, between}
 use Rattle.model.specs.Problem.{under}
 use Rattle.model.specs.Services.{classNumbers}
-use Rattle.model.proofs.AcceptedKinds.{all-risen}
+use Rattle.model.proofs.Gaps.{all-risen}
 use Rattle.model.proofs.Ranks.{best-holds}
 use Rattle.model.proofs.Lists.{and-left, and-right, all-below}
 use Rattle.model.proofs.Records.{between-both}

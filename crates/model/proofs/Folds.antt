@@ -97,7 +97,7 @@ pub sum-more : (ns : List ℕ) (n : ℕ) → sum (ns ++ (n ∷ [])) ≡ sum ns +
 unfolding sum
 sum-more ns n = sum-append ns (n ∷ []) ∙ ap (λ m. sum ns + m) (add-zero n)
 
-pub largest-more : (ns : List ℕ) (n : ℕ) → largest (ns ++ (n ∷ [])) ≡ max (largest ns) n
+largest-more : (ns : List ℕ) (n : ℕ) → largest (ns ++ (n ∷ [])) ≡ max (largest ns) n
 unfolding largest
 largest-more [] n = max-comm n 0
 largest-more (m ∷ ns) n = ap (max m) (largest-more ns n) ∙ omega arith
@@ -145,6 +145,12 @@ module _ {A : Type 0} (f : ℕ → A) where
   concat-below-more g n =
       ap (λ l. concat (map g l)) (map-below-more n) ∙ ap concat (map-append g (map f (below n)) (f n ∷ []))
       ∙ concat-more (map g (map f (below n))) (g (f n))
+
+  -- The largest, of one element more.
+  pub largest-below-more : (g : A → ℕ) (n : ℕ) → largest (map g (map f (below (n + 1)))) ≡ max (largest (map g (map f (below n)))) (g (f n))
+  largest-below-more g n =
+      ap (λ l. largest (map g l)) (map-below-more n) ∙ ap largest (map-append g (map f (below n)) (f n ∷ []))
+      ∙ largest-more (map g (map f (below n))) (g (f n))
 
   pub all-below-more : (p : A → Bool) (n : ℕ) → all p (map f (below (n + 1))) ≡ (all p (map f (below n)) && p (f n))
   all-below-more p n = ap (all p) (map-below-more n) ∙ all-more p (map f (below n)) (f n)

@@ -22,6 +22,7 @@ pub mod Readers
 pub mod Records
 pub mod Causes
 pub mod AcceptedKinds
+pub mod Gaps
 pub mod Refusals
 pub mod Margin
 pub mod Ranks

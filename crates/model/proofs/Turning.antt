@@ -4,7 +4,7 @@
 use mathlib.Core.Bool.{Bool, true, false, not, cond, _&&_, _||_}
 use mathlib.Core.List.{List, [], _∷_, map}
 use mathlib.Core.Logic.{⊎-elim}
-use mathlib.Core.Path.{_≡_, refl, sym, ap, ap₂, _∙_, fun-ext}
+use mathlib.Core.Path.{_≡_, refl, sym, ap, ap₂, subst, _∙_, fun-ext}
 use Prim.Native.Nat.{ℕ, zero, suc, _*_, _≤_, _<_}
 use native.Mathlib.Omega.{arith}
 use lib.IntN.{ℤ, pos, _-ℤ_}
@@ -99,17 +99,17 @@ vertexed-all : (Ps : List Part) → ((i : ℕ) → i < length Ps → 3 ≤ lengt
 vertexed-all [] h = tt
 vertexed-all (P ∷ Ps) h = (omega (arith, h 0 (omega arith)), vertexed-all Ps (λ i l. h (suc i) (omega arith)))
 
--- a type that does not exist has no part
-vertexed-none : (ks : List Kind) (t : ℕ) → kindCount ks ≤ t → Vertexed (kindAt ks t .parts)
+-- A type that does not exist has no part.
+pub no-parts : (ks : List Kind) (t : ℕ) → kindCount ks ≤ t → kindAt ks t .parts ≡ []
 unfolding kindAt kindCount
-vertexed-none [] t h = tt
-vertexed-none (k ∷ ks) zero h = let never : ⊥ = omega arith in absurd never
-vertexed-none (k ∷ ks) (suc t) h = vertexed-none ks t (omega arith)
+no-parts [] t h = refl
+no-parts (k ∷ ks) zero h = absurd (omega arith)
+no-parts (k ∷ ks) (suc t) h = no-parts ks t (omega arith)
 
 -- Every part of an accepted job has a corner.
 pub vertexed : (s : List ℕ) → refusal s ≡ 0 → (t : ℕ) → Vertexed (kindAt (content s .kinds) t .parts)
 vertexed s accepted t =
-    ⊎-elim (λ h. vertexed-none (content s .kinds) t h) (λ h. vertexed-all (kindAt (content s .kinds) t .parts) (λ i l. kind-ranges s accepted t h .corners i l .0))
+    ⊎-elim (λ h. subst Vertexed (sym (no-parts (content s .kinds) t h)) tt) (λ h. vertexed-all (kindAt (content s .kinds) t .parts) (λ i l. kind-ranges s accepted t h .corners i l .0))
     (le-or-lt (kindCount (content s .kinds)) t)
 
 module _ (s : List ℕ) (m : ℕ) (accepted : refusal s ≡ 0) where

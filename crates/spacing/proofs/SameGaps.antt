@@ -27,6 +27,7 @@ use Rattle.model.specs.declared.RunAnswer.the-variants as R
 use Rattle.model.specs.declared.Written.the-variants as W
 use Rattle.model.proofs.Lists.{by-cond}
 use Rattle.model.proofs.SameAnswers.{under-same, alike}
+use Rattle.model.proofs.Turning.{no-parts}
 use Rattle.model.proofs.Search.Equations.{tries-end, tries-dead, tries-back, tries-deep, search-back, search-walks}
 use Rattle.spacing.specs.SameGaps.{bare, SameButClasses, SameGaps, NestAlike}
 
@@ -41,13 +42,6 @@ bare-at (k ∷ ks) (suc t) = bare-at ks t
 bare-count : (ks ls : List Kind) → map bare ks ≡ map bare ls → kindCount ks ≡ kindCount ls
 unfolding kindCount
 bare-count ks ls e = sym (length-map ks bare) ∙ ap length e ∙ length-map ls bare
-
--- Behind the last type there is none, and it has no part.
-no-parts : (ks : List Kind) (t : ℕ) → kindCount ks ≤ t → kindAt ks t .parts ≡ []
-unfolding kindAt kindCount
-no-parts [] t h = refl
-no-parts (k ∷ ks) zero h = absurd (omega arith)
-no-parts (k ∷ ks) (suc t) h = no-parts ks t (omega arith)
 
 -- Without a part nothing is in conflict, at whichever gap.
 gap-first : (g h : ℕ) (Ps Qs : List Part) → Ps ≡ [] → piecesConflict g Ps Qs ≡ piecesConflict h Ps Qs
