@@ -66,11 +66,13 @@ extern "C" {
  *
  * The gap of a type is that of its best-ranked class (smallest rank number), marked or not. A type that names no
  * class takes the largest gap in the job's class list, or 0 if that list is empty. All classes count, also those
- * that no type names, and a marked one with its gap. Pieces that may touch each other, as fillers do, are to be put
- * in a class of gap 0. The gap between two pieces is 0 if the best-ranked class of both is the same, as it is of two copies of one
- * type in a class, and is marked as common cut; otherwise it is the larger of the two types' gaps. So a marked
- * class changes nothing for a type that names a better-ranked one, and types in no class share no common cut.
- * The order of the classes in a job changes no result.
+ * that no type names, and a marked one with its gap. Pieces that may touch each other, as fillers may, are to be
+ * put in a class of gap 0.
+ *
+ * The gap between two pieces is 0 if the best-ranked class of both is the same, as it is of two copies of one type
+ * in a class, and is marked as common cut; otherwise it is the larger of the two types' gaps. So a marked class
+ * changes nothing for a type that names a better-ranked one, and types in no class share no common cut. The order
+ * of the classes in a job changes no result.
  *
  * Two pieces are in conflict if a part of one and a part of the other overlap. To touch is not to overlap, so
  * at gap 0 pieces may touch. At a gap h above 0 they are in conflict also if a corner of a part of one is nearer
