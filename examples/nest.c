@@ -6,11 +6,7 @@
  *
  * With --keep the bytes of that layout are written to a file too; where there is none, the file is neither created
  * nor changed. With --from the run begins from the layout in such a file; an empty one gives none. So a run that
- * stopped with a layout is carried across to the next one, also from an earlier version of the engine. With
- * --budget it may take that many steps instead.
- *
- * With --rising the run is of the second kind, which tries lengths in rising order and begins from no layout. Where
- * it stops it holds none: the length printed is the one that was being tried, and no layout is shorter.
+ * stopped with a layout is carried across to the next one, also from an earlier version of the engine.
  *
  * With --save it runs nothing, but writes the job to another file as the engine saves it, and prints `saved` and
  * the number of bytes; or `refused` and number, and then that file is neither created nor changed.
@@ -18,8 +14,7 @@
  * With --cut it takes no job, but cuts the outline in the file given into triangles, and prints `cut` and their
  * number; or `refused` and number. The triangles follow, one a line: x and y of the corner that was cut off, of its
  * successor and of its predecessor.
- * usage: nest [--from LAYOUT] [--keep FILE] [--budget STEPS] JOB [MARGIN]
- *        nest --rising [--keep FILE] [--budget STEPS] JOB [MARGIN]
+ * usage: nest [--from LAYOUT] [--keep FILE] JOB [MARGIN]
  *        nest --save FILE JOB
  *        nest --cut OUTLINE
  */
@@ -81,8 +76,7 @@ static void print_layout(unsigned pieces)
 /* Whether the answer numbers of a run hold a layout. */
 static int holds_layout(uint64_t result)
 {
-    return NEST_NUMBER(result) == NEST_OK &&
-           (NEST_VERDICT(result) == NEST_ENDED || NEST_VERDICT(result) == NEST_STOPPED_WITH_LAYOUT);
+    return NEST_NUMBER(result) == NEST_OK && NEST_VERDICT(result) != NEST_STOPPED_WITH_NOTHING;
 }
 
 static void print_result(uint64_t result, size_t job_len)
@@ -93,14 +87,13 @@ static void print_result(uint64_t result, size_t job_len)
         printf("none %" PRIu32 "\n", steps);
     } else if (NEST_NUMBER(result) != NEST_OK) {
         printf("refused %u\n", NEST_NUMBER(result));
-    } else if (NEST_VERDICT(result) == NEST_STOPPED_WITH_NOTHING) {
+    } else if (!holds_layout(result)) {
         printf("stopped - %" PRIu32 "\n", steps);
     } else {
         const char *verdict = NEST_VERDICT(result) == NEST_ENDED ? "shortest" : "stopped";
 
         printf("%s %u %" PRIu32 "\n", verdict, NEST_LENGTH(result), steps);
-        if (holds_layout(result))
-            print_layout(pieces_of(job_len));
+        print_layout(pieces_of(job_len));
     }
 }
 
@@ -130,17 +123,17 @@ static int write_file(const char *path, const uint8_t *bytes, size_t length)
     return fclose(file) == 0 && written;
 }
 
-/* Digits alone, of a number that is at most so large. */
-static int read_number(const char *text, uint64_t largest, uint64_t *number)
+/* Digits alone, of a number that 64 bits hold; whether it is a margin is for the engine to say. */
+static int read_margin(const char *text, uint64_t *margin)
 {
-    uintmax_t read;
+    uintmax_t number;
 
     if (text[0] == '\0' || text[strspn(text, "0123456789")] != '\0')
         return 0;
     errno = 0;
-    read = strtoumax(text, NULL, 10);
-    *number = (uint64_t)read;
-    return errno == 0 && read <= largest;
+    number = strtoumax(text, NULL, 10);
+    *margin = (uint64_t)number;
+    return errno == 0 && number <= UINT64_MAX;
 }
 
 /* A file that fails is told and has an exit status of its own; a refused job is an answer and has none. */
@@ -152,8 +145,7 @@ static int file_failed(const char *path)
 
 static int usage(void)
 {
-    fprintf(stderr, "usage: nest [--from LAYOUT] [--keep FILE] [--budget STEPS] JOB [MARGIN]\n"
-                    "       nest --rising [--keep FILE] [--budget STEPS] JOB [MARGIN]\n"
+    fprintf(stderr, "usage: nest [--from LAYOUT] [--keep FILE] JOB [MARGIN]\n"
                     "       nest --save FILE JOB\n"
                     "       nest --cut OUTLINE\n");
     return 2;
@@ -162,53 +154,25 @@ static int usage(void)
 /* What a run is asked for; without --from and --keep the first two are null. */
 struct request {
     const char *from, *keep, *job;
-    uint64_t budget, margin;
-    int rising;
+    uint64_t margin;
 };
 
-/* An option with the word behind it, which may be missing. */
-static int read_option(const char *option, const char *value, struct request *request)
-{
-    if (value == NULL)
-        return 0;
-    if (strcmp(option, "--budget") == 0)
-        return read_number(value, UINT32_MAX, &request->budget);
-    if (strcmp(option, "--from") == 0)
-        request->from = value;
-    else if (strcmp(option, "--keep") == 0)
-        request->keep = value;
-    else
-        return 0;
-    return 1;
-}
-
-/* The words behind the program's name, up to the null pointer. Whether a number is a margin, the engine says. */
+/* The words behind the program's name, up to the null pointer. */
 static int read_request(char **words, struct request *request)
 {
     memset(request, 0, sizeof *request);
-    request->budget = BUDGET;
-    for (; words[0] != NULL && strncmp(words[0], "--", 2) == 0; words++) {
-        if (strcmp(words[0], "--rising") == 0)
-            request->rising = 1;
-        else if (read_option(words[0], words[1], request))
-            words++;
+    for (; words[0] != NULL && words[1] != NULL; words += 2) {
+        if (strcmp(words[0], "--from") == 0)
+            request->from = words[1];
+        else if (strcmp(words[0], "--keep") == 0)
+            request->keep = words[1];
         else
-            return 0;
+            break;
     }
     request->job = words[0];
-    if (words[0] == NULL || (request->rising && request->from != NULL))
+    if (words[0] == NULL || strncmp(words[0], "--", 2) == 0)
         return 0;
-    return words[1] == NULL || (words[2] == NULL && read_number(words[1], UINT64_MAX, &request->margin));
-}
-
-static uint64_t run(const struct request *request, size_t job_len, size_t layout_len)
-{
-    uint32_t budget = (uint32_t)request->budget;
-
-    if (request->rising)
-        return nest_run_rising(job, job_len, request->margin, budget, work, sizeof work, answer, sizeof answer);
-    return nest_run(job, job_len, request->margin, budget, layout, layout_len, work, sizeof work, answer,
-                    sizeof answer);
+    return words[1] == NULL || (words[2] == NULL && read_margin(words[1], &request->margin));
 }
 
 static int run_job(const struct request *request)
@@ -220,7 +184,8 @@ static int run_job(const struct request *request)
         return file_failed(request->job);
     if (request->from != NULL && !read_file(request->from, layout, sizeof layout, &layout_len))
         return file_failed(request->from);
-    result = run(request, job_len, layout_len);
+    result = nest_run(job, job_len, request->margin, BUDGET, layout, layout_len, work, sizeof work, answer,
+                      sizeof answer);
     print_result(result, job_len);
     if (request->keep != NULL && holds_layout(result) &&
         !write_file(request->keep, answer, NEST_LAYOUT_BYTES(pieces_of(job_len))))

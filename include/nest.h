@@ -1,10 +1,10 @@
 /*
  * nest.h - the dotted-board nesting engine.
  *
- * Seven services: read a job, save a job, give a row of conflicts, check a layout, run the search for a shortest
- * layout, run it by rising lengths; and, without a job, cut an outline into triangles. Every one takes bytes and
- * numbers only, keeps no state, allocates nothing and always returns. What is unfit is refused by a number; nothing
- * is assumed of the caller but this:
+ * Six services: read a job, save a job, give a row of conflicts, check a layout, run the search for a shortest
+ * layout; and, without a job, cut an outline into triangles. Every one takes bytes and numbers only, keeps no
+ * state, allocates nothing and always returns. What is unfit is refused by a number; nothing is assumed of the
+ * caller but this:
  *
  *   - each pointer names as many bytes as the length beside it says, at any alignment; a buffer of length 0
  *     may have any pointer, null too;
@@ -14,8 +14,7 @@
  * from 0. T is the number of types, N the number of pieces (the sum of the demands), W the board's width,
  * L its length, g its step. Columns stand at x = c * g up to L, rows at y = r * g up to W. The MARGIN m,
  * 0 to 63, is how far pieces keep from each edge of the sheet, where clamps hold it. It is no part of the job:
- * the host passes it with row, check and both runs. With margin 0 there are no clamps and pieces may reach the
- * edges. A RUN is one of two kinds: nest_run, and nest_run_rising, which tries lengths in rising order.
+ * the host passes it with row, check and run. With margin 0 there are no clamps and pieces may reach the edges.
  */
 #ifndef NEST_H
 #define NEST_H
@@ -172,10 +171,10 @@ extern "C" {
  * Each service returns one 64-bit number of four fields:
  *
  *   bits  0 to  7   the number: NEST_OK, or why the call was refused (enum nest_number)
- *   bits  8 to 15   the verdict of a run of either kind (enum nest_verdict); 0 for the other services
+ *   bits  8 to 15   the verdict of a run (enum nest_verdict); 0 for the other services
  *   bits 16 to 31   read: numbers written; save: bytes written; row: words written; cut: triangles written; check
- *                   and both runs: the layout's length; run by rising lengths, stopped: the length being tried
- *   bits 32 to 63   the steps that a run of either kind took; 0 for the other services
+ *                   and run: the layout's length
+ *   bits 32 to 63   the steps that a run took; 0 for the other services
  *
  * A refusal has verdict, count and steps 0 and changes no buffer, except NEST_NONE, which tells its steps and
  * leaves the work words zero.
@@ -184,7 +183,7 @@ extern "C" {
 #define NEST_NUMBER(result)  ((unsigned)((result) & 0xFF))
 #define NEST_VERDICT(result) ((unsigned)((result) >> 8 & 0xFF))
 #define NEST_COUNT(result)   ((unsigned)((result) >> 16 & 0xFFFF)) /* of read, save, row and cut */
-#define NEST_LENGTH(result)  NEST_COUNT(result)                    /* of check and both runs */
+#define NEST_LENGTH(result)  NEST_COUNT(result)                    /* of check and run */
 #define NEST_STEPS(result)   ((uint32_t)((result) >> 32))
 
 /* Causes are tested as 1 to 7, then 13, 12, 14, 11, 8, 9, then 10, each only after those before it. */
@@ -202,26 +201,24 @@ enum nest_number {
     NEST_BAD_PART = 7,     /* a part not sound, or a corner at -128 */
 
     /* The host. */
-    NEST_SHORT_WORK = 8,    /* both runs: work words too few */
-    NEST_SHORT_ANSWER = 9,  /* read, both runs, cut: answer numbers too few; save: answer bytes; row: row words */
-    NEST_BAD_LAYOUT = 11,   /* check, nest_run: the layout handed in has another count of numbers, is out of order,
-                               or does not pass */
+    NEST_SHORT_WORK = 8,    /* run: work words too few */
+    NEST_SHORT_ANSWER = 9,  /* read, run, cut: answer numbers too few; save: answer bytes; row: row words */
+    NEST_BAD_LAYOUT = 11,   /* check, run: the layout handed in has another count of numbers, is out of order, or
+                               does not pass */
     NEST_NO_CANDIDATE = 12, /* row: the candidate or one of the two types does not exist */
-    NEST_BAD_MARGIN = 13,   /* row, check, both runs: a margin above 63 */
+    NEST_BAD_MARGIN = 13,   /* row, check, run: a margin above 63 */
     NEST_BAD_OUTLINE = 14,  /* cut: a corner count out of range or an odd byte left over, a coordinate of -128, a
                                doubled area that is not positive, or two edges that meet anywhere but at the
                                corner shared by neighbours */
 
     /* The job as a whole. */
-    NEST_NONE = 10 /* both runs, not stopped: no layout passes */
+    NEST_NONE = 10 /* run, not stopped: no layout passes */
 };
 
-/* The second and the third are those of nest_run alone, the last is that of nest_run_rising alone. */
 enum nest_verdict {
     NEST_ENDED = 0,                /* shortest with NEST_OK, none with NEST_NONE */
     NEST_STOPPED_WITH_LAYOUT = 1,  /* the budget was spent; the best layout completed or given is held */
-    NEST_STOPPED_WITH_NOTHING = 2, /* the budget was spent before a layout was complete, and none was given */
-    NEST_STOPPED_AT_LENGTH = 3     /* the budget was spent; no layout that passes is shorter than the length told */
+    NEST_STOPPED_WITH_NOTHING = 2  /* the budget was spent before a layout was complete, and none was given */
 };
 
 /* ------------------------------------------------------------------------------------------------------
@@ -317,42 +314,6 @@ uint64_t nest_check(const uint8_t *job, size_t job_len, uint64_t margin, const u
  */
 uint64_t nest_run(const uint8_t *job, size_t job_len, uint64_t margin, uint32_t budget, const uint8_t *layout,
                   size_t layout_len, uint8_t *work, size_t work_len, uint8_t *answer, size_t answer_len);
-
-/*
- * Run the search by rising lengths, taking at most `budget` steps: the second kind of run, over the same buffers as
- * nest_run and never given a layout. It is for estimators, who want a length that no nest can beat. Where nest_run
- * stops, a shortest layout may be much shorter than the one held; where this run stops, no layout that passes is
- * shorter than the length told.
- *
- * The lengths are those that candidates have: the largest x that a candidate of some type reaches, plus the margin.
- * Each is tried once, in rising order, beginning with the first at which every type has a candidate: the largest,
- * over the types, of a type's smallest length. To try a length is to search anew, without a best so far, among the
- * candidates that are no longer than it; the first layout that is complete ends the whole run.
- *
- *   NEST_OK, NEST_ENDED                  shortest: the first 4 * N answer numbers hold the first of the
- *                                        shortest layouts, NEST_LENGTH is its length
- *   NEST_NONE, NEST_ENDED                no layout passes; the answer numbers are unchanged. Where a type has no
- *                                        candidate no length is tried: 0 steps, also at budget 0
- *   NEST_OK, NEST_STOPPED_AT_LENGTH      NEST_LENGTH is the length being tried, and no layout that passes is
- *                                        shorter; no layout is held, and the answer numbers are unchanged
- *
- * NEST_STEPS is the number of steps taken over all lengths: all that the run needs, or the whole budget where it
- * stopped. It stops exactly when it needs more steps than the budget. A length that leaves some type fewer
- * candidates than copies costs no step.
- *
- * Where both kinds finish, nest_run without a given layout, they agree on all but the steps: shortest with the same
- * length and layout, or none. Which of them needs fewer steps depends on the job: this one begins anew at each
- * length, nest_run also tries layouts that are longer than the shortest. There may be so many of these that no
- * budget lets nest_run finish, and this run still finishes in a few steps.
- *
- * The work words need no preparation. After every answer above, the needed T * N * NEST_SET_WORDS(dots) ones
- * are zero. Besides the buffers lent, nest_run_rising takes up to 256 KiB of stack (measured, not proved).
- *
- * Refusals: 1 to 7; 13; 8 if the work buffer holds fewer words than those; 9 if the answer buffer holds fewer than
- * 4 * N numbers. NEST_MAX_WORK_BYTES and NEST_MAX_LAYOUT_BYTES are enough for every job.
- */
-uint64_t nest_run_rising(const uint8_t *job, size_t job_len, uint64_t margin, uint32_t budget, uint8_t *work,
-                         size_t work_len, uint8_t *answer, size_t answer_len);
 
 /*
  * Cut an outline into triangles. A corner in line with its two neighbours is dropped first, the lowest numbered if

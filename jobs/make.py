@@ -5,7 +5,7 @@ some of them from, and their tables, README.md.
 usage: jobs/make.py [EXPECT]
 
 EXPECT is the program `expect` of tests/ (the reference, which links nothing of the engine); with it the
-expected outputs, NAME.out, NAME.rising and NAME.begun, are written too.
+expected outputs, NAME.out and NAME.begun, are written too.
 """
 
 import pathlib
@@ -236,14 +236,6 @@ JOBS = {
         "Twelve bars, of which eleven fit; look-ahead does not see it, and the budget is spent first.",
         Job(6, 11, 1, [piece(12, [rectangle(0, 0, 3, 2)], turns=3)]),
     ),
-    "strip-upright": (
-        "Eleven bars that fill the width, and a strip that may stand before them: length 19. Lying comes first; then one bar has no room beside the others, and no budget lets the run find that out.",
-        Job(22, 38, 1, [piece(1, [rectangle(0, 0, 22, 1)], turns=3), piece(11, [rectangle(0, 0, 18, 2)])]),
-    ),
-    "far-apart": (
-        "Three squares with a gap of 43 on a sheet that is just long enough.",
-        Job(10, 92, 1, [piece(3, [SQUARE], classes=1)], [(0, 0, 43)]),
-    ),
     "none": (
         "Two squares on a board that is 1 too short for them.",
         Job(2, 3, 1, [piece(2, [SQUARE])]),
@@ -276,22 +268,6 @@ JOBS = {
 
 # The jobs whose saved bytes, NAME.saved, are written too.
 SAVED = ["printed", "any-order", "classes-one-order", "classes-other-order", "common-cut"]
-
-# The jobs that are run by rising lengths too, NAME.rising.
-RISING = {
-    "printed": "Lengths 2, 3 and 4, with 0, 2 and 2 steps: at length 2 there is one place for two squares.",
-    "four-turns": "Lengths 3, 4 and 5, with 4, 27 and 5 steps: the brackets are 4 long, and 3 with a quarter turn.",
-    "any-order-filler": "The step is 2, but each length from 7 to 12 is tried: the rhomb ends where the crosses do not.",
-    "full-board": "The first length is enough, a step for each piece. The first kind goes on to look for shorter ones.",
-    "strip-upright": "Lengths 18 and 19, with 18 and 12 steps: within these lengths the strip cannot lie.",
-    "far-apart": "Each length from 2 on is walked anew, and that takes too many steps; the first kind walks once.",
-    "stopped-with-layout": "The first kind holds a layout of length 9, and none is shorter than 8: the shortest is 8 or 9.",
-    "stopped-with-nothing": "None is shorter than the board itself: if there is a layout at all, its length is 11.",
-    "carried-at-once": "None is shorter than 9, so that the layout in the table below is a shortest.",
-    "none": "Lengths 2 and 3, with 0 and 2 steps.",
-    "none-at-once": "A type has no candidate, so that no length is tried.",
-    "refused-7-star": "Refused as by any service.",
-}
 
 # Layouts that runs of some jobs are begun from, NAME.layout: an entry is type, column, row and turn.
 TOUCHING = [(0, 0, 0, 0), (0, 2, 0, 0)]
@@ -350,17 +326,6 @@ differ. `classes-other-order` and `common-cut` are saved to their own bytes: the
 |---|---|---|
 """
 
-TRIED = """
-## Tried by rising lengths
-
-`NAME.rising` is what the C example prints with `--rising`, for a run of the second kind, with a budget of 1,000,000 and
-no margin. Where it stops, no layout is shorter than the length printed, and none follows. Where both kinds finish, they
-differ in the steps alone. The command program has runs of the first kind only.
-
-| job | what the lengths show | first kind | second kind |
-|---|---|---|---|
-"""
-
 BEGUN = """
 ## Begun from a layout
 
@@ -372,27 +337,20 @@ is what it prints for a run of the job that begins from that layout, with no mar
 """
 
 
-def expect(target, *arguments):
-    """Writes what the reference prints for these arguments, if it is there to be asked."""
+def expect(target, *files):
+    """Writes what the reference expects of these files, if it is there to be asked."""
     if len(sys.argv) > 1:
-        target.write_bytes(subprocess.run([sys.argv[1], *arguments], check=True, capture_output=True).stdout)
+        target.write_bytes(subprocess.run([sys.argv[1], *files], check=True, capture_output=True).stdout)
 
 
-def lines_of(entries):
-    return {name: line for name, (line, _) in entries.items()}
+def table(entries, ending):
+    """A row for each entry: its name, its line, and the first line of its output, in the file of this ending."""
 
-
-def table(lines, *endings):
-    """A row for each name: its line, and the first lines of its outputs, in the files of these endings."""
-
-    def first_line(name, ending):
+    def first_line(name):
         path = FOLDER / f"{name}{ending}"
         return path.read_text().splitlines()[0] if path.exists() else ""
 
-    def row(name, line):
-        return "".join(f" {cell} |" for cell in (f"`{name}`", line, *(f"`{first_line(name, e)}`" for e in endings)))
-
-    return "".join(f"|{row(name, line)}\n" for name, line in lines.items())
+    return "".join(f"| `{name}` | {line} | `{first_line(name)}` |\n" for name, (line, _) in entries.items())
 
 
 def main():
@@ -402,14 +360,11 @@ def main():
         if name in SAVED:
             (FOLDER / f"{name}.saved").write_bytes(job.saved())
         expect(FOLDER / f"{name}.out", path)
-    for name in RISING:
-        expect(FOLDER / f"{name}.rising", "--rising", FOLDER / f"{name}.job")
     for name, (_, entries) in GIVEN.items():
         path = FOLDER / f"{name}.layout"
         path.write_bytes(b"".join(struct.pack("<HHHH", *entry) for entry in entries))
         expect(FOLDER / f"{name}.begun", FOLDER / f"{name}.job", path)
-    tables = TOP + table(lines_of(JOBS), ".out") + TRIED + table(RISING, ".out", ".rising")
-    (FOLDER / "README.md").write_text(tables + BEGUN + table(lines_of(GIVEN), ".begun"))
+    (FOLDER / "README.md").write_text(TOP + table(JOBS, ".out") + BEGUN + table(GIVEN, ".begun"))
 
 
 if __name__ == "__main__":

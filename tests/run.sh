@@ -1,7 +1,7 @@
 #!/bin/sh
-# Links everything on this side of the C interface with a libnest.a and runs it: the comparison tests, the stack that
-# both kinds of run take, then the C example on every job of jobs/, held to the expected outputs, with margins, saving
-# each job, begun from layouts, and by rising lengths, and on every outline of outlines/.
+# Links everything on this side of the C interface with a libnest.a and runs it: the comparison tests, the stack that a
+# run takes, then the C example on every job of jobs/, held to the expected outputs, with margins, saving each job, and
+# begun from layouts, and on every outline of outlines/.
 # Needs no network.
 # usage: tests/run.sh FOLDER_OF_LIBNEST [COUNT]
 # CC, CFLAGS and NEST_LDLIBS (libraries that libnest.a itself needs) may be given. NEST_PROGRAM is the command
@@ -143,40 +143,25 @@ over_layouts() {
     [ "$begun" -gt 0 ] && [ "$begun" -eq "$(find "$root/jobs" -name '*.begun' | wc -l)" ]
 }
 
-# A job whose run, with these options, holds no layout: no file is created, and one that is there is not changed.
-nothing_kept() { # JOB PRINTED OPTION...
-    of=$1
-    outcome=$2
-    shift 2
+# A job whose run holds no layout: no file is created, and one that is there is not changed.
+nothing_kept() { # JOB PRINTED
     rm -f "$build/kept"
-    says "$outcome" "$@" --keep "$build/kept" "$of" && [ ! -e "$build/kept" ] || return 1
+    says "$2" --keep "$build/kept" "$1" && [ ! -e "$build/kept" ] || return 1
     echo kept >"$build/kept"
-    says "$outcome" "$@" --keep "$build/kept" "$of" && [ "$(cat "$build/kept")" = kept ]
+    says "$2" --keep "$build/kept" "$1" && [ "$(cat "$build/kept")" = kept ]
 }
 
-# A job whose run, with these options, holds a layout: its bytes are kept, eight for each entry. A run begun from them
-# holds a layout too; after a run that ended it is the same, and steps alone may differ; after one that stopped it is no
-# longer.
-good_when_kept() { # JOB PRINTED OPTION...
-    of=$1
-    outcome=$2
-    shift 2
+# A job whose run holds a layout: its bytes are kept, eight for each entry. A run begun from them holds a layout too; after
+# a run that ended it is the same, and steps alone may differ; after one that stopped it is no longer.
+good_when_kept() { # JOB PRINTED
     rm -f "$build/kept" "$build/again"
-    says "$outcome" "$@" --keep "$build/kept" "$of" || return 1
-    [ "$(wc -c <"$build/kept")" -eq $((8 * ($(echo "$outcome" | wc -l) - 1))) ] || return 1
-    "$build/nest" --from "$build/kept" --keep "$build/again" "$of" >"$build/begun" || return 1
-    case $outcome in
-    shortest*) cmp "$build/again" "$build/kept" && agree "$outcome" "$(cat "$build/begun")" ;;
-    *)
-        [ "$(wc -c <"$build/again")" -eq "$(wc -c <"$build/kept")" ] &&
-            [ "$(length_told <"$build/begun")" -le "$(echo "$outcome" | length_told)" ]
-        ;;
+    says "$2" --keep "$build/kept" "$1" || return 1
+    [ "$(wc -c <"$build/kept")" -eq $((8 * ($(echo "$2" | wc -l) - 1))) ] || return 1
+    "$build/nest" --from "$build/kept" --keep "$build/again" "$1" >"$build/begun" || return 1
+    case $2 in
+    shortest*) cmp "$build/again" "$build/kept" && [ "$(steps_left_out <"$build/begun")" = "$(echo "$2" | steps_left_out)" ] ;;
+    *) [ "$(wc -c <"$build/again")" -eq "$(wc -c <"$build/kept")" ] && [ "$(length_told <"$build/begun")" -le "$(echo "$2" | length_told)" ] ;;
     esac
-}
-
-# Two outputs that may differ in the steps alone.
-agree() { # PRINTED PRINTED
-    [ "$(echo "$1" | steps_left_out)" = "$(echo "$2" | steps_left_out)" ]
 }
 
 steps_left_out() {
@@ -197,75 +182,6 @@ over_kept_layouts() {
         esac || { echo "jobs/$(basename "$job"): its layout is not kept as expected"; return 1; }
     done
     echo "C example: layouts kept and begun from as expected"
-}
-
-# What both kinds of run print for a job. Where both finish, they agree. Where one stops and both tell a length, the
-# second kind's, which no layout is shorter than, is no longer than the first's.
-kinds_agree() { # FIRST SECOND
-    case "$1$2" in
-    *stopped*)
-        held=$(echo "$1" | length_told)
-        risen=$(echo "$2" | length_told)
-        [ -z "$held" ] || [ -z "$risen" ] || [ "$risen" -le "$held" ]
-        ;;
-    refused*) [ "$1" = "$2" ] ;;
-    *)
-        finished=$((finished + 1))
-        agree "$1" "$2"
-        ;;
-    esac
-}
-
-# A job by rising lengths: what is printed is expected, where it is known, and goes with what the first kind prints. The
-# layout is kept if it is a shortest one, for there is no other.
-good_when_rising() { # JOB
-    printed=$("$build/nest" --rising "$1") || return 1
-    if [ -f "${1%.job}.rising" ]; then
-        known=$((known + 1))
-        echo "$printed" | cmp - "${1%.job}.rising" || return 1
-    fi
-    kinds_agree "$(cat "${1%.job}.out")" "$printed" || return 1
-    case $printed in
-    shortest*) good_when_kept "$1" "$printed" --rising ;;
-    *) nothing_kept "$1" "$printed" --rising ;;
-    esac
-}
-
-# Every job of jobs/, those with a known output and the others.
-over_rising_lengths() {
-    known=0
-    finished=0
-    for job in "$root"/jobs/*.job; do
-        good_when_rising "$job" || { echo "jobs/$(basename "$job") is not as expected by rising lengths"; return 1; }
-    done
-    echo "C example: every job by rising lengths as expected, $known to known outputs; $finished finished by both kinds"
-    [ "$finished" -gt 0 ] && [ "$known" -gt 0 ] && [ "$known" -eq "$(find "$root/jobs" -name '*.rising' | wc -l)" ]
-}
-
-# Both kinds on the first board, at budgets up to what they need. The second tries the lengths 2, 3 and 4, with 0, 2 and
-# 2 steps; one that takes no step is passed over also where none is left.
-over_budgets() {
-    board="$root/jobs/printed.job"
-    layout=$(tail -n 2 "$root/jobs/printed.out")
-    says "stopped - 0" --budget 0 "$board" || return 1
-    says "stopped - 1" --budget 1 "$board" || return 1
-    says "stopped 4 2
-$layout" --budget 2 "$board" || return 1
-    says "shortest 4 3
-$layout" --budget 3 "$board" || return 1
-    says "stopped 3 0" --rising --budget 0 "$board" || return 1
-    says "stopped 3 1" --rising --budget 1 "$board" || return 1
-    says "stopped 4 2" --rising --budget 2 "$board" || return 1
-    says "stopped 4 3" --rising --budget 3 "$board" || return 1
-    says "shortest 4 4
-$layout" --rising --budget 4 "$board" || return 1
-    says "stopped 3 1" --rising --budget 1 "$root/jobs/none.job" || return 1
-    says "none 2" --rising --budget 2 "$root/jobs/none.job" || return 1
-    says "none 0" --rising --budget 0 "$root/jobs/none-at-once.job" || return 1
-    for most in 4294967295 00004294967295; do
-        says "$(cat "$root/jobs/printed.rising")" --rising --budget "$most" "$board" || return 1
-    done
-    echo "C example: both kinds at budgets as expected"
 }
 
 # Files of other sizes than a layout's: no bytes give none, one byte behind the last number does not count, one number more
@@ -367,42 +283,6 @@ fails 'no-such.job' --from "$build/kept" "$root/jobs/no-such.job"
 fails_having_said "$(cat "$root/jobs/printed.out")" 'no-such-folder' --keep "$build/no-such-folder/kept" "$root/jobs/printed.job"
 [ ! -e /dev/full ] || fails_having_said "$(cat "$root/jobs/printed.out")" '/dev/full' --keep /dev/full "$root/jobs/printed.job"
 echo "C example: layouts that cannot be had or kept are told"
-over_rising_lengths
-over_budgets
-# With margin 1 the lengths 4, 5 and 6 are tried, with 0, 2 and 2 steps; the options are in either order.
-clamped="$root/jobs/clamped-squares.job"
-says "shortest 6 4
-0 1 1 0
-0 3 1 0" --rising --keep "$build/in_clamps" "$clamped" 1
-says "shortest 6 4
-0 1 1 0
-0 3 1 0" --keep "$build/again" --rising "$clamped" 1
-cmp "$build/in_clamps" "$build/again"
-says "stopped 5 1" --budget 1 --rising "$clamped" 1
-says "stopped 6 2" --rising --budget 2 "$clamped" 1
-says "none 0" --rising "$clamped" 2
-says "none 0" --rising --budget 0 "$clamped" 63
-says "refused 13" --rising "$clamped" 64
-says "refused 13" --rising "$clamped" 18446744073709551615
-says "refused 7" --rising "$root/jobs/refused-7-star.job" 64
-echo "C example: rising lengths under margins as expected"
-fails '^usage' --rising
-fails '^usage' --rising "$clamped" 1 1
-fails '^usage' --rising "$clamped" 18446744073709551616
-fails '^usage' "$clamped" --rising
-fails '^usage' --rising --from "$build/in_clamps" "$clamped"
-fails '^usage' --from "$build/in_clamps" --rising "$clamped"
-fails '^usage' --rising --save "$build/saved" "$clamped"
-fails '^usage' --rising --cut "$root/outlines/slot.outline"
-fails '^usage' --budget
-fails '^usage' --budget 1
-for bad in 4294967296 18446744073709551616 -1 +1 1x ""; do
-    fails '^usage' --rising --budget "$bad" "$clamped"
-done
-fails 'no-such.job' --rising "$root/jobs/no-such.job"
-fails_having_said "$(cat "$root/jobs/printed.rising")" 'no-such-folder' \
-    --rising --keep "$build/no-such-folder/kept" "$root/jobs/printed.job"
-echo "C example: rising lengths and budgets that cannot be had are told"
 over_outlines
 over_outline_sizes
 fails '^usage' --cut

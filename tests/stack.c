@@ -1,7 +1,7 @@
 /*
- * How much stack nest_run and nest_run_rising take, besides the buffers that they are lent: each job runs on a stack of
- * its own that was filled with a pattern, and what is no longer the pattern was used. More than 256 KiB fails. Each job
- * runs without a margin and with one, by nest_run also from the layout that the run before it held.
+ * How much stack nest_run takes, besides the buffers that it is lent: each job runs on a stack of its own that was
+ * filled with a pattern, and what is no longer the pattern was used. More than 256 KiB fails. Each job runs without a
+ * margin and with one, and again from the layout that the run before it held.
  * usage: stack BUDGET JOB...
  */
 #define _GNU_SOURCE
@@ -25,12 +25,6 @@ static uint32_t budget;
 static void *run(void *unused)
 {
     result = nest_run(job, job_len, margin, budget, layout, layout_len, work, sizeof work, answer, sizeof answer);
-    return unused;
-}
-
-static void *run_rising(void *unused)
-{
-    result = nest_run_rising(job, job_len, margin, budget, work, sizeof work, answer, sizeof answer);
     return unused;
 }
 
@@ -65,13 +59,8 @@ static size_t held(void)
     return NEST_LAYOUT_BYTES(content[last - 2]);
 }
 
-static size_t larger(size_t a, size_t b)
-{
-    return a > b ? a : b;
-}
-
-/* What nest_run takes for the present job, first from no layout and then from the one that is held. */
-static size_t used_by_runs(void)
+/* What the present job takes, first from no layout and then from the one that is held. */
+static size_t used_by_job(void)
 {
     size_t first, second;
     layout_len = 0;
@@ -79,19 +68,12 @@ static size_t used_by_runs(void)
     layout_len = held();
     memcpy(layout, answer, layout_len);
     second = used_by(run);
-    return larger(first, second);
-}
-
-/* Whether it is allowed that a service takes so much at most, which is printed. */
-static int allowed(const char *service, size_t most)
-{
-    printf("stack of %s: %zu bytes at most, %d allowed\n", service, most, LIMIT);
-    return most <= LIMIT;
+    return first > second ? first : second;
 }
 
 int main(int argc, char **argv)
 {
-    size_t most = 0, most_rising = 0, of_a_thread;
+    size_t most = 0, of_a_thread;
     stack = mmap(NULL, STACK, PROT_READ | PROT_WRITE, MAP_PRIVATE | MAP_ANONYMOUS, -1, 0);
     if (argc < 3 || stack == MAP_FAILED)
         return 2;
@@ -104,9 +86,11 @@ int main(int argc, char **argv)
         job_len = fread(job, 1, sizeof job, file);
         fclose(file);
         for (margin = 0; margin <= 1; margin++) {
-            most = larger(most, used_by_runs() - of_a_thread);
-            most_rising = larger(most_rising, used_by(run_rising) - of_a_thread);
+            size_t used = used_by_job() - of_a_thread;
+            if (used > most)
+                most = used;
         }
     }
-    return allowed("nest_run", most) & allowed("nest_run_rising", most_rising) ? 0 : 1;
+    printf("stack of nest_run: %zu bytes at most, %d allowed\n", most, LIMIT);
+    return most <= LIMIT ? 0 : 1;
 }

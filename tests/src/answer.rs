@@ -6,16 +6,14 @@ use std::fmt;
 pub const ENDED: u8 = 0;
 pub const STOPPED_WITH_LAYOUT: u8 = 1;
 pub const STOPPED_WITH_NOTHING: u8 = 2;
-/// The second kind of run: stopped at the length that the answer tells.
-pub const STOPPED_AT_LENGTH: u8 = 3;
 
 #[derive(Clone, Copy, PartialEq, Eq)]
 pub struct Answer {
     /// 0, or the refusal number.
     pub number: u8,
     pub verdict: u8,
-    /// A length (check, both kinds of run), numbers written (read), bytes written (save), words written (row) or
-    /// triangles written (cut).
+    /// A length (check, run), numbers written (read), bytes written (save), words written (row) or triangles
+    /// written (cut).
     pub count: u16,
     pub steps: u32,
 }

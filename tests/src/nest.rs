@@ -31,16 +31,6 @@ extern "C" {
         answer: *mut u8,
         answer_len: usize,
     ) -> u64;
-    fn nest_run_rising(
-        job: *const u8,
-        job_len: usize,
-        margin: u64,
-        budget: u32,
-        work: *mut u8,
-        work_len: usize,
-        answer: *mut u8,
-        answer_len: usize,
-    ) -> u64;
     fn nest_cut(outline: *const u8, outline_len: usize, answer: *mut u8, answer_len: usize) -> u64;
 }
 
@@ -80,12 +70,6 @@ pub unsafe fn run_at(job: Given, margin: u64, budget: u32, layout: Given, work: 
 
 /// # Safety
 /// As for the first.
-pub unsafe fn run_rising_at(job: Given, margin: u64, budget: u32, work: Given, answer: Given) -> Answer {
-    Answer::unpack(nest_run_rising(job.0, job.1, margin, budget, work.0, work.1, answer.0, answer.1))
-}
-
-/// # Safety
-/// As for the first.
 pub unsafe fn cut_at(outline: Given, answer: Given) -> Answer {
     Answer::unpack(nest_cut(outline.0, outline.1, answer.0, answer.1))
 }
@@ -121,11 +105,6 @@ pub fn check(job: &[u8], margin: u64, layout: &[u8]) -> Answer {
 pub fn run(job: &[u8], margin: u64, budget: u32, layout: &[u8], work: &mut [u8], answer: &mut [u8]) -> Answer {
     // SAFETY: as above; the two changed ones are borrowed apart.
     unsafe { run_at(kept(job), margin, budget, kept(layout), changed(work), changed(answer)) }
-}
-
-pub fn run_rising(job: &[u8], margin: u64, budget: u32, work: &mut [u8], answer: &mut [u8]) -> Answer {
-    // SAFETY: as above.
-    unsafe { run_rising_at(kept(job), margin, budget, changed(work), changed(answer)) }
 }
 
 pub fn cut(outline: &[u8], answer: &mut [u8]) -> Answer {

@@ -1,13 +1,12 @@
 //! The section "Small boards" of document 01, marked and unmarked, with what it says of each, or document 02 after it;
-//! and small boards that are refused, under a margin, of common cut, of types in no class, of the round gap, saved,
-//! begun from a given layout and of the second kind of run, with what documents 01 and 02 make of them, worked out by
-//! hand (but for the bytes of the largest content, which the encoder of the drafts puts together).
+//! and small boards that are refused, under a margin, of common cut, of types in no class, of the round gap, saved and
+//! begun from a given layout, with what documents 01 and 02 make of them, worked out by hand (but for the bytes of the
+//! largest content, which the encoder of the drafts puts together).
 
 mod common_cut;
 mod given;
 mod no_class;
 mod pairs;
-mod rising;
 mod round_gap;
 
 use crate::draft::{encode, Arrangement, Draft};
@@ -15,8 +14,6 @@ use crate::draft::{encode, Arrangement, Draft};
 pub enum Claim {
     /// What a program that passes this margin and budget, and gives a layout of these bytes, would print.
     Run { margin: u64, budget: u32, given: Vec<u8>, printed: &'static str },
-    /// What it would print for a run of the second kind.
-    Rising { margin: u64, budget: u32, printed: &'static str },
     /// Conflict of the first type on one dot with the second on another, unturned; or what refuses the row.
     Conflict { margin: u64, types: (usize, usize), one: Dot, other: Dot, holds: Result<bool, u8> },
     /// The length of a layout; or what refuses it.
@@ -88,8 +85,7 @@ fn check(layout: &'static [u16], length: Result<u16, u8>) -> Claim {
 impl Claim {
     pub fn margin(&self) -> u64 {
         match self {
-            Claim::Run { margin, .. } | Claim::Rising { margin, .. } => *margin,
-            Claim::Conflict { margin, .. } | Claim::Check { margin, .. } => *margin,
+            Claim::Run { margin, .. } | Claim::Conflict { margin, .. } | Claim::Check { margin, .. } => *margin,
             Claim::Reads(_) | Claim::Gives(_) | Claim::Saves(_) => 0,
         }
     }
@@ -105,7 +101,6 @@ pub fn small_boards() -> Vec<SmallBoard> {
     boards.extend(round_gap::boards_of_the_round_gap());
     boards.extend(boards_saved());
     boards.extend(given::boards_with_a_given_layout());
-    boards.extend(rising::boards_rising());
     boards
 }
 

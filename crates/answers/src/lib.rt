@@ -14,10 +14,8 @@ ghost use Rattle.model.specs.Answers.{
   check_word,
   run_word,
 };
-ghost use Rattle.rising.specs.Service.{answer_number, answer_length, answer_steps, answer_verdict, answer_word};
 
 use model::{Checked, Held, RunAnswer, Written};
-use rising::RisingAnswer;
 
 // The number of the refusal, and 0 where there is none.
 pub fn written_number(a: Written) -> u8
@@ -113,54 +111,6 @@ pub fn run_verdict(a: RunAnswer) -> u8
     }
 }
 
-// The number of the refusal, 10 for none, and 0 otherwise.
-pub fn rising_number(a: RisingAnswer) -> u8
-    ensures { result ≡ answer_number a }
-{
-    match a {
-        RisingAnswer::Refused(n) => n,
-        RisingAnswer::Shortest(_, _) => 0,
-        RisingAnswer::Stopped(_, _) => 0,
-        RisingAnswer::Infeasible(_) => 10,
-    }
-}
-
-// The length of the layout that is held, or the length being tried where it stopped; 0 otherwise.
-pub fn rising_length(a: RisingAnswer) -> u16
-    ensures { result ≡ answer_length a }
-{
-    match a {
-        RisingAnswer::Refused(_) => 0,
-        RisingAnswer::Shortest(n, _) => n,
-        RisingAnswer::Stopped(n, _) => n,
-        RisingAnswer::Infeasible(_) => 0,
-    }
-}
-
-// The steps taken, and 0 for a refusal.
-pub fn rising_steps(a: RisingAnswer) -> u32
-    ensures { result ≡ answer_steps a }
-{
-    match a {
-        RisingAnswer::Refused(_) => 0,
-        RisingAnswer::Shortest(_, s) => s,
-        RisingAnswer::Stopped(_, s) => s,
-        RisingAnswer::Infeasible(s) => s,
-    }
-}
-
-// How the second kind of run ended: 0 finished or refused, 3 stopped at a length.
-pub fn rising_verdict(a: RisingAnswer) -> u8
-    ensures { result ≡ answer_verdict a }
-{
-    match a {
-        RisingAnswer::Refused(_) => 0,
-        RisingAnswer::Shortest(_, _) => 0,
-        RisingAnswer::Stopped(_, _) => 3,
-        RisingAnswer::Infeasible(_) => 0,
-    }
-}
-
 // The four fields of an answer in one number.
 fn pack(number: u8, verdict: u8, length: u16, steps: u32) -> u64
     ensures { result ≡ fields number verdict length steps }
@@ -187,16 +137,4 @@ pub fn run_word(a: RunAnswer) -> u64
     ensures { result ≡ run_word a }
 {
     pack(run_number(a), run_verdict(a), run_length(a), run_steps(a))
-}
-
-// An answer of the second kind of run as one number.
-pub fn rising_word(a: RisingAnswer) -> u64
-    ensures { result ≡ answer_word a }
-{
-    pack(
-        rising_number(a),
-        rising_verdict(a),
-        rising_length(a),
-        rising_steps(a),
-    )
 }

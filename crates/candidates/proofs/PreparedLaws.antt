@@ -23,7 +23,7 @@ use Rattle.model.specs.Layout.{entry, entry_of, entry_kind, conflict}
 use Rattle.model.specs.Lists.{all, concat}
 use Rattle.model.specs.Problem.{Problem, under}
 use Rattle.model.proofs.Accepted.{accepted-sensible}
-use Rattle.model.proofs.Box.{all-on_board, placed-vertices, extent-placed, largest-x-moved, largest-y-moved, smallest-x-moved, smallest-y-moved}
+use Rattle.model.proofs.Box.{all-on_board, placed-vertices, extent-placed, largest-x-moved, largest-y-moved, smallest_x-moved, smallest_y-moved}
 use Rattle.model.proofs.Lists.{and_left}
 use Rattle.model.proofs.Numbers.{rows-positive}
 use Rattle.model.proofs.Gaps.{gap-most}
@@ -122,7 +122,7 @@ module _ (s : List ℕ) (v : View) (b : Boxes) (x : Viewed s v) (y : BoxesOf s b
       (sym
       (ap (all (on_board v.margin sheet)) (placed-vertices sheet (kind_at (content s).kinds t) (placement c r k))
       ∙ all-on_board v.margin sheet ms (rw (length-map vs (moved (c * sheet.g) (r * sheet.g))) some)
-      ∙ rw (smallest-x-moved (c * sheet.g) (r * sheet.g) vs some, largest-x-moved (c * sheet.g) (r * sheet.g) vs some, smallest-y-moved (c * sheet.g) (r * sheet.g) vs some, largest-y-moved (c * sheet.g) (r * sheet.g) vs some)
+      ∙ rw (smallest_x-moved (c * sheet.g) (r * sheet.g) vs some, largest-x-moved (c * sheet.g) (r * sheet.g) vs some, smallest_y-moved (c * sheet.g) (r * sheet.g) vs some, largest-y-moved (c * sheet.g) (r * sheet.g) vs some)
       (search and_assoc)))
 
   -- Whether a kind may stand on a dot at a rotation is what the model says.

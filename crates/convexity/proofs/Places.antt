@@ -19,7 +19,7 @@ use Rattle.model.specs.Content.{Vertex, Part, origin}
 use Rattle.model.specs.Geometry.{vertex_at, following, cross, strictly_left, edge_sound, sound, Direction, direction, outward_normal, normals, negated, directions, along, separates, disjoint}
 use Rattle.model.specs.Lists.{any, below, largest_z, smallest_z}
 use Rattle.model.proofs.Lists.{all-below}
-use Rattle.model.proofs.Extremes.{largest-test, smallest-test}
+use Rattle.model.proofs.Extremes.{largest-test, smallest_test}
 use Rattle.convexity.specs.Parts.{width}
 use Rattle.convexity.specs.Square.{clearance, separates_by}
 use Rattle.convexity.proofs.Members.{In, here, there, not_in, in_left, in_right, all_in, in_all, in_any, in_map, map-in, in_at, at_in, in_below, below_in}
@@ -115,12 +115,12 @@ largest-upper zs h z i =
 largest-least : (zs : List ℤ) → 0 < length zs → (c : ℤ) → ((z : ℤ) → In z zs → z ≤ℤ c) → largest_z zs ≤ℤ c
 largest-least zs h c f = le_z_true (largest_z zs) c (largest-test c zs h ∙ in_all (λ z. le_z z c) zs (λ z i. le_le_z z c (f z i)))
 
-smallest-lower : (zs : List ℤ) → 0 < length zs → (z : ℤ) → In z zs → smallest_z zs ≤ℤ z
-smallest-lower zs h z i =
-    le_z_true (smallest_z zs) z (all_in (le_z (smallest_z zs)) zs (sym (smallest-test (smallest_z zs) zs h) ∙ le_le_z _ _ (≤ℤ_refl (smallest_z zs))) z i)
+smallest_lower : (zs : List ℤ) → 0 < length zs → (z : ℤ) → In z zs → smallest_z zs ≤ℤ z
+smallest_lower zs h z i =
+    le_z_true (smallest_z zs) z (all_in (le_z (smallest_z zs)) zs (sym (smallest_test (smallest_z zs) zs h) ∙ le_le_z _ _ (≤ℤ_refl (smallest_z zs))) z i)
 
-smallest-greatest : (zs : List ℤ) → 0 < length zs → (c : ℤ) → ((z : ℤ) → In z zs → c ≤ℤ z) → c ≤ℤ smallest_z zs
-smallest-greatest zs h c f = le_z_true c (smallest_z zs) (smallest-test c zs h ∙ in_all (le_z c) zs (λ z i. le_le_z c z (f z i)))
+smallest_greatest : (zs : List ℤ) → 0 < length zs → (c : ℤ) → ((z : ℤ) → In z zs → c ≤ℤ z) → c ≤ℤ smallest_z zs
+smallest_greatest zs h c f = le_z_true c (smallest_z zs) (smallest_test c zs h ∙ in_all (le_z c) zs (λ z i. le_le_z c z (f z i)))
 
 module _ (gap : ℕ) (P Q : Part) (some_p : 0 < length P) (some_q : 0 < length Q) (d : Direction) where
   first_some : 0 < length (map (along d) P)
@@ -136,13 +136,13 @@ module _ (gap : ℕ) (P Q : Part) (some_p : 0 < length P) (some_q : 0 < length Q
       order 5 (λ u l k s v. (u ≲ l) ∷ (l ⊞ k ≲ s) ∷ (s ≲ v) ∷ [] ⊢ u ⊞ k ≲ v by hyp 0 ⊕ hyp 1 ⊕ hyp 2) tt
       (along d p) (largest_z (map (along d) P)) (clearance gap d) (smallest_z (map (along d) Q)) (along d q)
       (largest-upper (map (along d) P) first_some (along d p) (in_map (along d) i)) (le_z_true _ _ h)
-      (smallest-lower (map (along d) Q) second_some (along d q) (in_map (along d) j))
+      (smallest_lower (map (along d) Q) second_some (along d q) (in_map (along d) j))
 
   pub corners-separate : Sep (pos gap) d.a d.b P Q → separates_by gap P Q d ≡ true
   unfolding separates_by along clearance
   corners-separate f =
       le_le_z _ _
-      (smallest-greatest (map (along d) Q) second_some _ (λ z j.
+      (smallest_greatest (map (along d) Q) second_some _ (λ z j.
       (let q = map-in (along d) Q z j in
       subst (λ v. (largest_z (map (along d) P) +ℤ clearance gap d) ≤ℤ v) q.2
       (back (largest_z (map (along d) P)) (clearance gap d) (along d q.0)
@@ -162,7 +162,7 @@ module _ (gap : ℕ) (P Q : Part) (some_p : 0 < length P) (some_q : 0 < length Q
       order 4 (λ u l s v. (u ≲ l) ∷ (s ≲ v) ∷ [] ⊢ u ⊞ (s ⊟ l) ≲ v by hyp 0 ⊕ hyp 1) tt
       (along d p) (largest_z (map (along d) P)) (smallest_z (map (along d) Q)) (along d q)
       (largest-upper (map (along d) P) first_some (along d p) (in_map (along d) i))
-      (smallest-lower (map (along d) Q) second_some (along d q) (in_map (along d) j))
+      (smallest_lower (map (along d) Q) second_some (along d q) (in_map (along d) j))
 
 -- at gap 0
 pub zero_gap : (P Q : Part) (d : Direction) → separates_by 0 P Q d ≡ separates P Q d

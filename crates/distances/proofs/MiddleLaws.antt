@@ -19,9 +19,9 @@ use Rattle.integers.proofs.Solver.{ring, #, ◌⊞◌, ◌⊟◌, ◌⊠◌, ⊖
 use Rattle.model.specs.Content.{Vertex, vertex, Part}
 use Rattle.model.specs.Geometry.{Direction, direction, negated, vertex_at, along, distance_squared, shifted, separated}
 use Rattle.model.specs.Lists.{smallest_z}
-use Rattle.model.proofs.Conflict.{smallest-opposite}
+use Rattle.model.proofs.Conflict.{smallest_opposite}
 use Rattle.model.proofs.Lists.{and_left, and_right}
-use Rattle.model.proofs.Moves.{smallest-shifted, vertex_at-map}
+use Rattle.model.proofs.Moves.{smallest_shifted, vertex_at-map}
 use Rattle.convexity.specs.Parts.{SoundPart, width}
 use Rattle.convexity.proofs.Soundness.{shifted-sound}
 use Rattle.convexity.proofs.Theorems.{width-separated, corners-near}
@@ -96,7 +96,7 @@ module _ (gap : ℕ) (P Q : Part) (dx dy a b : ℤ) (sound_p : SoundPart P) (sou
   unfolding along negated
   begins =
       ap (λ (d : Direction). smallest_z (map (along d) Q)) (sym (λ k. direction (twice a k) (twice b k)))
-      ∙ smallest-opposite (direction (pos 0 -ℤ a) (pos 0 -ℤ b)) Q
+      ∙ smallest_opposite (direction (pos 0 -ℤ a) (pos 0 -ℤ b)) Q
       ∙ ap neg_ℤ hj.most
       ∙ ring 4 (λ a b x y. ⊖ ((# (pos 0) ⊟ a) ⊠ x ⊞ (# (pos 0) ⊟ b) ⊠ y) ≈ a ⊠ x ⊞ b ⊠ y) tt a b (vertex_at Q j).x (vertex_at Q j).y
     where
@@ -107,7 +107,7 @@ module _ (gap : ℕ) (P Q : Part) (dx dy a b : ℤ) (sound_p : SoundPart P) (sou
   width_is : width P moved (direction a b) ≡ a *ℤ way_x +ℤ b *ℤ way_y
   unfolding along
   width_is =
-      ap₂ ◌-ℤ◌ (smallest-shifted (direction a b) dx dy Q (omega (arith, sound_q.corners)) ∙ ap (λ z. z +ℤ along (direction a b) (vertex dx dy)) begins) hi.most
+      ap₂ ◌-ℤ◌ (smallest_shifted (direction a b) dx dy Q (omega (arith, sound_q.corners)) ∙ ap (λ z. z +ℤ along (direction a b) (vertex dx dy)) begins) hi.most
       ∙ ring 8 (λ a b qx qy dx dy px py. ((a ⊠ qx ⊞ b ⊠ qy) ⊞ (a ⊠ dx ⊞ b ⊠ dy)) ⊟ (a ⊠ px ⊞ b ⊠ py) ≈ a ⊠ (qx ⊞ dx ⊟ px) ⊞ b ⊠ (qy ⊞ dy ⊟ py)) tt
       a b (vertex_at Q j).x (vertex_at Q j).y dx dy (vertex_at P i).x (vertex_at P i).y
 

@@ -4,8 +4,7 @@ ghost use Rattle.model.specs.Format.{section, share_byte, cause3};
 
 use crate::trailer;
 
-// The smaller of two numbers.
-pub fn smaller(a: usize, b: usize) -> usize
+fn smaller(a: usize, b: usize) -> usize
     ensures { result ≡ min a b }
 {
     if a < b { a } else { b }

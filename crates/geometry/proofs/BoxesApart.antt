@@ -17,7 +17,7 @@ use Rattle.model.specs.Geometry.{Direction, direction, along, separated, pieces_
 use Rattle.model.specs.Lists.{any, concat, largest_z, smallest_z}
 use Rattle.model.proofs.Box.{concat-one}
 use Rattle.model.proofs.Conflict.{separated-symmetric}
-use Rattle.model.proofs.Moves.{Vertexed, largest-shifted, smallest-shifted}
+use Rattle.model.proofs.Moves.{Vertexed, largest-shifted, smallest_shifted}
 use Rattle.convexity.specs.Parts.{SoundPart, SoundParts}
 use Rattle.convexity.specs.Square.{clearance, separates_by}
 use Rattle.convexity.proofs.Soundness.{shifted-sound, vertexed_sound}
@@ -172,7 +172,7 @@ module _ (gap : ℕ) (P Q : Part) (dx dy : ℤ) (sound_p : SoundPart P) (sound_q
     unfolding separates_by
     before e =
         direction-separated P R sound_p (shifted-sound dx dy Q sound_q) gap u axis.some
-        (ap (le_z (largest_z (map (along u) P) +ℤ clearance gap u)) (smallest-shifted u dx dy Q some_q)
+        (ap (le_z (largest_z (map (along u) P) +ℤ clearance gap u)) (smallest_shifted u dx dy Q some_q)
         ∙ ap (λ k. le_z (largest_z (map (along u) P) +ℤ k) (smallest_z (map (along u) Q) +ℤ along u (vertex dx dy))) (axis.pad gap)
         ∙ ap (λ (f : Vertex → ℤ). le_z (largest_z (map f P) +ℤ pos gap) (smallest_z (map f Q) +ℤ f (vertex dx dy))) axis.measure
         ∙ ap (λ s. le_z (s +ℤ pos gap) (smallest_z (map g Q) +ℤ g (vertex dx dy))) (sym (+ℤ_idr (largest_z (map g P)))) ∙ e)

@@ -15,7 +15,7 @@ use Rattle.model.specs.Lists.{any, largest_z, smallest_z}
 use Rattle.model.proofs.Conflict.{disjoint-groups, separated-symmetric}
 use Rattle.model.proofs.Extremes.{le_z_same}
 use Rattle.model.proofs.Lists.{and_both}
-use Rattle.model.proofs.Moves.{largest-shifted, smallest-shifted, normals-shifted, clear-shifted-corner, separated-shifted, unmoved}
+use Rattle.model.proofs.Moves.{largest-shifted, smallest_shifted, normals-shifted, clear-shifted-corner, separated-shifted, unmoved}
 use Rattle.model.proofs.Tests.{any_same}
 use Rattle.convexity.proofs.Clear.{clear_zero}
 use Rattle.polygons.specs.Flat.{shifted}
@@ -31,7 +31,7 @@ module _ (P Q : Part) (dx dy : ℤ) (some_q : 0 < length Q) where
   -- a normal of P
   clears_first : (d : Direction) → separates_moved P Q (vertex dx dy) d ≡ separates P (map (shifted dx dy) Q) d
   unfolding separates_moved separates
-  clears_first d = ap (le_z (largest_z (map (along d) P))) (sym (smallest-shifted d dx dy Q some_q))
+  clears_first d = ap (le_z (largest_z (map (along d) P))) (sym (smallest_shifted d dx dy Q some_q))
 
   -- a normal of Q, with the parts changed over
   clears_second : (d : Direction) → separates_moved Q P (vertex (pos 0 -ℤ dx) (pos 0 -ℤ dy)) d ≡ separates (map (shifted dx dy) Q) P d

@@ -15,11 +15,11 @@ use Rattle.model.specs.Gap.{names, outranks, better, best_from, best_ranked, bes
 use Rattle.model.specs.Lists.{keep, concat, largest, rising, below}
 use Rattle.model.proofs.Folds.{keep_append, largest-below-more}
 use Rattle.model.proofs.Permuted.{map-permuted, largest-permuted}
-use Rattle.model.proofs.Saving.Kept.{risen-permuted}
+use Rattle.model.proofs.Saving.Kept.{risen_permuted}
 use Rattle.records.specs.Classes.{classes_from, index_of, all_in_range, distinct_column}
 use Rattle.job.specs.Gaps.{cut_number, cut_or0, same_cut, best_of, no_best, best_at, offered, offered_id, best_below}
 use Rattle.job.specs.declared.gaps.Best.{Best}
-use Rattle.records.proofs.ClassLaws.{risen-more, found, found-is}
+use Rattle.records.proofs.ClassLaws.{risen_more, found, found-is}
 
 -- ---- Classes offered one after the other
 
@@ -84,8 +84,8 @@ module _ (s : List ℕ) (o n : ℕ) (k : Kind) (d : distinct_column s o n ≡ tr
   abbrev risen : ℕ → List SpacingClass
   risen i = concat (map (λ i. keep (λ c. eqb c.id i) (classes_from s o n)) (below i))
 
-  risen-suc : (i : ℕ) → risen (suc i) ≡ risen i ++ keep (λ c. eqb c.id i) (classes_from s o n)
-  risen-suc i = ap risen (sym (add-one i)) ∙ risen-more (classes_from s o n) i
+  risen_suc : (i : ℕ) → risen (suc i) ≡ risen i ++ keep (λ c. eqb c.id i) (classes_from s o n)
+  risen_suc i = ap risen (sym (add-one i)) ∙ risen_more (classes_from s o n) i
 
   offered-below : (default i : ℕ) → best_below s o n default k.classes i ≡ offers (no_best default) (keep (names k) (risen i))
   unfolding best_below below rising concat keep offers
@@ -96,7 +96,7 @@ module _ (s : List ℕ) (o n : ℕ) (k : Kind) (d : distinct_column s o n ≡ tr
       ∙ sym (offer_one i (offers before (keep (names k) (risen i))))
       ∙ sym (offers_append before (keep (names k) (risen i)) (keep (names k) (keep (λ c. eqb c.id i) (classes_from s o n))))
       ∙ ap (offers before) (sym (keep_append (names k) (risen i) (keep (λ c. eqb c.id i) (classes_from s o n))))
-      ∙ ap (λ l. offers before (keep (names k) l)) (sym (risen-suc i))
+      ∙ ap (λ l. offers before (keep (names k) l)) (sym (risen_suc i))
 
   -- What is kept is that of the kind's best-ranked class.
   pub best-is : (default : ℕ) → best_below s o n default k.classes 8 ≡ kept default (best_class (by_rising_id (classes_from s o n)) k)
@@ -130,7 +130,7 @@ largest-next s o i m r e q =
 -- In the order of the file it is the largest by rising id.
 pub largest-risen : (s : List ℕ) (o n : ℕ) → all_in_range s o n ≡ true → largest_gap (classes_from s o n) ≡ largest_gap (by_rising_id (classes_from s o n))
 unfolding largest_gap all_in_range
-largest-risen s o n e = largest-permuted (map-permuted (λ c. c.gap) (risen-permuted (classes_from s o n) e))
+largest-risen s o n e = largest-permuted (map-permuted (λ c. c.gap) (risen_permuted (classes_from s o n) e))
 
 -- ---- One id in the code
 

@@ -12,7 +12,7 @@ use Rattle.model.specs.Content.{Vertex, Part, Kind, Board}
 use Rattle.model.specs.Geometry.{rotated, moved, shifted}
 use Rattle.model.specs.Grid.{Placement}
 use Rattle.model.specs.Lists.{all, concat, largest_z, smallest_z}
-use Rattle.model.proofs.Extremes.{largest-test, smallest-test, largest-append, smallest-append, largest-through, smallest-through}
+use Rattle.model.proofs.Extremes.{largest-test, smallest_test, largest-append, smallest_append, largest-through, smallest_through}
 use Rattle.model.proofs.Moves.{placed-moved}
 use Rattle.model.proofs.Tests.{all_map}
 
@@ -37,7 +37,7 @@ module _ {A : Type 0} where
 module _ (g : Vertex → ℤ) (vs : List Vertex) (some : 0 < length vs) where
   -- what g gives is at least c everywhere, or at most c
   pub all_above : (c : ℤ) → all (λ v. le_z c (g v)) vs ≡ le_z c (smallest_z (map g vs))
-  all_above c = sym (smallest-test c (map g vs) (rw (length-map vs g) some) ∙ all_map (le_z c) g vs)
+  all_above c = sym (smallest_test c (map g vs) (rw (length-map vs g) some) ∙ all_map (le_z c) g vs)
 
   pub all-below-bound : (c : ℤ) → all (λ v. le_z (g v) c) vs ≡ le_z (largest_z (map g vs)) c
   all-below-bound c = sym (largest-test c (map g vs) (rw (length-map vs g) some) ∙ all_map (λ z. le_z z c) g vs)
@@ -72,11 +72,11 @@ module _ (a b : ℤ) (vs : List Vertex) (some : 0 < length vs) where
   pub largest-y-shifted : largest_z (map (λ v. v.y) (map (shifted a b) vs)) ≡ largest_z (map (λ v. v.y) vs) +ℤ b
   largest-y-shifted = largest-through (λ v. v.y) (shifted a b) b (λ v. refl) vs some
 
-  pub smallest-x-shifted : smallest_z (map (λ v. v.x) (map (shifted a b) vs)) ≡ smallest_z (map (λ v. v.x) vs) +ℤ a
-  smallest-x-shifted = smallest-through (λ v. v.x) (shifted a b) a (λ v. refl) vs some
+  pub smallest_x-shifted : smallest_z (map (λ v. v.x) (map (shifted a b) vs)) ≡ smallest_z (map (λ v. v.x) vs) +ℤ a
+  smallest_x-shifted = smallest_through (λ v. v.x) (shifted a b) a (λ v. refl) vs some
 
-  pub smallest-y-shifted : smallest_z (map (λ v. v.y) (map (shifted a b) vs)) ≡ smallest_z (map (λ v. v.y) vs) +ℤ b
-  smallest-y-shifted = smallest-through (λ v. v.y) (shifted a b) b (λ v. refl) vs some
+  pub smallest_y-shifted : smallest_z (map (λ v. v.y) (map (shifted a b) vs)) ≡ smallest_z (map (λ v. v.y) vs) +ℤ b
+  smallest_y-shifted = smallest_through (λ v. v.y) (shifted a b) b (λ v. refl) vs some
 
 -- the same of the model's move
 module _ (dx dy : ℕ) (vs : List Vertex) (some : 0 < length vs) where
@@ -88,13 +88,13 @@ module _ (dx dy : ℕ) (vs : List Vertex) (some : 0 < length vs) where
   unfolding moved
   largest-y-moved = largest-y-shifted (pos dx) (pos dy) vs some
 
-  pub smallest-x-moved : smallest_z (map (λ v. v.x) (map (moved dx dy) vs)) ≡ smallest_z (map (λ v. v.x) vs) +ℤ pos dx
+  pub smallest_x-moved : smallest_z (map (λ v. v.x) (map (moved dx dy) vs)) ≡ smallest_z (map (λ v. v.x) vs) +ℤ pos dx
   unfolding moved
-  smallest-x-moved = smallest-x-shifted (pos dx) (pos dy) vs some
+  smallest_x-moved = smallest_x-shifted (pos dx) (pos dy) vs some
 
-  pub smallest-y-moved : smallest_z (map (λ v. v.y) (map (moved dx dy) vs)) ≡ smallest_z (map (λ v. v.y) vs) +ℤ pos dy
+  pub smallest_y-moved : smallest_z (map (λ v. v.y) (map (moved dx dy) vs)) ≡ smallest_z (map (λ v. v.y) vs) +ℤ pos dy
   unfolding moved
-  smallest-y-moved = smallest-y-shifted (pos dx) (pos dy) vs some
+  smallest_y-moved = smallest_y-shifted (pos dx) (pos dy) vs some
 
 -- ---- the box of several parts
 
@@ -104,10 +104,10 @@ module _ (g : Vertex → ℤ) (P : Part) (Ps : List Part) (some : 0 < length P) 
   largest-concat =
       ap largest_z (map-append g P (concat Ps)) ∙ largest-append (map g P) (map g (concat Ps)) (rw (length-map P g) some) (rw (length-map (concat Ps) g) others)
 
-  pub smallest-concat : smallest_z (map g (concat (P ∷ Ps))) ≡ min_z (smallest_z (map g P)) (smallest_z (map g (concat Ps)))
+  pub smallest_concat : smallest_z (map g (concat (P ∷ Ps))) ≡ min_z (smallest_z (map g P)) (smallest_z (map g (concat Ps)))
   unfolding concat
-  smallest-concat =
-      ap smallest_z (map-append g P (concat Ps)) ∙ smallest-append (map g P) (map g (concat Ps)) (rw (length-map P g) some) (rw (length-map (concat Ps) g) others)
+  smallest_concat =
+      ap smallest_z (map-append g P (concat Ps)) ∙ smallest_append (map g P) (map g (concat Ps)) (rw (length-map P g) some) (rw (length-map (concat Ps) g) others)
 
 -- of one part alone
 pub concat-one : (P : Part) → concat (P ∷ []) ≡ P

@@ -45,9 +45,9 @@ module _ (b : ℕ) where
   unfolding marks_cut
   marks e = let r = between-both _ _ b e in (omega arith, omega arith)
 
-  marks-not : marks_cut b ≡ false → (b < 128) ⊎ (191 < b)
+  marks_not : marks_cut b ≡ false → (b < 128) ⊎ (191 < b)
   unfolding marks_cut between
-  marks-not e = ⊎_elim (λ l. inr (leb-false b 191 (sym (ap (λ t. t && leb b 191) (le-leb 128 b l)) ∙ e))) inl (le_or_lt 128 b)
+  marks_not e = ⊎_elim (λ l. inr (leb-false b 191 (sym (ap (λ t. t && leb b 191) (le-leb 128 b l)) ∙ e))) inl (le_or_lt 128 b)
 
   -- The bytes that mean a gap above 63.
   above-63 : (63 < gap_meant b) ↔ (((64 ≤ b) × (b ≤ 127)) ⊎ (191 < b))
@@ -55,7 +55,7 @@ module _ (b : ℕ) where
     where
       go : (t : Bool) → marks_cut b ≡ t → 63 < gap_meant b → ((64 ≤ b) × (b ≤ 127)) ⊎ (191 < b)
       go true e h = let m = meant true e in let r = marks e in absurd (omega arith)
-      go false e h = let m = meant false e in ⊎_elim (λ l. inl (omega arith, omega arith)) inr (marks-not e)
+      go false e h = let m = meant false e in ⊎_elim (λ l. inl (omega arith, omega arith)) inr (marks_not e)
 
       back : (t : Bool) → marks_cut b ≡ t → ((64 ≤ b) × (b ≤ 127)) ⊎ (191 < b) → 63 < gap_meant b
       back true e h = let r = marks e in absurd (⊎_elim (λ l. omega arith) (λ l. omega arith) h)

@@ -14,7 +14,7 @@ use Rattle.model.specs.Layout.{Entry, entry_kind, conflict}
 use Rattle.model.specs.Lists.{any, largest_z, smallest_z}
 use Rattle.model.specs.Problem.{Problem}
 use Rattle.model.proofs.CommonCut.{pair_gap-symmetric}
-use Rattle.model.proofs.Extremes.{le_z_same, largest-negated, smallest-negated}
+use Rattle.model.proofs.Extremes.{le_z_same, largest-negated, smallest_negated}
 use Rattle.model.proofs.Tests.{any_append, any-reordered, any-map, any_same, any-pair}
 
 -- ---- the opposite direction
@@ -33,15 +33,15 @@ map-along-negated d (v ∷ P) =
 pub largest-opposite : (d : Direction) (P : Part) → largest_z (map (along (negated d)) P) ≡ neg_ℤ (smallest_z (map (along d) P))
 largest-opposite d P = ap largest_z (map-along-negated d P) ∙ largest-negated (map (along d) P)
 
-pub smallest-opposite : (d : Direction) (P : Part) → smallest_z (map (along (negated d)) P) ≡ neg_ℤ (largest_z (map (along d) P))
-smallest-opposite d P = ap smallest_z (map-along-negated d P) ∙ smallest-negated (map (along d) P)
+pub smallest_opposite : (d : Direction) (P : Part) → smallest_z (map (along (negated d)) P) ≡ neg_ℤ (largest_z (map (along d) P))
+smallest_opposite d P = ap smallest_z (map-along-negated d P) ∙ smallest_negated (map (along d) P)
 
 -- The opposite direction separates P from Q exactly if this one separates Q from P.
 pub separates-negated : (P Q : Part) (d : Direction) → separates P Q (negated d) ≡ separates Q P d
 unfolding separates
 separates-negated P Q d =
     ap (λ s. le_z s (smallest_z (map (along (negated d)) Q))) (largest-opposite d P)
-    ∙ ap (le_z (neg_ℤ (smallest_z (map (along d) P)))) (smallest-opposite d Q)
+    ∙ ap (le_z (neg_ℤ (smallest_z (map (along d) P)))) (smallest_opposite d Q)
     ∙ flip (largest_z (map (along d) Q)) (smallest_z (map (along d) P))
   where
     flip : (l s : ℤ) → le_z (neg_ℤ s) (neg_ℤ l) ≡ le_z l s

@@ -104,13 +104,13 @@ pub largest-more : (z w : ℤ) (ws : List ℤ) → largest_from z (w ∷ ws) ≡
 unfolding largest_from
 largest-more z w ws = refl
 
-smallest-none : (z : ℤ) → smallest_from z [] ≡ z
+smallest_none : (z : ℤ) → smallest_from z [] ≡ z
 unfolding smallest_from
-smallest-none z = refl
+smallest_none z = refl
 
-pub smallest-more : (z w : ℤ) (ws : List ℤ) → smallest_from z (w ∷ ws) ≡ smallest_from (min_z z w) ws
+pub smallest_more : (z w : ℤ) (ws : List ℤ) → smallest_from z (w ∷ ws) ≡ smallest_from (min_z z w) ws
 unfolding smallest_from
-smallest-more z w ws = refl
+smallest_more z w ws = refl
 
 -- ---- the largest and the smallest of a list
 
@@ -120,10 +120,10 @@ unfolding largest_z
 largest-add c [] h = absurd (not-suc-le-zero h)
 largest-add c (z ∷ zs) h = fold_add max_z largest_from largest-none largest-more max-+ℤ c z zs
 
-pub smallest-add : (c : ℤ) (xs : List ℤ) → 0 < length xs → smallest_z (map (λ z. z +ℤ c) xs) ≡ smallest_z xs +ℤ c
+pub smallest_add : (c : ℤ) (xs : List ℤ) → 0 < length xs → smallest_z (map (λ z. z +ℤ c) xs) ≡ smallest_z xs +ℤ c
 unfolding smallest_z
-smallest-add c [] h = absurd (not-suc-le-zero h)
-smallest-add c (z ∷ zs) h = fold_add min_z smallest_from smallest-none smallest-more min-+ℤ c z zs
+smallest_add c [] h = absurd (not-suc-le-zero h)
+smallest_add c (z ∷ zs) h = fold_add min_z smallest_from smallest_none smallest_more min-+ℤ c z zs
 
 -- the largest of some numbers is at most c exactly if all are
 pub largest-test : (c : ℤ) (xs : List ℤ) → 0 < length xs → le_z (largest_z xs) c ≡ all (λ z. le_z z c) xs
@@ -132,10 +132,10 @@ largest-test c [] h = absurd (not-suc-le-zero h)
 largest-test c (z ∷ zs) h = fold_test max_z largest_from largest-none largest-more (λ z. le_z z c) (max_test c) z zs
 
 -- the smallest of some numbers is at least c exactly if all are
-pub smallest-test : (c : ℤ) (xs : List ℤ) → 0 < length xs → le_z c (smallest_z xs) ≡ all (le_z c) xs
+pub smallest_test : (c : ℤ) (xs : List ℤ) → 0 < length xs → le_z c (smallest_z xs) ≡ all (le_z c) xs
 unfolding smallest_z all
-smallest-test c [] h = absurd (not-suc-le-zero h)
-smallest-test c (z ∷ zs) h = fold_test min_z smallest_from smallest-none smallest-more (le_z c) (min_test c) z zs
+smallest_test c [] h = absurd (not-suc-le-zero h)
+smallest_test c (z ∷ zs) h = fold_test min_z smallest_from smallest_none smallest_more (le_z c) (min_test c) z zs
 
 -- of two lists, each with a number
 pub largest-append : (xs ys : List ℤ) → 0 < length xs → 0 < length ys → largest_z (xs ++ ys) ≡ max_z (largest_z xs) (largest_z ys)
@@ -147,14 +147,14 @@ largest-append (x ∷ xs) (y ∷ ys) h k =
     ∙ largest-more (largest_from x xs) y ys
     ∙ fold_out max_z largest_from largest-none largest-more max_assoc (largest_from x xs) y ys
 
-pub smallest-append : (xs ys : List ℤ) → 0 < length xs → 0 < length ys → smallest_z (xs ++ ys) ≡ min_z (smallest_z xs) (smallest_z ys)
+pub smallest_append : (xs ys : List ℤ) → 0 < length xs → 0 < length ys → smallest_z (xs ++ ys) ≡ min_z (smallest_z xs) (smallest_z ys)
 unfolding smallest_z
-smallest-append [] ys h k = absurd (not-suc-le-zero h)
-smallest-append (x ∷ xs) [] h k = absurd (not-suc-le-zero k)
-smallest-append (x ∷ xs) (y ∷ ys) h k =
-    fold_append min_z smallest_from smallest-none smallest-more x xs (y ∷ ys)
-    ∙ smallest-more (smallest_from x xs) y ys
-    ∙ fold_out min_z smallest_from smallest-none smallest-more min_assoc (smallest_from x xs) y ys
+smallest_append [] ys h k = absurd (not-suc-le-zero h)
+smallest_append (x ∷ xs) [] h k = absurd (not-suc-le-zero k)
+smallest_append (x ∷ xs) (y ∷ ys) h k =
+    fold_append min_z smallest_from smallest_none smallest_more x xs (y ∷ ys)
+    ∙ smallest_more (smallest_from x xs) y ys
+    ∙ fold_out min_z smallest_from smallest_none smallest_more min_assoc (smallest_from x xs) y ys
 
 -- negation turns the largest into the smallest
 smallest_from-negated : (z : ℤ) (ws : List ℤ) → smallest_from (neg_ℤ z) (map neg_ℤ ws) ≡ neg_ℤ (largest_from z ws)
@@ -162,10 +162,10 @@ unfolding smallest_from largest_from
 smallest_from-negated z [] = refl
 smallest_from-negated z (w ∷ ws) = ap (λ s. smallest_from s (map neg_ℤ ws)) (sym (negℤ_max z w)) ∙ smallest_from-negated (max_z z w) ws
 
-pub smallest-negated : (xs : List ℤ) → smallest_z (map neg_ℤ xs) ≡ neg_ℤ (largest_z xs)
+pub smallest_negated : (xs : List ℤ) → smallest_z (map neg_ℤ xs) ≡ neg_ℤ (largest_z xs)
 unfolding smallest_z largest_z
-smallest-negated [] = refl
-smallest-negated (z ∷ zs) = smallest_from-negated z zs
+smallest_negated [] = refl
+smallest_negated (z ∷ zs) = smallest_from-negated z zs
 
 -- and the smallest into the largest
 largest_from-negated : (z : ℤ) (ws : List ℤ) → largest_from (neg_ℤ z) (map neg_ℤ ws) ≡ neg_ℤ (smallest_from z ws)
@@ -193,5 +193,5 @@ module _ {A : Type 0} (g : A → ℤ) (s : A → A) (c : ℤ) (e : (x : A) → g
   pub largest-through : largest_z (map g (map s xs)) ≡ largest_z (map g xs) +ℤ c
   largest-through = ap largest_z (map-through g s (λ z. z +ℤ c) e xs) ∙ largest-add c (map g xs) given
 
-  pub smallest-through : smallest_z (map g (map s xs)) ≡ smallest_z (map g xs) +ℤ c
-  smallest-through = ap smallest_z (map-through g s (λ z. z +ℤ c) e xs) ∙ smallest-add c (map g xs) given
+  pub smallest_through : smallest_z (map g (map s xs)) ≡ smallest_z (map g xs) +ℤ c
+  smallest_through = ap smallest_z (map-through g s (λ z. z +ℤ c) e xs) ∙ smallest_add c (map g xs) given

@@ -19,7 +19,7 @@ use Rattle.model.specs.Geometry.{Direction, direction, rotated, moved, shifted, 
 use Rattle.model.specs.Grid.{Placement}
 use Rattle.model.specs.Lists.{all, any, below, largest_z, smallest_z}
 use Rattle.model.proofs.Folds.{map-below-same, all_same}
-use Rattle.model.proofs.Extremes.{le_z_same, largest-through, smallest-through}
+use Rattle.model.proofs.Extremes.{le_z_same, largest-through, smallest_through}
 use Rattle.model.proofs.Tests.{all_map, all-each, any_same}
 
 -- ---- what a move does along a direction
@@ -33,9 +33,9 @@ pub largest-shifted : (d : Direction) (a b : ℤ) (P : Part) → 0 < length P
     → largest_z (map (along d) (map (shifted a b) P)) ≡ largest_z (map (along d) P) +ℤ along d (vertex a b)
 largest-shifted d a b P h = largest-through (along d) (shifted a b) (along d (vertex a b)) (along-shifted d a b) P h
 
-pub smallest-shifted : (d : Direction) (a b : ℤ) (P : Part) → 0 < length P
+pub smallest_shifted : (d : Direction) (a b : ℤ) (P : Part) → 0 < length P
     → smallest_z (map (along d) (map (shifted a b) P)) ≡ smallest_z (map (along d) P) +ℤ along d (vertex a b)
-smallest-shifted d a b P h = smallest-through (along d) (shifted a b) (along d (vertex a b)) (along-shifted d a b) P h
+smallest_shifted d a b P h = smallest_through (along d) (shifted a b) (along d (vertex a b)) (along-shifted d a b) P h
 
 -- ---- a move keeps the normals
 
@@ -199,9 +199,9 @@ module _ (gap : ℕ) (P Q : Part) (some_p : 0 < length P) (some_q : 0 < length Q
   unfolding separates along
   separates-shifted a b c e d =
       ap (λ s. le_z s (smallest_z (map (along d) (map (shifted c e) Q)))) (largest-shifted d a b P some_p)
-      ∙ ap (λ s. le_z (largest_z (map (along d) P) +ℤ along d (vertex a b)) s) (smallest-shifted d c e Q some_q)
+      ∙ ap (λ s. le_z (largest_z (map (along d) P) +ℤ along d (vertex a b)) s) (smallest_shifted d c e Q some_q)
       ∙ test_shifted (largest_z (map (along d) P)) (smallest_z (map (along d) Q)) d.a d.b a b c e
-      ∙ ap (le_z (largest_z (map (along d) P))) (sym (smallest-shifted d (c -ℤ a) (e -ℤ b) Q some_q))
+      ∙ ap (le_z (largest_z (map (along d) P))) (sym (smallest_shifted d (c -ℤ a) (e -ℤ b) Q some_q))
 
   -- the directions are those of the parts where they stood
   directions-shifted : (a b c e k l : ℤ) → directions (map (shifted a b) P) (map (shifted c e) Q) ≡ directions P (map (shifted k l) Q)

@@ -1,10 +1,9 @@
-// The engine for programs in C: the seven services on numbers and byte slices, each with its answer in one 64-bit number.
+// The engine for programs in C: the six services on numbers and byte slices, each with its answer in one 64-bit number.
 // include/nest.h declares them. A slice passes as a pointer and a length.
 ghost use Rattle.std.specs.Prelude.{◌≡◌};
 ghost use Rattle.model.specs.Answers.{written_word, check_word, run_word};
 ghost use Rattle.model.specs.Services;
 ghost use Rattle.outlines.specs.Service as Outlines;
-ghost use Rattle.rising.specs.Service as Rising;
 
 // "Read gives W, L, g, the classes by rising id, the types and N."
 #[unsafe(no_mangle)]
@@ -60,22 +59,6 @@ pub extern "C" fn nest_run(
     ensures answer_after { answer.new ≡ (Services.run job.now margin budget layout.now work.old answer.old).out }
 {
     answers::run_word(search::run::run(job, margin, budget, layout, work, answer))
-}
-
-// "A second kind of run, over the same buffers and never given a layout, tries lengths in rising order .."
-#[unsafe(no_mangle)]
-pub extern "C" fn nest_run_rising(
-    job: &[u8],
-    margin: usize,
-    budget: u32,
-    work: &mut [u8],
-    answer: &mut [u8],
-) -> u64
-    ensures value { result ≡ Rising.answer_word (Rising.run_rising job.now margin budget work.old answer.old).answer }
-    ensures work_after { work.new ≡ (Rising.run_rising job.now margin budget work.old answer.old).work }
-    ensures answer_after { answer.new ≡ (Rising.run_rising job.now margin budget work.old answer.old).out }
-{
-    answers::rising_word(rising_search::run::run_rising(job, margin, budget, work, answer))
 }
 
 // "A new service takes 3 to 8 corners anticlockwise, x and y as signed bytes, and gives at most 6 triangles in the order they are cut off, and their number ..".

@@ -22,7 +22,7 @@ use shapes::pieces::piece_of;
 // the walk compares ends); how many kinds and pieces there are, and words in a set; whether kinds t and u share a common cut, in bit
 // t * 8 + u; the kind of each piece; the copies of each kind left at each level, those of kind u at level l under l * 8 + u; where each kind
 // ends at the first column, turned k quarter turns under t * 4 + k; its gap, how many parts it has, and how many vertices each part has, part
-// i of kind t under t * 6 + i; and whether the walk ends at its first layout, which is no part of what goes from step to step.
+// i of kind t under t * 6 + i.
 #[derive(Drop)]
 pub struct Plan {
     pub rows: usize,
@@ -38,7 +38,6 @@ pub struct Plan {
     pub gaps: [u8; 8],
     pub parts: [u8; 8],
     pub sizes: [u8; 48],
-    pub once: bool,
 }
 
 // The kind of each piece: the kinds in their order, each as often as it is demanded.
@@ -164,10 +163,10 @@ fn shared_cuts(view: View) -> u64
     shared
 }
 
-// The plan of a walk of a job, under the view's margin, that ends at its first layout or does not.
-pub fn make_plan(job: &[u8], view: View, boxes: Boxes, once: bool) -> Plan
+// The plan of a job, under the view's margin.
+pub fn make_plan(job: &[u8], view: View, boxes: Boxes) -> Plan
     requires { Viewed job.now view × BoxesOf job.now boxes }
-    ensures { PlanOf job.now result × (result.margin ≡ view.margin) × (result.once ≡ once) }
+    ensures { PlanOf job.now result × (result.margin ≡ view.margin) }
 {
     let kinds = piece_kinds(job, view);
     let gaps = view.gaps;
@@ -186,7 +185,6 @@ pub fn make_plan(job: &[u8], view: View, boxes: Boxes, once: bool) -> Plan
         gaps: bytes_of(gaps, view.kinds),
         parts: bytes_of(parts, view.kinds),
         sizes: sizes_of(job, view),
-        once,
     }
 }
 

@@ -13,7 +13,7 @@ use Rattle.integers.specs.Extrema.{max_z, min_z}
 use Rattle.model.specs.Content.{Vertex, Part, origin}
 use Rattle.model.specs.Geometry.{vertex_at}
 use Rattle.model.specs.Lists.{largest_from, smallest_from, largest_z, smallest_z}
-use Rattle.model.proofs.Extremes.{largest-append, smallest-append}
+use Rattle.model.proofs.Extremes.{largest-append, smallest_append}
 use Rattle.polygons.specs.Boxes.{box, box_of, extents_of, joined}
 use Rattle.polygons.specs.declared.extents.Extents.{Extents}
 
@@ -71,7 +71,7 @@ unfolding extents_of joined
 extents_append P Q h k = λ i. box (low (λ v. v.x) i) (high (λ v. v.x) i) (low (λ v. v.y) i) (high (λ v. v.y) i)
   where
     low : (g : Vertex → ℤ) → smallest_z (map g (P ++ Q)) ≡ min_z (smallest_z (map g P)) (smallest_z (map g Q))
-    low g = ap smallest_z (map-append g P Q) ∙ smallest-append (map g P) (map g Q) (rw (length-map P g) h) (rw (length-map Q g) k)
+    low g = ap smallest_z (map-append g P Q) ∙ smallest_append (map g P) (map g Q) (rw (length-map P g) h) (rw (length-map Q g) k)
 
     high : (g : Vertex → ℤ) → largest_z (map g (P ++ Q)) ≡ max_z (largest_z (map g P)) (largest_z (map g Q))
     high g = ap largest_z (map-append g P Q) ∙ largest-append (map g P) (map g Q) (rw (length-map P g) h) (rw (length-map Q g) k)

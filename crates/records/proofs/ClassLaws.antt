@@ -67,8 +67,8 @@ module _ (s : List ℕ) (o : ℕ) where
 
 -- ---- By rising id
 
-pub risen-more : (cs : List SpacingClass) (i : ℕ) → risen_below (i + 1) cs ≡ risen_below i cs ++ classes_of_id i cs
-risen-more cs i =
+pub risen_more : (cs : List SpacingClass) (i : ℕ) → risen_below (i + 1) cs ≡ risen_below i cs ++ classes_of_id i cs
+risen_more cs i =
     ap concat (map-below-more (λ i. classes_of_id i cs) i) ∙ concat-more (map (λ i. classes_of_id i cs) (below i)) (classes_of_id i cs)
 
 -- ---- The first of an id

@@ -17,11 +17,11 @@ use Rattle.model.specs.Format.{by_rising_id, class_from}
 use Rattle.model.specs.Lists.{concat, below, rising}
 use Rattle.model.proofs.Folds.{map-below-more, map-below-same}
 use Rattle.model.proofs.Lists.{length-below, or_left, or_right}
-use Rattle.model.proofs.Saving.Kept.{risen-permuted}
+use Rattle.model.proofs.Saving.Kept.{risen_permuted}
 use Rattle.model.proofs.Saving.Order.{length-permuted}
 use Rattle.records.specs.Classes.{classes_from, classes_of_id, risen_below, index_of, all_in_range, distinct_column, classes_unfit}
 use Rattle.records.specs.Rising.{classes_at_first, Inside, ByRisingId}
-use Rattle.records.proofs.ClassLaws.{risen-more, found}
+use Rattle.records.proofs.ClassLaws.{risen_more, found}
 
 -- How many classes there are from byte o on.
 length_from : (s : List ℕ) (o n : ℕ) → length (classes_from s o n) ≡ n
@@ -61,9 +61,9 @@ module _ (s : List ℕ) (o n : ℕ) where
   abbrev cs : List SpacingClass
   cs = classes_from s o n
 
-  pub risen-begin : (places : List ℕ) → length places ≡ 8 → RisenTo s o n 0 0 places
+  pub risen_begin : (places : List ℕ) → length places ≡ 8 → RisenTo s o n 0 0 places
   unfolding concat below rising
-  risen-begin places e = record { classes = refl; inside = λ i h. absurd (not-suc-le-zero h); size = e; few = omega arith }
+  risen_begin places e = record { classes = refl; inside = λ i h. absurd (not-suc-le-zero h); size = e; few = omega arith }
 
   module _ (id done j : ℕ) (places : List ℕ) (r : RisenTo s o n id done places) (fit : classes_unfit s o n ≡ false) (e : j ≡ index_of s o n id)
       (more : id < 8) (fits : o + n * 3 ≤ length s) where
@@ -87,10 +87,10 @@ module _ (s : List ℕ) (o n : ℕ) where
     classes-next true q =
         map-below-more (λ i. class_from s (get_or next i 0)) done
         ∙ ap₂ (λ l c. l ++ (c ∷ [])) first-kept (ap (class_from s) here)
-        ∙ ap (λ l. risen_below id cs ++ l) (sym (of_id_lem true q)) ∙ sym (risen-more cs id)
+        ∙ ap (λ l. risen_below id cs ++ l) (sym (of_id_lem true q)) ∙ sym (risen_more cs id)
     classes-next false q =
         ap (classes_at_first s next) (add-zero done) ∙ first-kept ∙ sym (append-nil (risen_below id cs))
-        ∙ ap (λ l. risen_below id cs ++ l) (sym (of_id_lem false q)) ∙ sym (risen-more cs id)
+        ∙ ap (λ l. risen_below id cs ++ l) (sym (of_id_lem false q)) ∙ sym (risen_more cs id)
 
     inside-next : (t : Bool) → ltb j n ≡ t → Inside s next (done + bool_byte t)
     inside-next true q i h = ⊎_elim (λ l. at (omega arith)) before (le_or_lt done i)
@@ -105,8 +105,8 @@ module _ (s : List ℕ) (o n : ℕ) where
         before l = rw (kept i l) (r.inside i l)
     inside-next false q i h = let l : i < done = omega arith in rw (kept i l) (r.inside i l)
 
-    pub risen-next : RisenTo s o n (id + 1) (done + bool_byte (ltb j n)) next
-    risen-next =
+    pub risen_next : RisenTo s o n (id + 1) (done + bool_byte (ltb j n)) next
+    risen_next =
         record {
           classes = classes-next (ltb j n) refl;
           inside = inside-next (ltb j n) refl;
@@ -114,12 +114,12 @@ module _ (s : List ℕ) (o n : ℕ) where
           few = omega (arith, r.few, at_most_one (ltb j n));
         }
 
-  pub risen-end : (id done : ℕ) (places : List ℕ) → id ≡ 8 → classes_unfit s o n ≡ false → RisenTo s o n id done places → ByRisingId s o n places
+  pub risen_end : (id done : ℕ) (places : List ℕ) → id ≡ 8 → classes_unfit s o n ≡ false → RisenTo s o n id done places → ByRisingId s o n places
   unfolding by_rising_id all_in_range
-  risen-end id done places e fit r =
+  risen_end id done places e fit r =
       let all_there : classes_at_first s places done ≡ by_rising_id cs = r.classes ∙ ap (λ i. risen_below i cs) e in
       let count : done ≡ n =
-      sym (length-first s places done) ∙ ap length all_there ∙ sym (length-permuted (risen-permuted cs (ranged s o n fit))) ∙ length_from s o n in
+      sym (length-first s places done) ∙ ap length all_there ∙ sym (length-permuted (risen_permuted cs (ranged s o n fit))) ∙ length_from s o n in
       record {
         classes = ap (classes_at_first s places) (sym count) ∙ all_there;
         inside = λ i h. r.inside i (omega arith);

@@ -1,3 +1,2 @@
 pub mod FirstMembers
 pub mod Rooted
-pub mod Buffers

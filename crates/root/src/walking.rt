@@ -2,10 +2,9 @@
 ghost use Rattle.std.specs.Prelude.{◌*◌, ◌+◌, ◌≤◌, length, replicate};
 ghost use Rattle.job.specs.View.{problem_of};
 ghost use Rattle.candidates.specs.Conflicts.{Prepared};
-ghost use Rattle.stepping.specs.Levels.{numbers_at};
-ghost use Rattle.bounded.specs.Bounded.{best_at, try_level};
+ghost use Rattle.stepping.specs.Levels.{try_level, numbers_at};
 ghost use Rattle.plans.specs.Planned.{planned};
-ghost use Rattle.walks.specs.Walk.{held_of, best_in, Ready, Left};
+ghost use Rattle.walks.specs.Walk.{held_of, Ready, Left};
 ghost use Rattle.root.specs.Walked.{RoomFor, Begun, Walked, Computed};
 
 use crate::beginning::settle_first;
@@ -21,7 +20,7 @@ use walks::walk::try_piece;
 
 // How many words the no-fit strings may take. The fewer the steps, the fewer strings are worth their price; 25,399 words, with the parities and a word more,
 // fill the larger of the two tables.
-pub fn room_for(budget: u32) -> usize
+fn room_for(budget: u32) -> usize
     ensures { result ≤ 25399 }
 {
     if budget < 6349 {
@@ -47,7 +46,7 @@ fn walk_over(
     requires computed { Computed job.now view turned.now boxes plan nofit }
     requires size_in_bounds { (nofit.first + nofit.held * nofit.size + 1) * 8 ≤ length strings.old }
     requires ready { Ready (planned job.now plan) work.old answer.old (replicate 12 0) 0 1 0 start }
-    ensures { Left (planned job.now plan) (replicate 12 0) work.old answer.old work.new answer.new 1 start result (try_level (planned job.now plan) plan.once (numbers_at (replicate 12 0)) 0 0 start.left (best_in (planned job.now plan) start answer.old)) }
+    ensures { Left (planned job.now plan) (replicate 12 0) work.old answer.old work.new answer.new 1 start result (try_level (planned job.now plan) (numbers_at (replicate 12 0)) 0 0 start.left (held_of (planned job.now plan) start.found answer.old)) }
 {
     make_nofit(job, view, turned, boxes, nofit, strings);
     try_piece(
@@ -79,7 +78,7 @@ fn walk_with_table(
 ) -> Progress
     requires computed { Computed job.now view turned.now boxes plan nofit × (nofit.first + nofit.held * nofit.size + 1 ≤ 25600) }
     requires ready { Ready (planned job.now plan) work.old answer.old (replicate 12 0) 0 1 0 start }
-    ensures { Left (planned job.now plan) (replicate 12 0) work.old answer.old work.new answer.new 1 start result (try_level (planned job.now plan) plan.once (numbers_at (replicate 12 0)) 0 0 start.left (best_in (planned job.now plan) start answer.old)) }
+    ensures { Left (planned job.now plan) (replicate 12 0) work.old answer.old work.new answer.new 1 start result (try_level (planned job.now plan) (numbers_at (replicate 12 0)) 0 0 start.left (held_of (planned job.now plan) start.found answer.old)) }
 {
     if nofit.first + nofit.held * nofit.size < 1024 {
         let mut strings = [0u8; 8192];
@@ -111,7 +110,7 @@ fn walk_with_table(
     )
 }
 
-// The walk of an accepted job, in buffers that are large enough, begun with a bound, and with the layout that the answer numbers hold or with none, up to its first layout or its end. What holds for the whole
+// The walk of an accepted job, in buffers that are large enough, with the layout that the answer numbers hold as best, or with none. What holds for the whole
 // walk is computed first; the table of no-fit strings only where look-ahead lets the walk begin.
 pub fn walk(
     job: &[u8],
@@ -123,13 +122,12 @@ pub fn walk(
     found: bool,
     work: &mut [u8],
     answer: &mut [u8],
-    once: bool,
 ) -> Progress
     requires prepared { Prepared job.now view turned.now boxes }
     requires room_for { RoomFor (problem_of job.now view) work.old answer.old × Begun (problem_of job.now view) bound found answer.old }
-    ensures { Walked (problem_of job.now view) once (best_at bound (held_of (problem_of job.now view) found answer.old)) budget work.old answer.old work.new answer.new result }
+    ensures { Walked (problem_of job.now view) (held_of (problem_of job.now view) found answer.old) budget work.old answer.old work.new answer.new result }
 {
-    let plan = make_plan(job, view, boxes, once);
+    let plan = make_plan(job, view, boxes);
     if !settle_first(job, view, boxes, plan, bound, work) {
         return begin(budget, bound, found, plan.words);
     }

@@ -17,9 +17,9 @@ stepped st = record { left = st.left - 1; bound = st.bound; span = st.span; foun
 abbrev pub halted : Progress → Progress
 halted st = record { left = 0; bound = st.bound; span = st.span; found = st.found; stopped = true }
 
--- A layout with this largest end is held. Where one is sought, no further step is taken.
-abbrev pub completed : Progress → ℕ → ℕ → Bool → Progress
-completed st end span once = record { left = st.left; bound = end; span = span; found = true; stopped = once }
+-- A layout with this largest end is held.
+abbrev pub completed : Progress → ℕ → ℕ → Progress
+completed st end span = record { left = st.left; bound = end; span = span; found = true; stopped = false }
 
 -- The answer by whether the walk stopped, whether a layout is held, that layout's length and the steps.
 abbrev pub told : Bool → Bool → ℕ → ℕ → RunAnswer

@@ -5,7 +5,7 @@ ghost use Rattle.runs.specs.Told.{begun, stepped, halted, completed, told};
 use model::{Held, RunAnswer};
 
 // How far the walk has come: what is left of the budget, what an end has to stay below, in how many words of a live set candidates lie that do so, whether a
-// layout is held, whether the walk takes no further step.
+// layout is held, whether the walk stopped.
 #[derive(Drop)]
 pub struct Progress {
     pub left: u32,
@@ -55,17 +55,16 @@ pub fn halt(st: Progress) -> Progress
     }
 }
 
-// A layout with this largest end was completed: from now on an end has to stay below it, and candidates that do so lie in so many words. Where one layout is
-// sought, no further step is taken.
-pub fn complete(st: Progress, end: usize, span: usize, once: bool) -> Progress
-    ensures { result ≡ completed st end span once }
+// A layout with this largest end was completed: from now on an end has to stay below it, and candidates that do so lie in so many words.
+pub fn complete(st: Progress, end: usize, span: usize) -> Progress
+    ensures { result ≡ completed st end span }
 {
     Progress {
         left: st.left,
         bound: end,
         span,
         found: true,
-        stopped: once,
+        stopped: false,
     }
 }
 

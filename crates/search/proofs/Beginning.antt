@@ -2,7 +2,7 @@
 use mathlib.Core.Bool.{Bool, true, false, not, cond}
 use mathlib.Core.List.{List, [], ◌∷◌}
 use mathlib.Core.Option.{Option, none, some, some-ne-none}
-use mathlib.Core.Path.{◌≡◌, refl, sym, ap, ap₂, ◌∙◌}
+use mathlib.Core.Path.{◌≡◌, refl, sym, ap, ◌∙◌}
 use Prim.Native.Nat.{ℕ, ◌+◌, ◌*◌, ◌-◌, ◌/◌, ◌≤◌}
 use native.Mathlib.Omega.{arith}
 use borrow.Author.Tests.{eqb-true, not-false}
@@ -21,9 +21,8 @@ use Rattle.model.proofs.Search.Demand3.{given_laid, read_held}
 use Rattle.model.proofs.Search.Walk.{BeginLaid}
 use Rattle.stepping.specs.LiveSets.{bound_of}
 use Rattle.stepping.specs.Steps.{Entries}
-use Rattle.stepping.proofs.Answer.{layout-after}
+use Rattle.stepping.proofs.Answer.{layout_after}
 use Rattle.stepping.proofs.Extents.{placed_end}
-use Rattle.bounded.specs.Bounded.{Best, best_at, start_of}
 use Rattle.walks.specs.Walk.{held_of}
 use Rattle.root.specs.Walked.{Begun}
 use Rattle.search.specs.Begin.{GivenBy}
@@ -138,10 +137,7 @@ module _ (s : List ℕ) (m : ℕ) (accepted : refusal s ≡ 0) (layout out : Lis
   begins =
       let n : Entries (piece_count j.kinds) begin = begin_entries j begin (begin_laid j layout g by good) in
       record {
+        bound-is = by.bound-is good ∙ ap (bound_of j) (sym held-again);
         within = by.within good;
-        written = ap (λ (h : Option Layout). with_layout h (with_layout begin out)) held-again ∙ layout-after (piece_count j.kinds) begin begin out n n (λ e. e);
+        written = ap (λ (h : Option Layout). with_layout h (with_layout begin out)) held-again ∙ layout_after (piece_count j.kinds) begin begin out n n (λ e. e);
       }
-
-  -- It is the walk's best.
-  pub begin_best : best_at g.bound (held_of j g.found (with_layout begin out)) ≡ start_of j begin
-  begin_best = ap₂ {C = Best} best_at (by.bound-is good) held-again

@@ -1,58 +1,67 @@
 -- What a run answers and leaves at its end.
 use mathlib.Core.Bool.{Bool, true, false, cond}
-use mathlib.Core.List.{List}
+use mathlib.Core.List.{List, [], ◌++◌}
 use mathlib.Core.Option.{Option}
 use mathlib.Core.Path.{◌≡◌, refl, sym, ap, ◌∙◌, subst}
 use Prim.Native.Nat.{ℕ, ◌+◌, ◌*◌, ◌-◌, ◌/◌, ◌≤◌, ◌<◌}
 use native.Mathlib.Omega.{arith}
-use borrow.Author.Tests.{eq-eqb, ne_eqb}
+use borrow.Author.Tests.{eq-eqb, ne_eqb, ltb-false}
 use lib.Dec.{ltb}
-use lib.ListN.{length}
-use Rattle.words.specs.Number.{count}
+use lib.ListN.{length, drop, replicate, length-replicate}
+use Rattle.words.specs.Number.{count, filled, bytes_of}
 use Rattle.words.specs.Sets.{cleared_words}
 use Rattle.model.specs.Content.{piece_count}
 use Rattle.model.specs.Format.{content}
 use Rattle.model.specs.Layout.{Layout, layout_length}
 use Rattle.model.specs.Problem.{Problem, under}
-use Rattle.model.specs.Services.{RunOutcome, run_outcome, words_in, numbers_in, work_words, cleared, with_layout, held_as, finished_as, layout_in, refusal_under, given_layout, given_unfit, run_from, run_content, run}
+use Rattle.model.specs.Services.{RunOutcome, run_outcome, words_in, numbers_in, work_words, with_words, cleared, with_layout, held_as, finished_as, refusal_under, given_layout, given_unfit, run_from, run_content, run}
 use Rattle.model.specs.declared.RunAnswer.{RunAnswer}
 use Rattle.model.specs.declared.RunAnswer.TheVariants as R
-use Rattle.bounded.specs.Bounded.{Best, best_at, start_of, Spent, go_on_level, walk_spent, answer_of}
+use Rattle.stepping.specs.Levels.{walk_spent, go_on_level}
+use Rattle.stepping.specs.LiveSets.{bound_of}
+use Rattle.stepping.specs.Spending.{Spent, answer_of}
 use Rattle.stepping.specs.Steps.{Entries}
-use Rattle.stepping.proofs.Answer.{layout-after}
-use Rattle.bounded.proofs.Levels.{Proper, walk_level, walk_left-le, level_entries, level_none, walk_proper, start_proper, run-walk}
+use Rattle.stepping.proofs.Answer.{layout_after}
+use Rattle.stepping.proofs.Levels.{walk_level, placed-entries, run-walk}
+use Rattle.stepping.proofs.Steps.{go_on-left-le}
 use Rattle.runs.specs.Told.{told}
 use Rattle.runs.specs.declared.progress.Progress.{Progress}
 use Rattle.walks.specs.Walk.{held_of}
-use Rattle.root.specs.Walked.{Walked}
-use Rattle.root.proofs.Buffers.{cleared-same}
+use Rattle.walks.proofs.Trying.{none_before}
+use Rattle.root.specs.Walked.{RoomFor, Walked}
+
+-- Clearing the needed words sees only what lies behind them.
+cleared-same : (j : Problem) (words : ℕ) (work work' : List ℕ) → words ≡ work_words j → drop (work_words j * 8) work' ≡ drop (work_words j * 8) work
+    → cleared_words words work' ≡ cleared j work
+unfolding cleared_words cleared with_words filled
+cleared-same j words work work' e b =
+    rw (e, length-replicate) (ap (λ (s : List ℕ). bytes_of 8 (replicate (work_words j) 0) ++ s) b)
 
 -- The answer by what is held.
-told-held : (j : Problem) (out : List ℕ) (steps bound : ℕ) (s f : Bool) (h : Best) → best_at bound (held_of j f out) ≡ h → Proper j h
-    → told s f (bound + j.margin) steps ≡ cond s (R.Stopped (held_as j h.layout) steps) (finished_as j h.layout steps)
-unfolding held_as finished_as layout_length
-told-held j out steps bound s f h e p =
-    subst (λ (h : Best). told s f (bound + j.margin) steps ≡ cond s (R.Stopped (held_as j h.layout) steps) (finished_as j h.layout steps)) e
-    (go s f (subst (Proper j) (sym e) p))
+told-held : (j : Problem) (out : List ℕ) (steps : ℕ) (s f : Bool) (h : Option Layout) → held_of j f out ≡ h
+    → told s f (bound_of j h + j.margin) steps ≡ cond s (R.Stopped (held_as j h) steps) (finished_as j h steps)
+unfolding held_as finished_as bound_of layout_length
+told-held j out steps s f h e =
+    subst (λ (h : Option Layout). told s f (bound_of j h + j.margin) steps ≡ cond s (R.Stopped (held_as j h) steps) (finished_as j h steps)) e (go s f)
   where
-    go : (s f : Bool) → Proper j (best_at bound (held_of j f out))
-        → told s f (bound + j.margin) steps ≡ cond s (R.Stopped (held_as j (held_of j f out)) steps) (finished_as j (held_of j f out) steps)
-    go true true p = ap (λ (n : ℕ). told true true (n + j.margin) steps) (p (layout_in j out) refl)
-    go true false p = refl
-    go false true p = ap (λ (n : ℕ). told false true (n + j.margin) steps) (p (layout_in j out) refl)
-    go false false p = refl
+    go : (s f : Bool) → told s f (bound_of j (held_of j f out) + j.margin) steps ≡ cond s (R.Stopped (held_as j (held_of j f out)) steps) (finished_as j (held_of j f out) steps)
+    go true true = refl
+    go true false = refl
+    go false true = refl
+    go false false = refl
 
-module _ (j : Problem) (begin : Option Layout) (budget : ℕ) (work out work' out' : List ℕ) (st : Progress) (w : Walked j false (start_of j begin) budget work out work' out' st) where
+module _ (j : Problem) (begin : Option Layout) (budget : ℕ) (work out work' out' : List ℕ) (st : Progress) (w : Walked j begin budget work out work' out' st) where
   -- No more is left than there was.
   pub left-within : st.left ≤ budget
-  left-within = rw w.left (walk_left-le j false budget (start_of j begin))
+  unfolding walk_spent
+  left-within = rw w.left (go_on-left-le j _ [] budget begin)
 
   -- What is told is what the walk's end says.
-  told_is : 0 < piece_count j.kinds → told st.stopped st.found (st.bound + j.margin) (budget - st.left) ≡ answer_of j budget (walk_spent j false budget (start_of j begin))
+  told_is : told st.stopped st.found (st.bound + j.margin) (budget - st.left) ≡ answer_of j budget (walk_spent j begin budget)
   unfolding answer_of
-  told_is pieced =
-      told-held j out' (budget - st.left) st.bound st.stopped st.found (walk_spent j false budget (start_of j begin)).best w.best
-      (walk_proper j false pieced budget (start_of j begin) (start_proper j begin))
+  told_is =
+      ap (λ (b : ℕ). told st.stopped st.found (b + j.margin) (budget - st.left)) w.bound-is
+      ∙ told-held j out' (budget - st.left) st.stopped st.found (walk_spent j begin budget).held w.held
       ∙ rw (w.stopped, w.left)
 
 -- ---- The outcome
@@ -81,31 +90,40 @@ module _ (j : Problem) (begin : Option Layout) (budget : ℕ) (work out : List �
         (sym (rw (subst (λ (n : ℕ). ltb (length work / 8) n ≡ false) words_are enough, subst (λ (n : ℕ). ltb (length out / 2) n ≡ true) numbers_are h, run_from)))
 
     module _ (enough' : ltb (length out / 2) numbers ≡ false) where
+      -- Enough of both.
+      pub from-room : RoomFor j work out
+      unfolding numbers_in count
+      from-room =
+          record {
+            work-fits = omega (arith, words_are, ltb-false (length work / 8) words enough);
+            out-fits = omega (arith, numbers_are, ltb-false (length out / 2) numbers enough');
+          }
+
       -- What the walk leaves once the given layout stood in the answer numbers, with the needed words cleared.
       pub from-done : 0 < piece_count j.kinds → Entries (piece_count j.kinds) begin
-          → (answer : RunAnswer) (out₁ work' work'' out' : List ℕ) (st : Progress) → out₁ ≡ with_layout begin out → Walked j false (start_of j begin) budget work out₁ work' out' st
+          → (answer : RunAnswer) (out₁ work' work'' out' : List ℕ) (st : Progress) → out₁ ≡ with_layout begin out → Walked j begin budget work out₁ work' out' st
           → answer ≡ told st.stopped st.found (st.bound + j.margin) (budget - st.left) → work'' ≡ cleared_words words work'
           → Met (run_outcome answer work'' out') (run_from j begin budget work out)
       unfolding words_in numbers_in count
       from-done pieced entries answer out₁ work' work'' out' st o w a c =
-          let t : answer ≡ answer_of j budget (walk_spent j false budget (start_of j begin)) = a ∙ told_is j begin budget work out₁ work' out' st w pieced in
+          let t : answer ≡ answer_of j budget (walk_spent j begin budget) = a ∙ told_is j begin budget work out₁ work' out' st w in
           let z : work'' ≡ cleared j work = c ∙ cleared-same j words work work' words_are w.behind in
           met _ (run_from j begin budget work out)
           (rw (t, z, over)
           (sym (run-walk j begin pieced budget work out (subst (λ (n : ℕ). ltb (length work / 8) n ≡ false) words_are enough) (subst (λ (n : ℕ). ltb (length out / 2) n ≡ false) numbers_are enough'))))
         where
           -- The walk's end, as that of the first level.
-          end_is : go_on_level j false (λ l. 0) 0 budget (start_of j begin) ≡ walk_spent j false budget (start_of j begin)
-          end_is = sym (walk_level j false (λ l. 0) budget (start_of j begin))
+          end_is : go_on_level j (λ l. 0) 0 budget begin ≡ walk_spent j begin budget
+          end_is = sym (walk_level j begin (λ l. 0) budget)
 
           -- The layout held, over the given one.
-          over : out' ≡ with_layout (walk_spent j false budget (start_of j begin)).best.layout out
+          over : out' ≡ with_layout (walk_spent j begin budget).held out
           over =
               w.written
-              ∙ ap (with_layout (walk_spent j false budget (start_of j begin)).best.layout) o
-              ∙ layout-after (piece_count j.kinds) (walk_spent j false budget (start_of j begin)).best.layout begin out
-              (subst (λ (w : Spent). Entries (piece_count j.kinds) w.best.layout) end_is (level_entries j false (λ l. 0) 0 budget (start_of j begin) (omega arith) entries)) entries
-              (λ e. level_none j false (λ l. 0) 0 budget (start_of j begin) (ap (λ (w : Spent). w.best.layout) end_is ∙ e))
+              ∙ ap (with_layout (walk_spent j begin budget).held) o
+              ∙ layout_after (piece_count j.kinds) (walk_spent j begin budget).held begin out
+              (subst (λ (w : Spent). Entries (piece_count j.kinds) w.held) end_is (placed-entries j (λ l. 0) 0 budget begin (omega arith) entries)) entries
+              (λ e. none_before j (λ l. 0) 0 budget begin (ap (λ (w : Spent). w.held) end_is ∙ e))
 
 -- ---- The service
 

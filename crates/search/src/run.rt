@@ -52,7 +52,6 @@ fn run_from(
         given.found,
         work,
         answer,
-        false,
     );
     sets::clear(work, words);
     tell(budget, view.margin, st)

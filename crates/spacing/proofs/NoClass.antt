@@ -21,7 +21,7 @@ use Rattle.model.specs.Lists.{any, keep, largest}
 use Rattle.model.proofs.Causes.{no_cause, kinds-fit, classes-in_range}
 use Rattle.model.proofs.Lists.{and_left, all-at, all-below}
 use Rattle.model.proofs.Permuted.{any-permuted}
-use Rattle.model.proofs.Saving.Kept.{risen-permuted}
+use Rattle.model.proofs.Saving.Kept.{risen_permuted}
 use Rattle.spacing.specs.NoClass.{LargestOf, former_gap, former_pair_gap, GapsAsBefore, NestsAsBefore, FillerPut, keeps, put, FillersPut}
 use Rattle.spacing.specs.SameGaps.{SameButClasses, gap_in}
 use Rattle.spacing.proofs.SameClass.{best-same}
@@ -92,7 +92,7 @@ mask_has_best s e a h byte some-bit =
     let present : names_present (classes_of s) k ≡ true = all-at (names_present (classes_of s)) (content s).kinds no_kind (kinds-fit s (no_cause s e).no6).present a h in
     let there : any (λ c. eqb c.id bit.0) (classes_of s) ≡ true =
     sym (ap (λ t. not t || any (λ c. eqb c.id bit.0) (classes_of s)) bit.4) ∙ all-below (λ i. not (test_bit k.classes i) || any (λ c. eqb c.id i) (classes_of s)) 8 present bit.0 bit.2 in
-    has_best (content s).classes k bit.0 (sym (any-permuted (λ c. eqb c.id bit.0) (risen-permuted (classes_of s) (classes-in_range s (no_cause s e).no5))) ∙ there) bit.4
+    has_best (content s).classes k bit.0 (sym (any-permuted (λ c. eqb c.id bit.0) (risen_permuted (classes_of s) (classes-in_range s (no_cause s e).no5))) ∙ there) bit.4
 
 -- A type whose best-ranked class has gap 0 has gap 0: so has a filler that is put in such a class.
 pub filler : (cs : List SpacingClass) (k : Kind) (c : SpacingClass) → best_class cs k ≡ some c → c.gap ≡ 0 → kind_gap cs k ≡ 0

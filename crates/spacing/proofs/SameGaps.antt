@@ -256,22 +256,22 @@ module _ (b : Board) (m : ℕ) (cs ds : List SpacingClass) (ks ls : List Kind) (
       (cause_same t n u) (words_same t n u)
       ∙ sym (by_conds (cause12 i t n u) (ltb (words_in out) (set_words b)) _ _ _)
 
-  layout-same : (layout : List ℕ) → layout_in j layout ≡ layout_in i layout
+  layout_same : (layout : List ℕ) → layout_in j layout ≡ layout_in i layout
   unfolding layout_in
-  layout-same layout = ap (λ n. map (entry_in layout) (below n)) total_same
+  layout_same layout = ap (λ n. map (entry_in layout) (below n)) total_same
 
   unfit_same : (layout : List ℕ) → cause11 j layout ≡ cause11 i layout
   unfolding cause11
-  unfit_same layout = rw (total_same, layout-same layout, passes_same (layout_in i layout))
+  unfit_same layout = rw (total_same, layout_same layout, passes_same (layout_in i layout))
 
   pub check-same : (layout : List ℕ) → check_content j layout ≡ check_content i layout
   unfolding check_content
-  check-same layout = rw (unfit_same layout, layout-same layout, length-same)
+  check-same layout = rw (unfit_same layout, layout_same layout, length-same)
 
   given_same : (given : List ℕ) → (given_layout j given ≡ given_layout i given) × (given_unfit j given ≡ given_unfit i given)
   unfolding given_layout given_unfit
   given_same [] = (refl, refl)
-  given_same (x ∷ xs) = (ap some (layout-same (x ∷ xs)), unfit_same (x ∷ xs))
+  given_same (x ∷ xs) = (ap some (layout_same (x ∷ xs)), unfit_same (x ∷ xs))
 
   need_same : work_words j ≡ work_words i
   unfolding work_words

@@ -21,9 +21,9 @@ layout_numbers-append [] fs = refl
 layout_numbers-append (e ∷ es) fs = rw (layout_numbers-append es fs) (sym (append_assoc (entry_numbers e) (layout_numbers es) (layout_numbers fs)))
 
 -- Nothing held leaves the numbers as they are.
-pub layout-none : (out : List ℕ) → with_layout none out ≡ out
+pub layout_none : (out : List ℕ) → with_layout none out ≡ out
 unfolding with_layout
-layout-none out = refl
+layout_none out = refl
 
 -- Numbers written over as many others.
 pub filled-over : (k : ℕ) (ns ms s : List ℕ) → length ns ≡ length ms → filled k ns (filled k ms s) ≡ filled k ns s
@@ -33,16 +33,16 @@ filled-over k ns ms s e =
     (rw e (drop_at (bytes_of k ms) (drop (length ms * k) s) (length ms * k) (length-bytes_of k ms)))
 
 -- A layout written over another of as many entries, or over none.
-pub layout-over : (n : ℕ) (es : Layout) (h : Option Layout) (out : List ℕ) → length es ≡ n → Entries n h
+pub layout_over : (n : ℕ) (es : Layout) (h : Option Layout) (out : List ℕ) → length es ≡ n → Entries n h
     → with_layout (some es) (with_layout h out) ≡ with_layout (some es) out
 unfolding with_layout with_numbers
-layout-over n es none out p q = refl
-layout-over n es (some fs) out p q =
+layout_over n es none out p q = refl
+layout_over n es (some fs) out p q =
     filled-over 2 (layout_numbers es) (layout_numbers fs) out (omega (arith, length-numbers es, length-numbers fs))
 
 -- What is held later, written over what was held earlier.
-pub layout-after : (n : ℕ) (g h : Option Layout) (out : List ℕ) → Entries n g → Entries n h → (g ≡ none → h ≡ none)
+pub layout_after : (n : ℕ) (g h : Option Layout) (out : List ℕ) → Entries n g → Entries n h → (g ≡ none → h ≡ none)
     → with_layout g (with_layout h out) ≡ with_layout g out
 unfolding with_layout
-layout-after n none h out p q f = ap (λ (x : Option Layout). with_layout x out) (f refl)
-layout-after n (some es) h out p q f = layout-over n es h out p q
+layout_after n none h out p q f = ap (λ (x : Option Layout). with_layout x out) (f refl)
+layout_after n (some es) h out p q f = layout_over n es h out p q

@@ -1,3 +1,4 @@
+pub mod Spending
 pub mod Tests
 pub mod Counting
 pub mod Extents

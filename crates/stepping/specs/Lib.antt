@@ -1,3 +1,4 @@
+pub mod Spending
 pub mod LiveSets
 pub mod Steps
 pub mod Levels

@@ -6,7 +6,8 @@ use Rattle.model.specs.Grid.{number_limit}
 use Rattle.model.specs.Layout.{Layout}
 use Rattle.model.specs.Lists.{keep, rising}
 use Rattle.model.specs.Problem.{Problem}
-use Rattle.model.specs.Search.{Searched, searched, candidate_table, forward_check, try_candidates, search_pieces}
+use Rattle.model.specs.Search.{Searched, searched, candidate_table, forward_check, completed, try_candidates, search_pieces, length_of, latest}
+use Rattle.stepping.specs.Spending.{Spent, spend}
 
 -- The candidates of a kind from number n on.
 unfoldable pub remaining : Problem → ℕ → ℕ → List ℕ
@@ -24,6 +25,13 @@ go_on j cs left placed best =
 unfoldable pub try_from : Problem → ℕ → List ℕ → Layout → Option ℕ → ℕ → Searched
 try_from j t left placed best n =
     try_candidates j (candidate_table j) (search_pieces j (candidate_table j) left) t left (remaining j t n) placed best
+
+-- Both under a budget of which k is left, with h held. The latest piece placed may complete a layout.
+unfoldable pub go_on_spent : Problem → List ℕ → Layout → ℕ → Option Layout → Spent
+go_on_spent j left placed k h = spend k (latest h (completed left placed)) (go_on j (candidate_table j) left placed (length_of j h)).steps
+
+unfoldable pub try_from_spent : Problem → ℕ → List ℕ → Layout → ℕ → ℕ → Option Layout → Spent
+try_from_spent j t left placed n k h = spend k h (try_from j t left placed (length_of j h) n).steps
 
 -- The layout held, if one is, has so many entries.
 abbrev pub Entries : ℕ → Option Layout → Type 0

@@ -3,7 +3,7 @@ use mathlib.Core.Bool.{Bool, true, false}
 use mathlib.Core.List.{List, reverse}
 use mathlib.Core.Logic.{◌⊎◌, inl, inr}
 use mathlib.Core.Option.{some}
-use mathlib.Core.Path.{◌≡◌, refl, sym, ap, ap₂, ◌∙◌, subst}
+use mathlib.Core.Path.{◌≡◌, refl, sym, ap, ◌∙◌, subst}
 use Prim.Native.Nat.{ℕ, zero, suc, ◌+◌, ◌-◌, ◌≤◌, ◌<◌}
 use native.Mathlib.Omega.{arith}
 use lib.ListN.{length, length-map}
@@ -18,23 +18,23 @@ use Rattle.model.specs.Search.{copies_left}
 use Rattle.model.specs.Services.{layout_in, with_layout}
 use Rattle.model.proofs.Lists.{and_left, and_right, length-below, get_or-map-below}
 use Rattle.model.proofs.ReadBack.{Small, read-layout}
-use Rattle.stepping.specs.LiveSets.{enough, Keeps}
-use Rattle.stepping.specs.Levels.{piece_kind, pieces_from, placed_below, numbers_at, placed_of}
+use Rattle.stepping.specs.LiveSets.{bound_of, enough, Keeps}
+use Rattle.stepping.specs.Levels.{piece_kind, pieces_from, placed_below, try_level, go_on_level, numbers_at, placed_of}
 use Rattle.stepping.specs.Slots.{slot_of}
-use Rattle.bounded.specs.Bounded.{Best, best_at, spent, try_level, go_on_level}
+use Rattle.stepping.specs.Spending.{spent}
 use Rattle.bounding.specs.Trimmed.{Admitted, Lowered}
 use Rattle.lookahead.specs.Settled.{SetsKept, Placeable, Settled}
 use Rattle.plans.specs.Recording.{layout_of, Recordable}
-use Rattle.walks.specs.Walk.{best_in, Ready, Taken, Left}
+use Rattle.walks.specs.Walk.{held_of, Ready, Taken, Left}
 use Rattle.runs.specs.Told.{completed}
 use Rattle.runs.specs.declared.progress.Progress.{Progress}
 use Rattle.stepping.proofs.Extents.{candidate-entry, candidate-below, candidate-bounds, bounds_small}
-use Rattle.stepping.proofs.Levels.{placed-layout}
-use Rattle.bounded.proofs.Levels.{level_last, level_back, level_deep}
+use Rattle.stepping.proofs.Levels.{placed-layout, level_last, level_back, level_deep}
 use Rattle.stepping.proofs.Kept.{kept-candidate}
 use Rattle.stepping.proofs.LiveSets.{Open, start_open}
 use Rattle.stepping.proofs.Slots.{slot-member, keeps-frame}
 use Rattle.walks.proofs.Lowered.{lowered-sets, lowered-spans}
+use Rattle.stepping.proofs.Steps.{bound-complete}
 
 module _ (j : Problem) (ns : List ℕ) where
   -- ---- The pieces placed are candidates
@@ -49,9 +49,9 @@ module _ (j : Problem) (ns : List ℕ) where
       go (inr e) r = r (omega arith)
 
   -- The layout of all pieces, in its order.
-  pub layout-placed : reverse (placed_of j ns (piece_count j.kinds)) ≡ layout_of j ns
+  pub layout_placed : reverse (placed_of j ns (piece_count j.kinds)) ≡ layout_of j ns
   unfolding layout_of
-  layout-placed = placed-layout j (numbers_at ns) (piece_count j.kinds)
+  layout_placed = placed-layout j (numbers_at ns) (piece_count j.kinds)
 
   module _ (few-dots : dots j.sheet ≤ 1024) (few-kinds : kind_count j.kinds ≤ 8) (a : all (is_entry j) (placed_of j ns (piece_count j.kinds)) ≡ true) where
     -- Its numbers are small, so that it is read back as it was written.
@@ -59,9 +59,9 @@ module _ (j : Problem) (ns : List ℕ) where
     unfolding number_limit
     numbers_small l h = omega (arith, candidate-below j (piece_kind j.kinds l) (numbers_at ns l) (placed-candidates (piece_count j.kinds) a l h))
 
-    pub layout-back : (out : List ℕ) → layout_in j (with_layout (some (layout_of j ns)) out) ≡ layout_of j ns
+    pub layout_back : (out : List ℕ) → layout_in j (with_layout (some (layout_of j ns)) out) ≡ layout_of j ns
     unfolding layout_of
-    layout-back out = read-layout j (layout_of j ns) out count small
+    layout_back out = read-layout j (layout_of j ns) out count small
       where
         count : length (layout_of j ns) ≡ piece_count j.kinds
         count = length-map (below (piece_count j.kinds)) _ ∙ length-below (piece_count j.kinds)
@@ -84,21 +84,22 @@ module _ (j : Problem) (ns : List ℕ) where
     lower-ready e l u m hl hu c h q =
         kept-candidate j (placed_of j ns l) st.bound st.span u (slot_of j work l u) (r.sets l u (omega arith) hu c) m h (slot-member j work l u m ∙ q)
 
-    pub go_last : (once : Bool) (work' out' : List ℕ) (left : ℕ) (st' : Progress) → st' ≡ completed st end left once → dots j.sheet ≤ 1024 → kind_count j.kinds ≤ 8
+    pub go_last : (work' out' : List ℕ) (left : ℕ) (st' : Progress) → st' ≡ completed st end left → dots j.sheet ≤ 1024 → kind_count j.kinds ≤ 8
         → ((u : ℕ) → u < kind_count j.kinds → 0 < (kind_at j.kinds u).demand) → 0 < level → level ≡ piece_count j.kinds
         → out' ≡ with_layout (some (layout_of j ns)) out → Lowered j end st.span work work' left
-        → Left j ns work out work' out' level st st' (go_on_level j once (numbers_at ns) level st.left (best_in j st out))
-    go_last once work' out' left st' q d k demanded one e o v =
-        let w : go_on_level j once (numbers_at ns) level st.left (best_in j st out) ≡ spent st.left (best_at (largest_end j (placed_of j ns (piece_count j.kinds))) (some (layout_of j ns))) once =
-        ap (λ (l : ℕ). go_on_level j once (numbers_at ns) l st.left (best_in j st out)) e
-        ∙ level_last j once (numbers_at ns) st.left (best_in j st out)
-        ∙ ap (λ (es : Layout). spent st.left (best_at (largest_end j (placed_of j ns (piece_count j.kinds))) (some es)) once) layout-placed in
+        → Left j ns work out work' out' level st st' (go_on_level j (numbers_at ns) level st.left (held_of j st.found out))
+    go_last work' out' left st' q d k demanded one e o v =
+        let w : go_on_level j (numbers_at ns) level st.left (held_of j st.found out) ≡ spent st.left (some (layout_of j ns)) false =
+        ap (λ (l : ℕ). go_on_level j (numbers_at ns) l st.left (held_of j st.found out)) e
+        ∙ level_last j (numbers_at ns) st.left (held_of j st.found out)
+        ∙ ap (λ (es : Layout). spent st.left (some es) false) layout_placed in
         let a : all (is_entry j) (placed_of j ns (piece_count j.kinds)) ≡ true = subst (λ (l : ℕ). all (is_entry j) (placed_of j ns l) ≡ true) e r.admitted in
         let sets : SetsKept j ns (piece_count j.kinds) st.bound st.span work = subst (λ (l : ℕ). SetsKept j ns l st.bound st.span work) e r.sets in
         rw (w, q) (record {
           left = refl;
           stopped = refl;
-          best = ap₂ {C = Best} (λ (n : ℕ) (es : Layout). best_at n (some es)) (r.end_is ∙ ap (λ (l : ℕ). largest_end j (placed_of j ns l)) e) (ap (layout_in j) o ∙ layout-back d k a out);
+          held = ap some (ap (layout_in j) o ∙ layout_back d k a out);
+          bound-is = r.end_is ∙ ap (λ (l : ℕ). largest_end j (placed_of j ns l)) e ∙ sym (bound-complete j (placed_of j ns (piece_count j.kinds))) ∙ ap (λ (es : Layout). bound_of j (some es)) layout_placed;
           lowered = omega (arith, under one);
           written = o;
           spans = lowered-spans j ns st.bound st.span end left work work' r.spans sets (omega (arith, under one)) v (rw (← e) one) demanded;
@@ -111,28 +112,30 @@ module _ (j : Problem) (ns : List ℕ) where
     pub settle_ready : level < piece_count j.kinds → Taken j ns level end st → Placeable j ns level st.bound st.span work
     settle_ready h t = record { within = h; fits = r.work-fits; later = t.some; latest = t.latest; spans = r.spans; sets = r.sets }
 
-    short : 0 < level → largest_end j (placed_of j ns level) < st.bound
-    short h = rw (← r.end_is) (under h)
+    short : 0 < level → largest_end j (placed_of j ns level) < bound_of j (held_of j st.found out)
+    short h = rw (← r.end_is, ← r.bound-is) (under h)
 
     -- If there is a member, what is placed ends below the bound, also where nothing is placed.
-    is_open : Open j (placed_of j ns level) st.bound
+    is_open : Open j (placed_of j ns level) (bound_of j (held_of j st.found out))
     unfolding placed_below
     is_open = go level refl
       where
-        go : (l : ℕ) → level ≡ l → Open j (placed_of j ns l) st.bound
-        go zero e u m h = start_open j st.bound u m h
-        go (suc l) e u m h = subst (λ (l : ℕ). largest_end j (placed_of j ns l) < st.bound) e (short (omega arith))
+        go : (l : ℕ) → level ≡ l → Open j (placed_of j ns l) (bound_of j (held_of j st.found out))
+        go zero e u m h = start_open j (bound_of j (held_of j st.found out)) u m h
+        go (suc l) e u m h = subst (λ (l : ℕ). largest_end j (placed_of j ns l) < bound_of j (held_of j st.found out)) e (short (omega arith))
 
     -- It fails: the candidate is given back.
-    pub go_back : (once : Bool) (work' : List ℕ) (told : Bool) → level < piece_count j.kinds → told ≡ false → Settled j ns level st.bound st.span work work' told
-        → Left j ns work out work' out level st st (go_on_level j once (numbers_at ns) level st.left (best_in j st out))
-    go_back once work' told h e s =
-        let w : go_on_level j once (numbers_at ns) level st.left (best_in j st out) ≡ spent st.left (best_in j st out) false =
-        level_back j once (numbers_at ns) level (best_in j st out) is_open st.left h (sym s.answer ∙ e) in
+    pub go_back : (work' : List ℕ) (told : Bool) → level < piece_count j.kinds → told ≡ false → Settled j ns level st.bound st.span work work' told
+        → Left j ns work out work' out level st st (go_on_level j (numbers_at ns) level st.left (held_of j st.found out))
+    go_back work' told h e s =
+        let w : go_on_level j (numbers_at ns) level st.left (held_of j st.found out) ≡ spent st.left (held_of j st.found out) false =
+        level_back j (numbers_at ns) level (held_of j st.found out) r.admitted is_open st.left h
+        (ap (enough j (pieces_from j.kinds level) (placed_of j ns level)) (sym r.bound-is) ∙ sym s.answer ∙ e) in
         rw w (record {
           left = refl;
           stopped = r.running;
-          best = refl;
+          held = refl;
+          bound-is = r.bound-is;
           lowered = omega arith;
           written = sym r.written;
           spans = r.spans;
@@ -150,6 +153,7 @@ module _ (j : Problem) (ns : List ℕ) where
           room = r.room;
           admitted = r.admitted;
           end_is = r.end_is;
+          bound-is = r.bound-is;
           written = r.written;
           running = r.running;
           spans = r.spans;
@@ -163,16 +167,18 @@ module _ (j : Problem) (ns : List ℕ) where
             (s.kept e u g (subst (λ (l : ℕ). 0 < copies_left u (pieces_from j.kinds l)) c k))
         sets l u h g k (inr c) = keeps-frame j (placed_of j ns l) st.bound st.span l level u work work' r.spans.within (omega arith) g s.frame (r.sets l u (omega arith) g k)
 
-    pub go_deep : (once : Bool) (work' work'' out' : List ℕ) (st' : Progress) (told : Bool) → level < piece_count j.kinds → told ≡ true → Settled j ns level st.bound st.span work work' told
-        → Left j ns work' out work'' out' (level + 1) st st' (try_level j once (numbers_at ns) level 0 st.left (best_in j st out))
-        → Left j ns work out work'' out' level st st' (go_on_level j once (numbers_at ns) level st.left (best_in j st out))
-    go_deep once work' work'' out' st' told h e s d =
-        let w : go_on_level j once (numbers_at ns) level st.left (best_in j st out) ≡ try_level j once (numbers_at ns) level 0 st.left (best_in j st out) =
-        level_deep j once (numbers_at ns) level (best_in j st out) is_open st.left h (sym s.answer ∙ e) in
+    pub go_deep : (work' work'' out' : List ℕ) (st' : Progress) (told : Bool) → level < piece_count j.kinds → told ≡ true → Settled j ns level st.bound st.span work work' told
+        → Left j ns work' out work'' out' (level + 1) st st' (try_level j (numbers_at ns) level 0 st.left (held_of j st.found out))
+        → Left j ns work out work'' out' level st st' (go_on_level j (numbers_at ns) level st.left (held_of j st.found out))
+    go_deep work' work'' out' st' told h e s d =
+        let w : go_on_level j (numbers_at ns) level st.left (held_of j st.found out) ≡ try_level j (numbers_at ns) level 0 st.left (held_of j st.found out) =
+        level_deep j (numbers_at ns) level (held_of j st.found out) r.admitted is_open st.left h
+        (ap (enough j (pieces_from j.kinds level) (placed_of j ns level)) (sym r.bound-is) ∙ sym s.answer ∙ e) in
         rw w (record {
           left = d.left;
           stopped = d.stopped;
-          best = d.best;
+          held = d.held;
+          bound-is = d.bound-is;
           lowered = d.lowered;
           written = d.written;
           spans = d.spans;

@@ -18,20 +18,21 @@ use Rattle.model.specs.Problem.{Problem}
 use Rattle.model.specs.Services.{entry_in, layout_in, with_layout, numbers_in, work_words}
 use Rattle.model.proofs.Lists.{length-below}
 use Rattle.model.proofs.Search.Completions.{end-cons}
-use Rattle.stepping.specs.LiveSets.{set_of, Keeps}
-use Rattle.stepping.specs.Levels.{piece_kind, numbers_at, placed_of}
+use Rattle.stepping.specs.LiveSets.{set_of, bound_of, Keeps}
+use Rattle.stepping.specs.Levels.{piece_kind, pieces_from, placed_below, try_level, go_on_level, numbers_at, placed_of}
 use Rattle.stepping.specs.Slots.{slot_of}
 use Rattle.lookahead.specs.Settled.{SetsKept}
-use Rattle.bounded.specs.Bounded.{Best, Spent, spent, try_level, go_on_level}
+use Rattle.stepping.specs.Spending.{Spent, spent}
 use Rattle.stepping.specs.Steps.{Entries}
-use Rattle.stepping.proofs.Answer.{layout-after}
+use Rattle.stepping.proofs.Answer.{layout_after}
 use Rattle.stepping.proofs.Extents.{limit_words}
-use Rattle.stepping.proofs.Levels.{piece_kind_lem, placed-next, placed_same}
-use Rattle.bounded.proofs.Levels.{level_same, level_skips, level_over, level_past, level_stops, level_ends, level_goes, level_none, level_entries}
+use Rattle.stepping.proofs.Held.{go_on-none}
+use Rattle.stepping.proofs.Levels.{piece_kind_lem, placed-next, placed_same, level_same, level_over, level_past, level_stops, level_ends, level_goes, placed-entries}
 use Rattle.stepping.proofs.LiveSets.{placed-admitted, placed_below_lem}
 use Rattle.stepping.proofs.PieceOrder.{copies-here}
+use Rattle.stepping.proofs.Steps.{spent-skip_to}
 use Rattle.branching.specs.Choosing.{NextLive}
-use Rattle.walks.specs.Walk.{held_of, best_in, Ready, Taken, Left}
+use Rattle.walks.specs.Walk.{held_of, Ready, Taken, Left}
 use Rattle.branching.specs.declared.choosing.Next.{Next}
 use Rattle.runs.specs.Told.{stepped, halted}
 use Rattle.runs.specs.declared.progress.Progress.{Progress}
@@ -45,6 +46,18 @@ module _ (j : Problem) where
   held-entries true out = length-map (below (piece_count j.kinds)) (entry_in out) ∙ length-below (piece_count j.kinds)
   held-entries false out = tt
 
+  -- Nothing held after a candidate was taken is nothing held before.
+  pub none_before : (numbers : ℕ → ℕ) (l k : ℕ) (h : Option Layout) → (go_on_level j numbers l k h).held ≡ none → h ≡ none
+  unfolding go_on_level
+  none_before numbers l k h e = go_on-none j (pieces_from j.kinds l) (placed_below j numbers l) k h e
+
+  -- Numbers among which there is no member are passed over.
+  pub level_skip : (numbers : ℕ → ℕ) (l : ℕ) (h : Option Layout) → all (is_entry j) (placed_below j numbers l) ≡ true → (n m k : ℕ) → n ≤ m
+      → ((i : ℕ) → n ≤ i → i < m → set_of j (placed_below j numbers l) (bound_of j h) (piece_kind j.kinds l) i ≡ false)
+      → try_level j numbers l n k h ≡ try_level j numbers l m k h
+  unfolding try_level
+  level_skip numbers l h a n m k o f = spent-skip_to j (piece_kind j.kinds l) (pieces_from j.kinds (suc l)) (placed_below j numbers l) h a n m k o f
+
 -- A buffer of the same length holds as many numbers.
 pub same_numbers : (a b : List ℕ) → length a ≡ length b → numbers_in a ≡ numbers_in b
 unfolding numbers_in count
@@ -53,35 +66,36 @@ same_numbers a b e = rw e
 -- ---- The loop
 
 -- What stands at each turn, from number `from` on. (With 0 are marked the values at the beginning.)
-pub record Trying (j : Problem) (once : Bool) (ns : List ℕ) (level end : ℕ) (work₀ out₀ work out : List ℕ) (st₀ st : Progress) (from : ℕ) : Type 0 where
+pub record Trying (j : Problem) (ns : List ℕ) (level end : ℕ) (work₀ out₀ work out : List ℕ) (st₀ st : Progress) (from : ℕ) : Type 0 where
   pub ready : Ready j work out ns level (level + 1) end st
-  pub same : try_level j once (numbers_at ns) level 0 st₀.left (best_in j st₀ out₀) ≡ try_level j once (numbers_at ns) level from st.left (best_in j st out)
+  pub same : try_level j (numbers_at ns) level 0 st₀.left (held_of j st₀.found out₀) ≡ try_level j (numbers_at ns) level from st.left (held_of j st.found out)
   pub lowered : st.bound ≤ st₀.bound
   pub written : out ≡ with_layout (held_of j st.found out) out₀
   pub behind : drop (work_words j * 8) work ≡ drop (work_words j * 8) work₀
 
-module _ (j : Problem) (once : Bool) (ns : List ℕ) (level end : ℕ) where
+module _ (j : Problem) (ns : List ℕ) (level end : ℕ) where
   -- The whole of it.
   abbrev whole : Progress → List ℕ → Spent
-  whole st out = try_level j once (numbers_at ns) level 0 st.left (best_in j st out)
+  whole st out = try_level j (numbers_at ns) level 0 st.left (held_of j st.found out)
 
-  pub trying_begin : (work out : List ℕ) (st : Progress) → Ready j work out ns level (level + 1) end st → Trying j once ns level end work out work out st st 0
+  pub trying_begin : (work out : List ℕ) (st : Progress) → Ready j work out ns level (level + 1) end st → Trying j ns level end work out work out st st 0
   trying_begin work out st r =
       record { ready = r; same = refl; lowered = omega arith; written = sym r.written; behind = refl }
 
-  module _ (work₀ out₀ work out : List ℕ) (st₀ st : Progress) (from : ℕ) (t : Trying j once ns level end work₀ out₀ work out st₀ st from) where
+  module _ (work₀ out₀ work out : List ℕ) (st₀ st : Progress) (from : ℕ) (t : Trying j ns level end work₀ out₀ work out st₀ st from) where
     -- Nothing is left to be done.
-    trying_leaves : try_level j once (numbers_at ns) level from st.left (best_in j st out) ≡ spent st.left (best_in j st out) false
+    trying_leaves : try_level j (numbers_at ns) level from st.left (held_of j st.found out) ≡ spent st.left (held_of j st.found out) false
         → Left j ns work₀ out₀ work out (level + 1) st₀ st (whole st₀ out₀)
     trying_leaves e =
-        let w : whole st₀ out₀ ≡ spent st.left (best_in j st out) false = t.same ∙ e in
-        let best-is : best_in j st out ≡ (whole st₀ out₀).best = sym (ap (λ (w : Spent). w.best) w) in
+        let w : whole st₀ out₀ ≡ spent st.left (held_of j st.found out) false = t.same ∙ e in
+        let held-is : held_of j st.found out ≡ (whole st₀ out₀).held = sym (ap (λ (w : Spent). w.held) w) in
         record {
           left = sym (ap (λ (w : Spent). w.left) w);
           stopped = t.ready.running ∙ sym (ap (λ (w : Spent). w.stopped) w);
-          best = best-is;
+          held = held-is;
+          bound-is = t.ready.bound-is ∙ ap (bound_of j) held-is;
           lowered = t.lowered;
-          written = t.written ∙ ap (λ (b : Best). with_layout b.layout out₀) best-is;
+          written = t.written ∙ ap (λ (g : Option Layout). with_layout g out₀) held-is;
           spans = t.ready.spans;
           sets = t.ready.sets;
           behind = t.behind;
@@ -93,10 +107,10 @@ module _ (j : Problem) (once : Bool) (ns : List ℕ) (level end : ℕ) where
 
     module _ (r : Next) (v : NextLive j (placed_of j ns level) st.bound (piece_kind j.kinds level) end from r) where
       -- The walk goes to the next live candidate.
-      trying_skips : try_level j once (numbers_at ns) level from st.left (best_in j st out) ≡ try_level j once (numbers_at ns) level r.number st.left (best_in j st out)
+      trying_skips : try_level j (numbers_at ns) level from st.left (held_of j st.found out) ≡ try_level j (numbers_at ns) level r.number st.left (held_of j st.found out)
       trying_skips =
-          level_skips j once (numbers_at ns) level (best_in j st out) from r.number st.left v.above
-          v.passed
+          level_skip j (numbers_at ns) level (held_of j st.found out) t.ready.admitted from r.number st.left v.above
+          (λ i p q. ap (λ (b : ℕ). set_of j (placed_of j ns level) b (piece_kind j.kinds level) i) (sym t.ready.bound-is) ∙ v.passed i p q)
 
       -- There is none: what is placed does not end below the bound, or no member is left.
       pub trying_past : r.found ≡ false → Left j ns work₀ out₀ work out (level + 1) st₀ st (whole st₀ out₀)
@@ -104,14 +118,14 @@ module _ (j : Problem) (once : Bool) (ns : List ℕ) (level end : ℕ) where
         where
           go : (st.bound ≤ end) ⊎ ((i : ℕ) → from ≤ i → set_of j (placed_of j ns level) st.bound (piece_kind j.kinds level) i ≡ false) → Left j ns work₀ out₀ work out (level + 1) st₀ st (whole st₀ out₀)
           go (inl o) =
-              trying_leaves (level_over j once (numbers_at ns) level (best_in j st out) from st.left
-              (omega (arith, t.ready.end_is)))
+              trying_leaves (level_over j (numbers_at ns) level (held_of j st.found out) t.ready.admitted from st.left
+              (omega (arith, t.ready.bound-is, t.ready.end_is)))
           go (inr o) =
               let past : from ≤ from + set_words j.sheet * 64 = omega arith in
               trying_leaves
-              (level_skips j once (numbers_at ns) level (best_in j st out) from (from + set_words j.sheet * 64) st.left past
-              (λ i p q. o i p)
-              ∙ level_past j once (numbers_at ns) level (best_in j st out) (from + set_words j.sheet * 64) st.left (omega (arith, limit_words j.sheet)))
+              (level_skip j (numbers_at ns) level (held_of j st.found out) t.ready.admitted from (from + set_words j.sheet * 64) st.left past
+              (λ i p q. ap (λ (b : ℕ). set_of j (placed_of j ns level) b (piece_kind j.kinds level) i) (sym t.ready.bound-is) ∙ o i p)
+              ∙ level_past j (numbers_at ns) level (held_of j st.found out) t.ready.admitted (from + set_words j.sheet * 64) st.left (omega (arith, limit_words j.sheet)))
 
       module _ (f : r.found ≡ true) (inside : level < piece_count j.kinds) (few : level < 12) where
         -- The numbers with the new one: those below are as they were.
@@ -124,32 +138,36 @@ module _ (j : Problem) (once : Bool) (ns : List ℕ) (level end : ℕ) where
         placed-is : (l : ℕ) → l ≤ level → placed_of j ns l ≡ placed_of j (set ns level r.number) l
         placed-is l q = placed_same j (numbers_at ns) (numbers_at (set ns level r.number)) l (λ i r. same-below i (omega arith))
 
-        member_is : set_of j (placed_of j (set ns level r.number) level) st.bound (piece_kind j.kinds level) (numbers_at (set ns level r.number) level) ≡ true
-        member_is = rw (← (placed-is level (omega arith)), number_is) (v.found f).member
+        admitted : all (is_entry j) (placed_of j (set ns level r.number) level) ≡ true
+        admitted = rw (← (placed-is level (omega arith))) t.ready.admitted
 
-        short : largest_end j (placed_of j (set ns level r.number) level) < st.bound
-        short = rw (← (placed-is level (omega arith)), ← t.ready.end_is) (v.found f).below
+        member_is : set_of j (placed_of j (set ns level r.number) level) (bound_of j (held_of j st.found out)) (piece_kind j.kinds level) (numbers_at (set ns level r.number) level) ≡ true
+        member_is = rw (← (placed-is level (omega arith)), number_is, ← t.ready.bound-is) (v.found f).member
+
+        short : largest_end j (placed_of j (set ns level r.number) level) < bound_of j (held_of j st.found out)
+        short = rw (← (placed-is level (omega arith)), ← t.ready.bound-is, ← t.ready.end_is) (v.found f).below
 
         -- The walk from the new number on, with the numbers as they are then.
-        trying_at : whole st₀ out₀ ≡ try_level j once (numbers_at (set ns level r.number)) level (numbers_at (set ns level r.number) level) st.left (best_in j st out)
+        trying_at : whole st₀ out₀ ≡ try_level j (numbers_at (set ns level r.number)) level (numbers_at (set ns level r.number) level) st.left (held_of j st.found out)
         trying_at =
             t.same ∙ trying_skips
-            ∙ level_same j once (numbers_at ns) (numbers_at (set ns level r.number)) level r.number st.left (best_in j st out) same-below
-            ∙ ap (λ (m : ℕ). try_level j once (numbers_at (set ns level r.number)) level m st.left (best_in j st out)) (sym number_is)
+            ∙ level_same j (numbers_at ns) (numbers_at (set ns level r.number)) level r.number st.left (held_of j st.found out) same-below
+            ∙ ap (λ (m : ℕ). try_level j (numbers_at (set ns level r.number)) level m st.left (held_of j st.found out)) (sym number_is)
 
         -- The budget is spent.
         pub trying_stops : (st' : Progress) → st' ≡ halted st → st.left ≡ 0 → Left j ns work₀ out₀ work out (level + 1) st₀ st' (whole st₀ out₀)
         trying_stops st' q z =
-            let w : whole st₀ out₀ ≡ spent 0 (best_in j st out) true =
-            trying_at ∙ ap (λ (k : ℕ). try_level j once (numbers_at (set ns level r.number)) level (numbers_at (set ns level r.number) level) k (best_in j st out)) z
-            ∙ level_stops j once (numbers_at (set ns level r.number)) level (best_in j st out) short member_is in
-            let best-is : best_in j st out ≡ (whole st₀ out₀).best = sym (ap (λ (w : Spent). w.best) w) in
+            let w : whole st₀ out₀ ≡ spent 0 (held_of j st.found out) true =
+            trying_at ∙ ap (λ (k : ℕ). try_level j (numbers_at (set ns level r.number)) level (numbers_at (set ns level r.number) level) k (held_of j st.found out)) z
+            ∙ level_stops j (numbers_at (set ns level r.number)) level (held_of j st.found out) admitted short member_is in
+            let held-is : held_of j st.found out ≡ (whole st₀ out₀).held = sym (ap (λ (w : Spent). w.held) w) in
             rw q (record {
               left = sym (ap (λ (w : Spent). w.left) w);
               stopped = sym (ap (λ (w : Spent). w.stopped) w);
-              best = best-is;
+              held = held-is;
+              bound-is = t.ready.bound-is ∙ ap (bound_of j) held-is;
               lowered = t.lowered;
-              written = t.written ∙ ap (λ (b : Best). with_layout b.layout out₀) best-is;
+              written = t.written ∙ ap (λ (g : Option Layout). with_layout g out₀) held-is;
               spans = t.ready.spans;
               sets = t.ready.sets;
               behind = t.behind;
@@ -175,6 +193,7 @@ module _ (j : Problem) (once : Bool) (ns : List ℕ) (level end : ℕ) where
               room = length-set ns level r.number ∙ t.ready.room;
               admitted = rw placed-more (placed-admitted j (placed_of j ns level) st.bound (piece_kind j.kinds level) r.number live t.ready.admitted);
               end_is = rw placed-more ((v.found f).reaches ∙ ap (max (entry_extent j (entry_of j (piece_kind j.kinds level) r.number))) t.ready.end_is ∙ sym (end-cons j (entry_of j (piece_kind j.kinds level) r.number) (placed_of j ns level)));
+              bound-is = t.ready.bound-is;
               written = t.ready.written;
               running = refl;
               spans = t.ready.spans;
@@ -196,25 +215,25 @@ module _ (j : Problem) (once : Bool) (ns : List ℕ) (level end : ℕ) where
 
         module _ (work' out' : List ℕ) (st' : Progress) (work-length : length work' ≡ length work) (out-length : length out' ≡ length out)
             (more : 0 < st.left) (less : Progress) (q : less ≡ stepped st)
-            (d : Left j (set ns level r.number) work out work' out' (level + 1) less st' (go_on_level j once (numbers_at (set ns level r.number)) (level + 1) less.left (best_in j less out))) where
+            (d : Left j (set ns level r.number) work out work' out' (level + 1) less st' (go_on_level j (numbers_at (set ns level r.number)) (level + 1) less.left (held_of j less.found out))) where
           -- What the walk did below.
-          done : Left j (set ns level r.number) work out work' out' (level + 1) (stepped st) st' (go_on_level j once (numbers_at (set ns level r.number)) (suc level) (st.left - 1) (best_in j st out))
+          done : Left j (set ns level r.number) work out work' out' (level + 1) (stepped st) st' (go_on_level j (numbers_at (set ns level r.number)) (suc level) (st.left - 1) (held_of j st.found out))
           done =
               subst
-              (λ (l : ℕ). Left j (set ns level r.number) work out work' out' (level + 1) (stepped st) st' (go_on_level j once (numbers_at (set ns level r.number)) l (st.left - 1) (best_in j st out)))
+              (λ (l : ℕ). Left j (set ns level r.number) work out work' out' (level + 1) (stepped st) st' (go_on_level j (numbers_at (set ns level r.number)) l (st.left - 1) (held_of j st.found out)))
               (add-one level)
-              (subst (λ (s : Progress). Left j (set ns level r.number) work out work' out' (level + 1) s st' (go_on_level j once (numbers_at (set ns level r.number)) (level + 1) s.left (best_in j s out))) q d)
+              (subst (λ (s : Progress). Left j (set ns level r.number) work out work' out' (level + 1) s st' (go_on_level j (numbers_at (set ns level r.number)) (level + 1) s.left (held_of j s.found out))) q d)
 
-          entries : Entries (piece_count j.kinds) (go_on_level j once (numbers_at (set ns level r.number)) (suc level) (st.left - 1) (best_in j st out)).best.layout
-          entries = level_entries j once (numbers_at (set ns level r.number)) (suc level) (st.left - 1) (best_in j st out) (omega arith) (held-entries j st.found out)
+          entries : Entries (piece_count j.kinds) (go_on_level j (numbers_at (set ns level r.number)) (suc level) (st.left - 1) (held_of j st.found out)).held
+          entries = placed-entries j (numbers_at (set ns level r.number)) (suc level) (st.left - 1) (held_of j st.found out) (omega arith) (held-entries j st.found out)
 
           -- The layout held then, over the one held before.
-          over : out' ≡ with_layout (go_on_level j once (numbers_at (set ns level r.number)) (suc level) (st.left - 1) (best_in j st out)).best.layout out₀
+          over : out' ≡ with_layout (go_on_level j (numbers_at (set ns level r.number)) (suc level) (st.left - 1) (held_of j st.found out)).held out₀
           over =
               done.written
-              ∙ ap (with_layout (go_on_level j once (numbers_at (set ns level r.number)) (suc level) (st.left - 1) (best_in j st out)).best.layout) t.written
-              ∙ layout-after (piece_count j.kinds) _ (held_of j st.found out) out₀
-              entries (held-entries j st.found out) (level_none j once (numbers_at (set ns level r.number)) (suc level) (st.left - 1) (best_in j st out))
+              ∙ ap (with_layout (go_on_level j (numbers_at (set ns level r.number)) (suc level) (st.left - 1) (held_of j st.found out)).held) t.written
+              ∙ layout_after (piece_count j.kinds) _ (held_of j st.found out) out₀
+              entries (held-entries j st.found out) (none_before j (numbers_at (set ns level r.number)) (suc level) (st.left - 1) (held_of j st.found out))
 
           -- The sets that it leaves are those of the pieces placed before.
           sets-back : SetsKept j ns (level + 1) st'.bound st'.span work'
@@ -223,12 +242,13 @@ module _ (j : Problem) (once : Bool) (ns : List ℕ) (level end : ℕ) where
           -- It stopped.
           pub trying_ends : st'.stopped ≡ true → Left j ns work₀ out₀ work' out' (level + 1) st₀ st' (whole st₀ out₀)
           trying_ends z =
-              let w : whole st₀ out₀ ≡ go_on_level j once (numbers_at (set ns level r.number)) (suc level) (st.left - 1) (best_in j st out) =
-              trying_at ∙ level_ends j once (numbers_at (set ns level r.number)) level (best_in j st out) short member_is st.left more (sym done.stopped ∙ z) in
+              let w : whole st₀ out₀ ≡ go_on_level j (numbers_at (set ns level r.number)) (suc level) (st.left - 1) (held_of j st.found out) =
+              trying_at ∙ level_ends j (numbers_at (set ns level r.number)) level (held_of j st.found out) admitted short member_is st.left more (sym done.stopped ∙ z) in
               rw w (record {
                 left = done.left;
                 stopped = done.stopped;
-                best = done.best;
+                held = done.held;
+                bound-is = done.bound-is;
                 lowered = omega (arith, done.lowered, t.lowered);
                 written = over;
                 spans = done.spans;
@@ -237,12 +257,12 @@ module _ (j : Problem) (once : Bool) (ns : List ℕ) (level end : ℕ) where
               })
 
           -- It came back: the numbers after this one are tried.
-          pub trying_goes : st'.stopped ≡ false → Trying j once ns level end work₀ out₀ work' out' st₀ st' (r.number + 1)
+          pub trying_goes : st'.stopped ≡ false → Trying j ns level end work₀ out₀ work' out' st₀ st' (r.number + 1)
           trying_goes z =
-              let w : whole st₀ out₀ ≡ try_level j once (numbers_at (set ns level r.number)) level (suc r.number) st'.left (best_in j st' out') =
+              let w : whole st₀ out₀ ≡ try_level j (numbers_at (set ns level r.number)) level (suc r.number) st'.left (held_of j st'.found out') =
               trying_at
-              ∙ level_goes j once (numbers_at (set ns level r.number)) level (best_in j st out) short member_is st.left more (sym done.stopped ∙ z)
-              ∙ rw (number_is, done.left, done.best) in
+              ∙ level_goes j (numbers_at (set ns level r.number)) level (held_of j st.found out) admitted short member_is st.left more (sym done.stopped ∙ z)
+              ∙ rw (number_is, done.left, done.held) in
               record {
                 ready = record {
                   work-fits = rw work-length t.ready.work-fits;
@@ -250,17 +270,18 @@ module _ (j : Problem) (once : Bool) (ns : List ℕ) (level end : ℕ) where
                   room = t.ready.room;
                   admitted = t.ready.admitted;
                   end_is = t.ready.end_is;
+                  bound-is = done.bound-is ∙ ap (bound_of j) (sym done.held);
                   written =
-                      ap (λ (b : Best). with_layout b.layout out') done.best
-                      ∙ ap (with_layout (go_on_level j once (numbers_at (set ns level r.number)) (suc level) (st.left - 1) (best_in j st out)).best.layout) done.written
-                      ∙ layout-after (piece_count j.kinds) _ _ out entries entries (λ e. e)
+                      ap (λ (g : Option Layout). with_layout g out') done.held
+                      ∙ ap (with_layout (go_on_level j (numbers_at (set ns level r.number)) (suc level) (st.left - 1) (held_of j st.found out)).held) done.written
+                      ∙ layout_after (piece_count j.kinds) _ _ out entries entries (λ e. e)
                       ∙ sym done.written;
                   running = z;
                   spans = done.spans;
                   sets = sets-back;
                 };
-                same = w ∙ sym (level_same j once (numbers_at ns) (numbers_at (set ns level r.number)) level (suc r.number) st'.left (best_in j st' out') same-below) ∙ ap (λ (m : ℕ). try_level j once (numbers_at ns) level m st'.left (best_in j st' out')) (sym (add-one r.number));
+                same = w ∙ sym (level_same j (numbers_at ns) (numbers_at (set ns level r.number)) level (suc r.number) st'.left (held_of j st'.found out') same-below) ∙ ap (λ (m : ℕ). try_level j (numbers_at ns) level m st'.left (held_of j st'.found out')) (sym (add-one r.number));
                 lowered = omega (arith, done.lowered, t.lowered);
-                written = over ∙ ap (λ (b : Best). with_layout b.layout out₀) (sym done.best);
+                written = over ∙ ap (λ (g : Option Layout). with_layout g out₀) (sym done.held);
                 behind = done.behind ∙ t.behind;
               }

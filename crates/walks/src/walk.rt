@@ -4,9 +4,8 @@ ghost use Rattle.model.specs.Content.{piece_count};
 ghost use Rattle.model.specs.Format.{content};
 ghost use Rattle.plans.specs.Planned.{planned};
 ghost use Rattle.live_sets.specs.Known.{Known};
-ghost use Rattle.stepping.specs.Levels.{numbers_at};
-ghost use Rattle.bounded.specs.Bounded.{try_level, go_on_level};
-ghost use Rattle.walks.specs.Walk.{best_in, Ready, Taken, Left};
+ghost use Rattle.stepping.specs.Levels.{try_level, go_on_level, numbers_at};
+ghost use Rattle.walks.specs.Walk.{held_of, Ready, Taken, Left};
 
 use bounding::lowering::lower;
 use branching::choosing::next_live;
@@ -34,7 +33,7 @@ pub fn try_piece(
 ) -> Progress
     requires known { Known job.now plan nofit turned.now strings.now × (level < piece_count (content job.now).kinds) }
     requires ready { Ready (planned job.now plan) work.old out.old numbers level (level + 1) extent state }
-    ensures { Left (planned job.now plan) numbers work.old out.old work.new out.new (level + 1) state result (try_level (planned job.now plan) plan.once (numbers_at numbers) level 0 state.left (best_in (planned job.now plan) state out.old)) }
+    ensures { Left (planned job.now plan) numbers work.old out.old work.new out.new (level + 1) state result (try_level (planned job.now plan) (numbers_at numbers) level 0 state.left (held_of (planned job.now plan) state.found out.old)) }
 {
     let mut st = state;
     let mut from = 0;
@@ -69,7 +68,7 @@ pub fn try_piece(
 }
 
 // What follows once `level` pieces are placed, the latest just counted: a complete layout becomes the best, and the
-// live sets are those at the new bound, or the walk is over; else look-ahead, and the next piece.
+// live sets are those at the new bound; else look-ahead, and the next piece.
 #[cycle(go_on_try_piece)]
 fn go_on(
     job: &[u8],
@@ -87,12 +86,12 @@ fn go_on(
     requires known { Known job.now plan nofit turned.now strings.now }
     requires ready { Ready (planned job.now plan) work.old out.old numbers level level extent state }
     requires taken { Taken (planned job.now plan) numbers level extent state }
-    ensures { Left (planned job.now plan) numbers work.old out.old work.new out.new level state result (go_on_level (planned job.now plan) plan.once (numbers_at numbers) level state.left (best_in (planned job.now plan) state out.old)) }
+    ensures { Left (planned job.now plan) numbers work.old out.old work.new out.new level state result (go_on_level (planned job.now plan) (numbers_at numbers) level state.left (held_of (planned job.now plan) state.found out.old)) }
 {
     if level == plan.pieces {
         record_layout(job, plan, numbers, out);
         let span = lower(job, plan, extent, state.span, work);
-        return progress::complete(state, extent, span, plan.once);
+        return progress::complete(state, extent, span);
     }
     if settle(
         job, plan, nofit, turned, strings, state, numbers, level, work,

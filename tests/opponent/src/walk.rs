@@ -1,6 +1,5 @@
 //! The walk on bit sets: one set for each piece and type, narrowed by a conflict row at each step.
 
-use crate::mistaken_rising;
 use crate::mutant;
 use crate::rows::{Board, Rows};
 
@@ -23,11 +22,7 @@ pub struct Walk<'a, 'r> {
     clear: Vec<u64>,
     /// Candidates that alone leave the length below the best, by type and word.
     short: Vec<u64>,
-    /// The length of a walk of the second kind.
-    within: Option<i32>,
     budget: u64,
-    /// Stopped, or ended at its first layout.
-    over: bool,
     out: Outcome,
     placed: [u16; 12],
 }
@@ -53,9 +48,7 @@ impl<'a, 'r> Walk<'a, 'r> {
             kind_of,
             clear: vec![0; pieces * kinds * words],
             short: vec![0; kinds * words],
-            within: None,
             budget: 0,
-            over: false,
             out: Outcome { stopped: false, steps: 0, best: None },
             placed: [0; 12],
         }
@@ -70,12 +63,6 @@ impl<'a, 'r> Walk<'a, 'r> {
         self
     }
 
-    /// The walk of the second kind at this length: only candidates within it, and up to the first layout.
-    pub fn within(mut self, length: i32) -> Walk<'a, 'r> {
-        self.within = Some(length);
-        self
-    }
-
     pub fn run(mut self, budget: u64) -> Outcome {
         self.budget = budget;
         self.first_bound();
@@ -84,40 +71,18 @@ impl<'a, 'r> Walk<'a, 'r> {
             self.clear[from..from + self.words].copy_from_slice(&self.board.candidates[kind]);
         }
         self.skip_first_candidate();
-        if self.begins_unasked() || self.look_ahead_first() {
+        if mutant::is("no_ahead_before_first") || self.look_ahead_first() {
             self.try_piece(0, 0);
-        }
-        if self.out.stopped && self.rising("rising_holds_what_is_placed") {
-            self.out.best = Some((0, self.placed));
         }
         self.out
     }
 
-    /// Whether a mistake is to be made, and in a walk of the second kind.
-    fn rising(&self, mistake: &str) -> bool {
-        self.within.is_some() && mutant::is(mistake)
-    }
-
-    /// A mistake of either kind: no look-ahead before the first step.
-    fn begins_unasked(&self) -> bool {
-        match self.within {
-            None => mutant::is("no_ahead_before_first"),
-            Some(length) => mistaken_rising::begins_unasked(self.board, length),
-        }
-    }
-
-    /// No bound while there is no best, but the length of a walk of the second kind. The mistakes: only lengths below
-    /// the board's; only lengths, which have the margin in them, up to the far clamp.
+    /// No bound while there is no best. The mistakes: only lengths below the board's; only lengths, which have the
+    /// margin in them, up to the far clamp.
     fn first_bound(&mut self) {
         let length = self.board.job.length;
         if let Some((best, _)) = self.out.best {
             self.keep_below(best);
-        } else if let Some(within) = self.within {
-            let board = self.board;
-            self.keep(|kind, number| {
-                let admitted = board.length(kind, number) <= within;
-                mistaken_rising::admitted(board, within, kind, number).unwrap_or(admitted)
-            });
         } else if mutant::is("first_bound_at_the_length") {
             self.keep_below(length);
         } else if mutant::is("first_bound_between_clamps") {
@@ -169,11 +134,10 @@ impl<'a, 'r> Walk<'a, 'r> {
                 above = (u64::MAX << bit) << 1;
                 if self.spent() {
                     self.out.stopped = true;
-                    self.over = true;
                     return;
                 }
                 self.take(piece, kind, i * 64 + bit, length);
-                if self.over {
+                if self.out.stopped {
                     return;
                 }
                 if mutant::is("ahead_on_the_way_back") && !self.look_ahead(piece, length) {
@@ -195,7 +159,6 @@ impl<'a, 'r> Walk<'a, 'r> {
     fn beaten(&self, length: i32) -> bool {
         match self.out.best {
             None => false,
-            Some(_) if self.rising("rising_last_layout_of_the_length") => false,
             Some((best, _)) if mutant::is("bound_not_longer") => length > best,
             Some((best, _)) if mutant::is("bound_of_placed_ends") => length - self.board.margin >= best,
             Some((best, _)) => length >= best,
@@ -211,7 +174,7 @@ impl<'a, 'r> Walk<'a, 'r> {
             return;
         }
         self.narrow(piece, kind, number);
-        if mutant::is("no_ahead") || self.rising("rising_no_ahead") || self.look_ahead(piece + 1, length) {
+        if mutant::is("no_ahead") || self.look_ahead(piece + 1, length) {
             self.try_piece(piece + 1, length);
         }
     }
@@ -239,7 +202,6 @@ impl<'a, 'r> Walk<'a, 'r> {
         if self.beaten(length) {
             return false;
         }
-        let of_all = self.rising("rising_ahead_of_all") || piece == 0 && self.rising("rising_first_ahead_of_all");
         let mut at = piece;
         while at < self.pieces {
             let kind = self.kind_of[at];
@@ -248,8 +210,7 @@ impl<'a, 'r> Walk<'a, 'r> {
             let short = &self.short[kind * self.words..][..self.words];
             let mut count = 0;
             for (c, s) in set.iter().zip(short) {
-                let live = if of_all { *c } else { c & s };
-                count += live.count_ones() as usize;
+                count += (c & s).count_ones() as usize;
                 if count >= copies {
                     break;
                 }
@@ -270,11 +231,6 @@ impl<'a, 'r> Walk<'a, 'r> {
         };
         let held = self.out.best.filter(|_| mutant::is("first_completed_held"));
         self.out.best = Some((told, held.map_or(self.placed, |(_, numbers)| numbers)));
-        if self.rising("rising_last_layout_of_the_length") {
-            return;
-        }
-        // The first layout ends a walk of the second kind. The mistake: it goes on, with that as best.
-        self.over = self.within.is_some() && !mutant::is("rising_goes_on_below_the_layout");
         self.keep_below(length + i32::from(mutant::is("bound_not_longer")));
     }
 
@@ -287,12 +243,6 @@ impl<'a, 'r> Walk<'a, 'r> {
         } else {
             0
         };
-        let board = self.board;
-        self.keep(|kind, number| board.length(kind, number) + margins < bound);
-    }
-
-    /// Only candidates of which this holds count as short.
-    fn keep(&mut self, holds: impl Fn(usize, usize) -> bool) {
         for kind in 0..self.kinds {
             for i in 0..self.words {
                 let mut left = self.board.candidates[kind][i];
@@ -300,7 +250,7 @@ impl<'a, 'r> Walk<'a, 'r> {
                 while left != 0 {
                     let bit = left.trailing_zeros();
                     left &= left - 1;
-                    if holds(kind, i * 64 + bit as usize) {
+                    if self.board.length(kind, i * 64 + bit as usize) + margins < bound {
                         short |= 1 << bit;
                     }
                 }

@@ -9,7 +9,6 @@ pub mod layout;
 pub mod no_default;
 pub mod print;
 pub mod reader;
-pub mod rising;
 pub mod services;
 pub mod square_gap;
 pub mod unranked_cut;

@@ -1,14 +1,13 @@
-//! The seven services: each gives its answer and changes the lent buffers as documents 01 and 02 say.
+//! The six services: each gives its answer and changes the lent buffers as documents 01 and 02 say.
 
 use super::board::{Board, Piece};
 use super::cutting::{CutOff, MOST_TRIANGLES};
 use super::geometry::Point;
 use super::layout::{passing, to_numbers};
 use super::reader::Job;
-use super::rising::rise;
 use super::walk::walk;
 use super::writer::saved;
-use crate::answer::{Answer, ENDED, STOPPED_AT_LENGTH, STOPPED_WITH_LAYOUT, STOPPED_WITH_NOTHING};
+use crate::answer::{Answer, ENDED, STOPPED_WITH_LAYOUT, STOPPED_WITH_NOTHING};
 
 /// A job as it was read, or the number that refuses it.
 pub type Reading = Result<Job, u8>;
@@ -121,11 +120,18 @@ pub fn run(clamped: &Clamped, budget: u32, layout: &[u8], work: &mut [u8], answe
         Err(number) => return Answer::refused(number),
         Ok(given) => given,
     };
-    if let Some(number) = too_short(&board.job, work, answer) {
-        return Answer::refused(number);
+    let work_words = work_words(&board.job);
+    if work.len() / 8 < work_words {
+        return Answer::refused(8);
+    }
+    if answer.len() / 2 < 4 * board.job.pieces() {
+        return Answer::refused(9);
     }
     let walked = walk(board, given.as_deref(), budget.into());
-    leave_behind(board, walked.best.as_deref(), work, answer);
+    write_words(work, &vec![0; work_words]);
+    if let Some(best) = &walked.best {
+        write_numbers(answer, &to_numbers(board, best));
+    }
     let steps = u32::try_from(walked.steps).expect("at most the budget");
     let count = walked.best.as_ref().map_or(0, |best| board.length(best) as u16);
     let (number, verdict) = match (walked.stopped, &walked.best) {
@@ -135,43 +141,6 @@ pub fn run(clamped: &Clamped, budget: u32, layout: &[u8], work: &mut [u8], answe
         (true, None) => (0, STOPPED_WITH_NOTHING),
     };
     Answer { number, verdict, count, steps }
-}
-
-/// The second kind of run, never given a layout.
-pub fn run_rising(clamped: &Clamped, budget: u32, work: &mut [u8], answer: &mut [u8]) -> Answer {
-    let board = match clamped {
-        Err(number) => return Answer::refused(*number),
-        Ok(board) => board,
-    };
-    if let Some(number) = too_short(&board.job, work, answer) {
-        return Answer::refused(number);
-    }
-    let risen = rise(board, budget.into());
-    leave_behind(board, risen.layout.as_deref(), work, answer);
-    let steps = u32::try_from(risen.steps()).expect("at most the budget");
-    let count = risen.length() as u16;
-    match (risen.stopped, risen.layout) {
-        (true, _) => Answer { number: 0, verdict: STOPPED_AT_LENGTH, count, steps },
-        (false, Some(_)) => Answer { number: 0, verdict: ENDED, count, steps },
-        (false, None) => Answer { steps, ..Answer::refused(10) },
-    }
-}
-
-/// What refuses the buffers of a run, of either kind.
-fn too_short(job: &Job, work: &[u8], answer: &[u8]) -> Option<u8> {
-    if work.len() / 8 < work_words(job) {
-        return Some(8);
-    }
-    (answer.len() / 2 < 4 * job.pieces()).then_some(9)
-}
-
-/// The buffers of a run after it, of either kind: the needed work words are zero, and the answer numbers contain the
-/// layout that it holds, if it holds one.
-fn leave_behind(board: &Board, held: Option<&[Piece]>, work: &mut [u8], answer: &mut [u8]) {
-    write_words(work, &vec![0; work_words(&board.job)]);
-    if let Some(layout) = held {
-        write_numbers(answer, &to_numbers(board, layout));
-    }
 }
 
 /// The answer is counted in triangles, six numbers each.

@@ -1,5 +1,4 @@
-//! The section "The walk", sentence by sentence, with a budget, and a layout to begin from if one is given; or as the
-//! second kind of run walks at one of its lengths.
+//! The section "The walk", sentence by sentence, with a budget, and a layout to begin from if one is given.
 
 use super::board::{Board, Piece};
 
@@ -15,12 +14,9 @@ pub struct Walked {
 struct Walk<'a> {
     board: &'a Board,
     demands: Vec<usize>,
-    /// The length of a walk of the second kind.
-    within: Option<i64>,
     budget: u64,
     steps: u64,
     stopped: bool,
-    ended: bool,
     placed: Vec<Piece>,
     completed: Vec<Vec<Piece>>,
     best: Option<Vec<Piece>>,
@@ -28,37 +24,23 @@ struct Walk<'a> {
 
 /// A given layout, which passes, is the best from the beginning.
 pub fn walk(board: &Board, given: Option<&[Piece]>, budget: u64) -> Walked {
-    Walk::new(board, given, None, budget).walked()
-}
-
-/// Without a best, admitting only candidates within that length; it ends at the first layout.
-pub fn walk_within(board: &Board, length: i64, budget: u64) -> Walked {
-    Walk::new(board, None, Some(length), budget).walked()
+    let mut walk = Walk {
+        board,
+        demands: board.job.demands(),
+        budget,
+        steps: 0,
+        stopped: false,
+        placed: vec![],
+        completed: vec![],
+        best: given.map(<[Piece]>::to_vec),
+    };
+    if walk.look_ahead() {
+        walk.try_piece();
+    }
+    Walked { stopped: walk.stopped, steps: walk.steps, completed: walk.completed, best: walk.best }
 }
 
 impl Walk<'_> {
-    fn new<'a>(board: &'a Board, given: Option<&[Piece]>, within: Option<i64>, budget: u64) -> Walk<'a> {
-        Walk {
-            board,
-            demands: board.job.demands(),
-            within,
-            budget,
-            steps: 0,
-            stopped: false,
-            ended: false,
-            placed: vec![],
-            completed: vec![],
-            best: given.map(<[Piece]>::to_vec),
-        }
-    }
-
-    fn walked(mut self) -> Walked {
-        if self.look_ahead() {
-            self.try_piece();
-        }
-        Walked { stopped: self.stopped, steps: self.steps, completed: self.completed, best: self.best }
-    }
-
     /// Tries the candidates of the next piece in rising order and takes each that is live at that moment.
     fn try_piece(&mut self) {
         let kind = self.next_kind();
@@ -75,7 +57,7 @@ impl Walk<'_> {
             self.placed.push(piece);
             self.go_on();
             self.placed.pop();
-            if self.stopped || self.ended {
+            if self.stopped {
                 return;
             }
         }
@@ -85,7 +67,6 @@ impl Walk<'_> {
         if self.placed.len() == self.board.job.pieces() {
             self.completed.push(self.placed.clone());
             self.best = Some(self.placed.clone());
-            self.ended = self.within.is_some();
         } else if self.look_ahead() {
             self.try_piece();
         }
@@ -101,12 +82,7 @@ impl Walk<'_> {
     }
 
     fn live(&self, piece: Piece) -> bool {
-        self.admitted(piece) && self.above_previous_copy(piece) && self.below_best(piece) && self.clear_of_placed(piece)
-    }
-
-    /// Its end plus the margin, which is its length alone, is at most the length that is tried.
-    fn admitted(&self, piece: Piece) -> bool {
-        self.within.is_none_or(|length| self.board.length(&[piece]) <= length)
+        self.above_previous_copy(piece) && self.below_best(piece) && self.clear_of_placed(piece)
     }
 
     fn above_previous_copy(&self, piece: Piece) -> bool {

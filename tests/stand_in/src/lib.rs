@@ -1,8 +1,7 @@
-//! The seven services over the unverified opponent: what the comparison tests are tried on, as it is and
+//! The six services over the unverified opponent: what the comparison tests are tried on, as it is and
 //! with each of the deliberate mistakes.
 
 mod given;
-mod rising;
 
 use std::slice;
 
@@ -346,7 +345,9 @@ pub unsafe extern "C" fn nest_run(
 }
 
 fn run(job: &Job, margin: u64, budget: u32, layout: &[u8], work: &mut [u8], answer: &mut [u8]) -> u64 {
-    let [work_short, answer_short] = short(job, work, answer);
+    let work_bytes = 8 * job.kind_count * job.pieces * job.words();
+    let work_short = work.len() < work_bytes;
+    let answer_short = answer.len() / 2 < 4 * job.pieces;
     let Some(margin) = accepted(margin) else {
         if mutant::is("work_cleared_at_thirteen") {
             work.fill(0);
@@ -362,8 +363,14 @@ fn run(job: &Job, margin: u64, budget: u32, layout: &[u8], work: &mut [u8], answ
         Err(number) => return given::refusal(number, work_short, answer_short, work),
         Ok(given) => given,
     };
-    if let Some(number) = too_short([work_short, answer_short], "eight_after_nine") {
-        return refused(number);
+    if mutant::is("eight_after_nine") && answer_short {
+        return refused(9);
+    }
+    if work_short {
+        return refused(8);
+    }
+    if answer_short {
+        return refused(9);
     }
     let board = clamped(job, margin, ["run_unclamped", "run_with_square_gap"]);
     let mut rows = Rows::new(&board);
@@ -371,10 +378,7 @@ fn run(job: &Job, margin: u64, budget: u32, layout: &[u8], work: &mut [u8], answ
     // Whether nothing shorter than the given layout was found.
     let stands = given.is_some() && out.best == given;
     let none = !out.stopped && out.best.is_none();
-    let left = none && mutant::is("work_not_cleared_when_none")
-        || given.is_some() && mutant::is("work_not_cleared_with_given")
-        || mutant::is("work_not_cleared");
-    clear_work(job, work, left, "one_work_word_too_many");
+    clear_work(work, work_bytes, none, given.is_some());
     if let Some((_, numbers)) = out.best.filter(|_| !(stands && mutant::is("given_not_written"))) {
         write_layout(job, margin, &numbers, answer);
         if mutant::is("rest_copied") {
@@ -426,32 +430,13 @@ fn packed_verdict(length: usize, (stopped, steps, held): (bool, u64, bool)) -> u
     }
 }
 
-/// Whether the work words and the answer numbers of a run are too few.
-fn short(job: &Job, work: &[u8], answer: &[u8]) -> [bool; 2] {
-    [work.len() < work_bytes(job), answer.len() / 2 < 4 * job.pieces]
-}
-
-fn work_bytes(job: &Job) -> usize {
-    8 * job.kind_count * job.pieces * job.words()
-}
-
-/// What refuses short buffers. The mistake named: the answer's refusal comes first.
-fn too_short([work, answer]: [bool; 2], answer_first: &str) -> Option<u8> {
-    match (work, answer) {
-        (true, true) if mutant::is(answer_first) => Some(9),
-        (true, _) => Some(8),
-        (false, true) => Some(9),
-        (false, false) => None,
-    }
-}
-
-/// The needed words, unless a mistake leaves them. The mistake named: one more.
-fn clear_work(job: &Job, work: &mut [u8], left: bool, one_more: &str) {
-    if left {
+fn clear_work(work: &mut [u8], needed: usize, none: bool, given: bool) {
+    let left = none && mutant::is("work_not_cleared_when_none") || given && mutant::is("work_not_cleared_with_given");
+    if left || mutant::is("work_not_cleared") {
         return;
     }
-    let more = if mutant::is(one_more) { 8 } else { 0 };
-    let last = work.len().min(work_bytes(job) + more);
+    let more = if mutant::is("one_work_word_too_many") { 8 } else { 0 };
+    let last = work.len().min(needed + more);
     work[..last].fill(0);
 }
 

@@ -106,8 +106,8 @@ class-fits c e =
     }
 
 -- Classes in range, by rising id, are these classes in another order.
-pub risen-permuted : (cs : List SpacingClass) → all class_in_range cs ≡ true → Permuted cs (by_rising_id cs)
-risen-permuted cs e = by_id-permuted cs (each_map (λ c h. (class-fits c h).id_most) cs (all-each class_in_range cs e))
+pub risen_permuted : (cs : List SpacingClass) → all class_in_range cs ≡ true → Permuted cs (by_rising_id cs)
+risen_permuted cs e = by_id-permuted cs (each_map (λ c h. (class-fits c h).id_most) cs (all-each class_in_range cs e))
 
 module _ (s : List ℕ) (e : refusal s ≡ 0) where
   -- The sections share no byte, so that they and the trailer have room one after the other.
@@ -128,7 +128,7 @@ module _ (s : List ℕ) (e : refusal s ≡ 0) where
 
   classes-permuted : Permuted (classes_of s) (content s).classes
   unfolding content
-  classes-permuted = risen-permuted (classes_of s) (classes-in_range s (no_cause s e).no5)
+  classes-permuted = risen_permuted (classes_of s) (classes-in_range s (no_cause s e).no5)
 
   pub classes-count : length (content s).classes ≡ classes_stated s
   unfolding classes_of

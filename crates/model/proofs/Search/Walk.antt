@@ -204,7 +204,7 @@ module _ (j : Problem) (ok : Sensible j) where
             )
 
     -- It lays out the first of the shortest.
-    pub wins_first : FirstOfShortest j (reverse (laid j (pieces j.kinds) ks []))
+    wins_first : FirstOfShortest j (reverse (laid j (pieces j.kinds) ks []))
     wins_first =
         record {
           passing = completion_passes j ks c;

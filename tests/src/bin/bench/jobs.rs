@@ -1,6 +1,6 @@
 //! Jobs to measure: from small to the largest that the format allows, heavy and long pieces, three series that
 //! grow one thing, two of the jobs again under a margin, and jobs with gaps that take corners and edges of many parts
-//! to be measured. And jobs for the two kinds of run alone, of which one kind finishes, or both.
+//! to be measured.
 
 use nest_tests::draft::{encode, Arrangement, Draft};
 
@@ -85,41 +85,8 @@ fn thirds() -> BenchJob {
     named("thirds: 1024d 8t 12p".into(), draft)
 }
 
-/// Few pieces on boards of which the shape decides how many lengths are too short.
-fn few(rows: u16, columns: u16, types: usize, pieces: usize) -> BenchJob {
-    grid(&format!("few, {rows} rows"), rows, columns, types, pieces)
-}
-
-fn rectangle(length: i8, height: i8) -> [(i8, i8); 4] {
-    [(0, 0), (length, 0), (length, height), (0, height)]
-}
-
-/// The strip may lie, which comes first and leaves too little room, or stand before the bars that fill the width.
-fn strip_upright() -> BenchJob {
-    let draft = Draft::new(22, 38, 1).with(1, 3, 0, &[&rectangle(22, 1)]).with(11, 1, 0, &[&rectangle(18, 2)]);
-    named("strip upright: 897d 2t 12p".into(), draft)
-}
-
-/// Three squares, whose gap makes a sheet of length 92 just long enough.
-fn far_apart() -> BenchJob {
-    let draft = Draft::new(10, 92, 1).classes(&[[0, 0, 43]]).with(3, 1, 1, &[&rectangle(2, 2)]);
-    named("far apart: 1023d 1t 3p".into(), draft)
-}
-
-/// Six bars on a board that is too short for them by 6.
-fn no_room() -> BenchJob {
-    named("no room: 183d 1t 6p".into(), Draft::new(2, 60, 1).with(6, 1, 0, &[&rectangle(11, 2)]))
-}
-
-/// For both kinds of run; at least one of them finishes.
-pub fn finishing_jobs() -> Vec<BenchJob> {
-    let mut jobs = vec![few(32, 32, 4, 4), few(16, 16, 4, 5), few(8, 128, 4, 5), few(5, 100, 2, 5)];
-    jobs.extend([strip_upright(), far_apart(), no_room()]);
-    jobs
-}
-
 pub fn bench_jobs() -> Vec<BenchJob> {
-    let printed = Draft::new(2, 4, 1).with(2, 1, 0, &[&rectangle(2, 2)]);
+    let printed = Draft::new(2, 4, 1).with(2, 1, 0, &[&[(0, 0), (2, 0), (2, 2), (0, 2)]]);
     let mut jobs = vec![
         named("the printed board".into(), printed),
         grid("small", 8, 8, 2, 4),

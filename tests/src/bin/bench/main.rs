@@ -2,15 +2,13 @@
 //! gate. Every figure is the best of a few short measurements, since other work may share the machine.
 
 mod jobs;
-mod kinds;
 mod measure;
 #[path = "../../nest.rs"]
 mod nest;
 
 use std::hint::black_box;
 
-use jobs::{bench_jobs, finishing_jobs, BenchJob};
-use kinds::{check_rising, kinds};
+use jobs::{bench_jobs, BenchJob};
 use measure::best_time;
 use nest_tests::answer::Answer;
 use opponent::job::{read, Job};
@@ -28,10 +26,9 @@ come on top in the last column.";
 
 fn main() {
     println!("{HEAD}\n");
-    let (mut jobs, finishing) = (bench_jobs(), finishing_jobs());
-    for bench in jobs.iter().chain(&finishing) {
+    let jobs = bench_jobs();
+    for bench in &jobs {
         check_agreement(bench);
-        check_rising(bench);
         check_saved(bench);
     }
     calls("read", &jobs, nest::read, |job, _| read(job).is_ok());
@@ -39,43 +36,25 @@ fn main() {
     rows(&jobs);
     runs(&jobs);
     budgets(&jobs);
-    jobs.extend(finishing);
-    kinds(&jobs);
-}
-
-/// Work words and answer numbers, enough for every job and not cleared.
-struct Lent {
-    work: Vec<u8>,
-    answer: Vec<u8>,
-}
-
-impl Lent {
-    fn noisy() -> Lent {
-        Lent { work: vec![0xA5; 49_152], answer: vec![0xA5; 96] }
-    }
 }
 
 /// The two have to agree on steps, length and layout before their speeds are compared.
 fn check_agreement(bench: &BenchJob) {
     let budget = 100_000;
-    let mut lent = Lent::noisy();
-    let got = nested(bench, budget, &mut lent);
+    let mut work = vec![0; 49_152];
+    let mut answer = vec![0; 96];
+    let got = nested(bench, budget, &mut work, &mut answer);
     let job = read(&bench.bytes).expect("an accepted job");
     let walked = whole_walk(bench, &job, budget.into());
     let length = walked.best.map_or(0, |(length, _)| length as u16);
     assert_eq!((u64::from(got.steps), got.count), (walked.steps, length), "{}", bench.name);
-    if let Some((_, numbers)) = walked.best {
-        assert_eq!(numbers_of(&lent.answer, &job), numbers[..job.pieces], "{}", bench.name);
-    }
-}
-
-/// The candidate numbers of the layout in an answer.
-fn numbers_of(answer: &[u8], job: &Job) -> Vec<u16> {
     let number = |i: usize| {
-        let field = |k: usize| u16::from_le_bytes([answer[8 * i + 2 * k], answer[8 * i + 2 * k + 1]]);
-        (field(1) * job.rows as u16 + field(2)) * 4 + field(3)
+        let field = |k: usize| usize::from(u16::from_le_bytes([answer[8 * i + 2 * k], answer[8 * i + 2 * k + 1]]));
+        (field(1) * job.rows + field(2)) * 4 + field(3)
     };
-    (0..job.pieces).map(number).collect()
+    if let Some((_, numbers)) = walked.best {
+        (0..job.pieces).for_each(|i| assert_eq!(number(i), usize::from(numbers[i]), "{} piece {i}", bench.name));
+    }
 }
 
 /// And on the bytes that the job is saved to.
@@ -87,8 +66,8 @@ fn check_saved(bench: &BenchJob) {
 }
 
 /// The proved engine's run, under the margin that belongs to the job, begun from no layout.
-fn nested(bench: &BenchJob, budget: u32, lent: &mut Lent) -> Answer {
-    nest::run(&bench.bytes, bench.margin.into(), budget, &[], &mut lent.work, &mut lent.answer)
+fn nested(bench: &BenchJob, budget: u32, work: &mut [u8], answer: &mut [u8]) -> Answer {
+    nest::run(&bench.bytes, bench.margin.into(), budget, &[], work, answer)
 }
 
 /// The other engine's board, under the same margin.
@@ -172,10 +151,11 @@ fn growth(series: &str, jobs: &[BenchJob], costs: &[StepCost]) {
 
 fn run(bench: &BenchJob) -> StepCost {
     let job = read(&bench.bytes).expect("an accepted job");
-    let mut lent = Lent::noisy();
-    let budget = affordable_budget(bench, &mut lent);
-    let steps = nested(bench, budget, &mut lent).steps.max(1);
-    let proved = best_time(|| nested(bench, budget, &mut lent));
+    let mut work = vec![0xA5; 49_152];
+    let mut answer = vec![0xA5; 96];
+    let budget = affordable_budget(bench, &mut work, &mut answer);
+    let steps = nested(bench, budget, &mut work, &mut answer).steps.max(1);
+    let proved = best_time(|| nested(bench, budget, &mut work, &mut answer));
     let board = board_of(bench, &job);
     let mut rows = Rows::new(&board);
     let set_up = best_time(|| {
@@ -208,12 +188,13 @@ fn budgets(jobs: &[BenchJob]) {
     print!("{:<28}", "job");
     growing.iter().for_each(|budget| print!(" {budget:>9}"));
     println!();
-    let mut lent = Lent::noisy();
+    let mut work = vec![0xA5; 49_152];
+    let mut answer = vec![0xA5; 96];
     for bench in jobs {
         print!("{:<28}", bench.name);
         for budget in growing {
-            let steps = nested(bench, budget, &mut lent).steps;
-            let time = best_time(|| nested(bench, budget, &mut lent));
+            let steps = nested(bench, budget, &mut work, &mut answer).steps;
+            let time = best_time(|| nested(bench, budget, &mut work, &mut answer));
             print!(" {:>9.2}", time / f64::from(steps.max(1)) * 1e6);
             if steps < budget {
                 break;
@@ -224,11 +205,11 @@ fn budgets(jobs: &[BenchJob]) {
 }
 
 /// Doubled until the run ends by itself or takes a quarter of a second.
-fn affordable_budget(bench: &BenchJob, lent: &mut Lent) -> u32 {
+fn affordable_budget(bench: &BenchJob, work: &mut [u8], answer: &mut [u8]) -> u32 {
     let mut budget = 16;
     while budget < 1 << 20 {
         let start = std::time::Instant::now();
-        let got = nested(bench, budget, lent);
+        let got = nested(bench, budget, work, answer);
         if got.steps < budget || start.elapsed().as_secs_f64() > 0.25 {
             break;
         }

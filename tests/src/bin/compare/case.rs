@@ -7,7 +7,6 @@ use nest_tests::reference::board::{Board, PairGap, Piece};
 use nest_tests::reference::exhaustive::{how_many, passing_layouts};
 use nest_tests::reference::no_default;
 use nest_tests::reference::reader::read_job;
-use nest_tests::reference::rising::{rise, Risen};
 use nest_tests::reference::services::{Clamped, Reading};
 use nest_tests::reference::square_gap;
 use nest_tests::reference::unranked_cut;
@@ -16,8 +15,6 @@ use nest_tests::reference::writer::saved;
 
 /// Walks are followed to their end up to this many steps.
 const STEPS_AT_MOST: u64 = 2000;
-/// And those of the second kind of run, of all its lengths together.
-const RISING_STEPS_AT_MOST: u64 = 500;
 /// Boards with at most this many layouts are also searched exhaustively.
 const LAYOUTS_AT_MOST: u64 = 4000;
 /// Boards with more candidates than these are large: there a step of the plain walk is slow, and so is every run.
@@ -37,7 +34,6 @@ pub struct Case {
 #[derive(Default)]
 struct WorkedOut {
     walked: OnceCell<Walked>,
-    risen: OnceCell<Risen>,
     by_squares: OnceCell<Option<Walked>>,
     without_ranks: OnceCell<Option<Walked>>,
     without_default: OnceCell<Option<Walked>>,
@@ -98,13 +94,6 @@ impl Case {
     pub fn walked(&self) -> Option<&Walked> {
         let board = self.clamped.as_ref().ok()?;
         Some(self.worked_out.walked.get_or_init(|| walked_far(board)))
-    }
-
-    /// The second kind of run, where nothing is refused; to its end, where it is short enough.
-    pub fn risen(&self) -> Option<&Risen> {
-        let board = self.clamped.as_ref().ok()?;
-        let limit = step_limit(board).min(RISING_STEPS_AT_MOST);
-        Some(self.worked_out.risen.get_or_init(|| rise(board, limit)))
     }
 
     /// The walk with the gap as a square, where some pair has a gap and the board is not large. Candidates are the same by

@@ -5,7 +5,7 @@ use nest_tests::answer::Answer;
 use nest_tests::noise::Noise;
 use nest_tests::small_boards::PRINTED;
 
-use crate::nest::{check_at, cut_at, read_at, row_at, run_at, run_rising_at, save_at, Given};
+use crate::nest::{check_at, cut_at, read_at, row_at, run_at, save_at, Given};
 use crate::report::{hexadecimal, Report};
 
 /// Null, and two places where no byte can be read: the second, and the last of all.
@@ -22,7 +22,7 @@ struct Service {
 }
 
 /// The services on the job that document 01 prints, and on its piece as an outline, each with buffers that are long enough.
-fn services(noise: &mut Noise) -> [Service; 7] {
+fn services(noise: &mut Noise) -> [Service; 6] {
     let job = PRINTED.to_vec();
     let layout = vec![0, 0, 0, 0, 0, 0, 0, 0, 0, 0, 2, 0, 0, 0, 0, 0];
     let (numbers, saved, words, answer) = (noise.bytes(100), noise.bytes(33), noise.bytes(64), noise.bytes(16));
@@ -43,13 +43,8 @@ fn services(noise: &mut Noise) -> [Service; 7] {
         },
         Service {
             name: "run",
-            buffers: vec![job.clone(), layout, words.clone(), answer.clone()],
+            buffers: vec![job, layout, words, answer],
             call: |b, margin| unsafe { run_at(b[0], margin, 1_000_000, b[1], b[2], b[3]) },
-        },
-        Service {
-            name: "run_rising",
-            buffers: vec![job, words, answer],
-            call: |b, margin| unsafe { run_rising_at(b[0], margin, 1_000_000, b[1], b[2]) },
         },
         Service { name: "cut", buffers: vec![outline, triangles], call: |b, _| unsafe { cut_at(b[0], b[1]) } },
     ]

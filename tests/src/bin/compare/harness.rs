@@ -1,7 +1,7 @@
 //! Calls each service on a job and a margin with buffers of many sizes and compares answers and every byte lent
 //! with what the reference gives.
 
-use nest_tests::answer::{Answer, ENDED};
+use nest_tests::answer::Answer;
 use nest_tests::noise::Noise;
 use nest_tests::reference::board::{Board, Piece};
 use nest_tests::reference::exhaustive;
@@ -16,7 +16,6 @@ use crate::lent::{awkward_lengths, Lent};
 use crate::nest;
 use crate::report::{hexadecimal, Report};
 use crate::round_gap;
-use crate::run_kind::RunKind;
 
 /// A service that is handed a job and a buffer for its answer, and nothing else.
 pub struct Writing {
@@ -31,8 +30,8 @@ pub const SAVE: Writing = Writing { name: "save", expected: services::save, got:
 /// How many bytes a run is lent to write into.
 #[derive(Clone, Copy)]
 pub struct Room {
-    pub work: usize,
-    pub answer: usize,
+    work: usize,
+    answer: usize,
 }
 
 impl Room {
@@ -55,7 +54,6 @@ impl Harness<'_> {
         self.checks(case);
         self.runs(case);
         self.exhaustive_search(case, None);
-        self.rising_runs(case);
         self.given_layouts(case);
         self.carry_across(case);
         self.fillers(case);
@@ -281,8 +279,7 @@ impl Harness<'_> {
         self.judge("check", &held, "of a layout within the job", got, expected);
 
         let lent = self.lent_to_run(Room::exact(&board.job));
-        let call = "with budget 1 from a layout within the job";
-        self.compared_run(RunKind::First(within), &held, call, 1, job.bytes(), &lent);
+        self.compared_run(&held, "with budget 1 from a layout within the job", 1, job.bytes(), within, &lent);
     }
 
     // Run.
@@ -346,55 +343,43 @@ impl Harness<'_> {
 
     /// From the layout of these bytes, if there are any.
     pub fn run(&mut self, case: &Case, budget: u32, layout: &[u8], room: Room) {
-        let layout = Lent::holding(self.noise, layout);
-        let kept_layout = layout.clone();
-        let call = self.run_of(RunKind::First(layout.bytes()), case, budget, room);
-        self.compare_read_only("run", case, &call, &layout, &kept_layout);
-    }
-
-    /// A run of either kind, with buffers of this size. Gives the call as it is told.
-    pub fn run_of(&mut self, kind: RunKind, case: &Case, budget: u32, room: Room) -> String {
-        let (service, begun) = (kind.service(), kind.begun());
-        let call = format!("with budget {budget}, {} work bytes, {} answer bytes{begun}", room.work, room.answer);
+        let given = if layout.is_empty() { String::new() } else { format!(" from layout {}", hexadecimal(layout)) };
+        let call = format!("with budget {budget}, {} work bytes, {} answer bytes{given}", room.work, room.answer);
         let lent = self.lent_to_run(room);
-        let job = Lent::holding(self.noise, &case.bytes);
-        let kept_job = job.clone();
-        let (got, got_work, got_answer) = self.compared_run(kind, case, &call, budget, job.bytes(), &lent);
-        self.compare_read_only(service, case, &call, &job, &kept_job);
+        let (job, layout) = (Lent::holding(self.noise, &case.bytes), Lent::holding(self.noise, layout));
+        let (kept_job, kept_layout) = (job.clone(), layout.clone());
+        let (got, got_work, got_answer) = self.compared_run(case, &call, budget, job.bytes(), layout.bytes(), &lent);
+        self.compare_read_only("run", case, &call, &job, &kept_job);
+        self.compare_read_only("run", case, &call, &layout, &kept_layout);
         // Runs take most of the time: one of the twins, as it falls.
         if let Some(twin) = case.twins.get(self.noise.below(case.twins.len().max(1))) {
             let (mut work, mut answer) = lent;
-            let result = kind.got(&twin.bytes, case.margin, budget, work.bytes_mut(), answer.bytes_mut());
+            let (to_work, to_answer) = (work.bytes_mut(), answer.bytes_mut());
+            let result = nest::run(&twin.bytes, case.margin, budget, layout.bytes(), to_work, to_answer);
             let buffers = [(&got_work, &work), (&got_answer, &answer)];
-            self.same_for(twin, service, case, &call, (got, result), &buffers);
+            self.same_for(twin, "run", case, &call, (got, result), &buffers);
         }
-        call
     }
 
     /// A run on these bytes, with work and answer as they are lent. Gives the library's answer, and the two after it.
     fn compared_run(
         &mut self,
-        kind: RunKind,
         case: &Case,
         call: &str,
         budget: u32,
         job: &[u8],
+        layout: &[u8],
         lent: &(Lent, Lent),
     ) -> (Answer, Lent, Lent) {
-        let service = kind.service();
         let (mut expected_work, mut expected_answer) = lent.clone();
         let (to_work, to_answer) = (expected_work.bytes_mut(), expected_answer.bytes_mut());
-        let expected = kind.expected(&case.clamped, budget, to_work, to_answer);
+        let expected = services::run(&case.clamped, budget, layout, to_work, to_answer);
         let (mut work, mut answer) = lent.clone();
-        let got = kind.got(job, case.margin, budget, work.bytes_mut(), answer.bytes_mut());
-        self.judge(service, case, call, got, expected);
-        self.compare_bytes(service, case, call, "work", &work, &expected_work);
-        self.compare_bytes(service, case, call, "answer", &answer, &expected_answer);
-        let (after_work, after_answer) = (expected_work.bytes(), expected_answer.bytes());
-        match kind {
-            RunKind::First(layout) => given::count(case, layout, expected, after_work, after_answer, self.report),
-            RunKind::Rising => self.rising_run_told(case, budget, expected, got),
-        }
+        let got = nest::run(job, case.margin, budget, layout, work.bytes_mut(), answer.bytes_mut());
+        self.judge("run", case, call, got, expected);
+        self.compare_bytes("run", case, call, "work", &work, &expected_work);
+        self.compare_bytes("run", case, call, "answer", &answer, &expected_answer);
+        given::count(case, layout, expected, expected_work.bytes(), expected_answer.bytes(), self.report);
         (got, work, answer)
     }
 
@@ -403,16 +388,11 @@ impl Harness<'_> {
     pub fn exhaustive_search(&mut self, case: &Case, given: Option<&[Piece]>) {
         let (Ok(board), Some(passing)) = (&case.clamped, case.passing()) else { return };
         let held = exhaustive::held(board, passing, given);
-        let layout = given.map_or(vec![], |given| bytes_of(&to_numbers(board, given)));
-        self.report.note(if given.is_some() { given::SEARCHED } else { "boards searched exhaustively" });
-        self.ends_with(RunKind::First(&layout), case, board, held);
-    }
-
-    /// The library's run with the largest budget ends, and holds this layout then, or none.
-    pub fn ends_with(&mut self, kind: RunKind, case: &Case, board: &Board, held: Option<&[Piece]>) {
         let (mut work, mut answer) = self.lent_to_run(Room::exact(&board.job));
         let untouched = answer.clone();
-        let got = kind.got(&case.bytes, case.margin, u32::MAX, work.bytes_mut(), answer.bytes_mut());
+        let layout = given.map_or(vec![], |given| bytes_of(&to_numbers(board, given)));
+        let got = nest::run(&case.bytes, case.margin, u32::MAX, &layout, work.bytes_mut(), answer.bytes_mut());
+        self.report.note(if given.is_some() { given::SEARCHED } else { "boards searched exhaustively" });
         let agrees = match held {
             None => got.number == 10 && answer.difference(&untouched).is_none(),
             Some(layout) => {
@@ -420,11 +400,12 @@ impl Harness<'_> {
                 got.number == 0 && i64::from(got.count) == board.length(layout) && answer.bytes() == bytes
             }
         };
-        if !agrees || got.verdict != ENDED {
+        if !agrees {
             let expected = held.map_or("none".to_string(), |held| format!("{:?}", to_numbers(board, held)));
-            let call = format!("{}{} to its end", kind.service(), kind.begun());
+            let begun = given.map_or(String::new(), |given| format!(" from {:?}", to_numbers(board, given)));
             let bytes = hexadecimal(answer.bytes());
-            self.mismatch(case, &format!("{call}: got {got:?} holding {bytes}, expected {expected}"));
+            let what = format!("run{begun} against all layouts: got {got:?} holding {bytes}, expected {expected}");
+            self.mismatch(case, &what);
         }
     }
 }

@@ -21,9 +21,7 @@ mod no_class;
 mod outline_counts;
 mod paper;
 mod report;
-mod rising;
 mod round_gap;
-mod run_kind;
 mod saving;
 
 use std::process::exit;
@@ -35,9 +33,8 @@ use nest_tests::noise::Noise;
 use report::Report;
 
 const DEFAULT_COUNT: u64 = 4000;
-/// From the default count on, each refusal and each thing counted of common cut, of types in no class, of the round
-/// gap, of fillers, of saving, of given layouts, of the second kind of run and of outlines must have been seen this
-/// often.
+/// From the default count on, each refusal and each thing counted of common cut, of types in no class, of the round gap,
+/// of fillers, of saving, of given layouts and of outlines must have been seen this often.
 const SEEN_AT_LEAST: u64 = 100;
 
 fn main() {
@@ -71,20 +68,15 @@ fn main() {
 /// What a run of the default count should have seen more often.
 fn rarely_seen(report: &Report) -> Vec<String> {
     let refusals = (1..=14).filter(|&n| report.seen(n) < SEEN_AT_LEAST).map(|n| format!("refusal {n}"));
-    let answers: [(&str, &[u8]); 4] = [
-        ("save", &[1, 2, 3, 4, 5, 6, 7, 9]),
-        ("run", &[8, 9, 11, 13]),
-        ("run_rising", &[0, 1, 2, 3, 4, 5, 6, 7, 8, 9, 10, 13]),
-        ("cut", &[0, 9, 14]),
-    ];
+    let answers: [(&str, &[u8]); 3] =
+        [("save", &[1, 2, 3, 4, 5, 6, 7, 9]), ("run", &[8, 9, 11, 13]), ("cut", &[0, 9, 14])];
     let of_services = answers.into_iter().flat_map(|(service, numbers)| {
         let rare = numbers.iter().filter(move |&&n| report.seen_of(service, n) < SEEN_AT_LEAST);
         rare.map(move |n| format!("answer {n} of {service}"))
     });
     let of_gaps = common_cut::COUNTED.into_iter().chain(no_class::counted_things()).chain(round_gap::COUNTED);
-    let of_jobs = of_gaps.chain(fillers::COUNTED).chain(saving::counted_things());
-    let of_runs = given::COUNTED.into_iter().chain(rising::COUNTED);
-    let counted = of_jobs.chain(of_runs).chain(outline_counts::counted_things());
+    let of_jobs = of_gaps.chain(fillers::COUNTED).chain(saving::counted_things()).chain(given::COUNTED);
+    let counted = of_jobs.chain(outline_counts::counted_things());
     let things = counted.filter(|what| report.noted(what) < SEEN_AT_LEAST).map(str::to_string);
     refusals.chain(of_services).chain(things).collect()
 }
@@ -123,7 +115,6 @@ fn random_case(seed: u64, report: &mut Report) {
     no_class::count(&case, report);
     round_gap::count_job(&case, report);
     saving::count(&case, report);
-    rising::count(&case, report);
     let mut harness = Harness { noise: &mut noise, report };
     harness.every_service(&case);
     harness.random_outlines();

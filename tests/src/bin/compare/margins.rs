@@ -6,7 +6,6 @@ use nest_tests::reference::services::bytes_of;
 use crate::case::Case;
 use crate::harness::Harness;
 use crate::lent::awkward_lengths;
-use crate::run_kind::RunKind;
 
 /// How many refused margins each job is put to.
 const REFUSED: usize = 3;
@@ -52,7 +51,6 @@ impl Harness<'_> {
             // Small, so that an engine which accepts such a margin still comes back.
             let budget = self.noise.pick(&[0, 1, 1000]);
             self.run(&refused, budget, &layout, room);
-            self.run_of(RunKind::Rising, &refused, budget, room);
         }
     }
 }

@@ -2,7 +2,7 @@
 
 use std::fmt::Debug;
 
-use nest_tests::answer::{Answer, STOPPED_AT_LENGTH, STOPPED_WITH_LAYOUT, STOPPED_WITH_NOTHING};
+use nest_tests::answer::{Answer, STOPPED_WITH_LAYOUT, STOPPED_WITH_NOTHING};
 use nest_tests::reference::reader::read_job;
 use nest_tests::reference::services::{bytes_of, numbers_of};
 use nest_tests::small_boards::{small_boards, Claim, Dot, SmallBoard};
@@ -10,7 +10,6 @@ use nest_tests::small_boards::{small_boards, Claim, Dot, SmallBoard};
 use crate::case::Case;
 use crate::harness::Harness;
 use crate::nest;
-use crate::run_kind::RunKind;
 use crate::saving::saved_by_library;
 
 /// Enough for every job.
@@ -44,10 +43,7 @@ fn holds(board: &SmallBoard, claim: &Claim) -> Result<(), String> {
     let job = &board.bytes;
     match *claim {
         Claim::Run { margin, budget, ref given, printed } => {
-            same(printed_by_run(RunKind::First(given), job, margin, budget).as_str(), printed)
-        }
-        Claim::Rising { margin, budget, printed } => {
-            same(printed_by_run(RunKind::Rising, job, margin, budget).as_str(), printed)
+            same(printed_by_run(job, margin, budget, given).as_str(), printed)
         }
         Claim::Reads(number) => same(nest::read(job, &mut [0; 4096]).number, number),
         Claim::Gives(ref numbers) => same(&given_by_read(job), numbers),
@@ -84,13 +80,12 @@ fn checked(job: &[u8], margin: u64, layout: &[u16]) -> Result<u16, u8> {
 }
 
 /// The run's answer in the command program's words.
-fn printed_by_run(kind: RunKind, job: &[u8], margin: u64, budget: u32) -> String {
+fn printed_by_run(job: &[u8], margin: u64, budget: u32, given: &[u8]) -> String {
     let (mut work, mut answer) = (vec![0xFF; WORK_BYTES], vec![0xFF; ANSWER_BYTES]);
-    let Answer { number, verdict, count, steps } = kind.got(job, margin, budget, &mut work, &mut answer);
+    let Answer { number, verdict, count, steps } = nest::run(job, margin, budget, given, &mut work, &mut answer);
     let mut out = match (number, verdict) {
         (10, _) => return format!("none {steps}\n"),
         (0, STOPPED_WITH_NOTHING) => return format!("stopped - {steps}\n"),
-        (0, STOPPED_AT_LENGTH) => return format!("stopped {count} {steps}\n"),
         (0, STOPPED_WITH_LAYOUT) => format!("stopped {count} {steps}\n"),
         (0, _) => format!("shortest {count} {steps}\n"),
         _ => return format!("refused {number}\n"),

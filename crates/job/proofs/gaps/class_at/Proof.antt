@@ -30,7 +30,7 @@ returns : tie.Need-returns
 unfolding best_at
 returns c =
     λ k. best_of (c.before.before.before.byte2.ensures.0 k) ((c.before.before.gap-meant.ensures ∙ ap gap_meant c.before.before.before.before.byte.ensures.0) k)
-    ((c.cut-number.ensures ∙ ap (λ t. cut_number t c.before.before.before.before.before.before.args.id) (c.before.marks-cut.ensures ∙ ap marks_cut c.before.before.before.before.byte.ensures.0)) k)
+    ((c.cut-number.ensures ∙ ap (λ t. cut_number t c.before.before.before.before.before.before.args.id) (c.before.marks_cut_lem.ensures ∙ ap marks_cut c.before.before.before.before.byte.ensures.0)) k)
 
 pub class-at-spec : {M : Type 1} → statement M
 class-at-spec =

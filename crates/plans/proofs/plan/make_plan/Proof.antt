@@ -47,11 +47,11 @@ shared_at w t u v e h l =
 piece-kinds-requires : tie.Need-piece-kinds-requires
 piece-kinds-requires c κs = c.before.requires.0
 
-mul-t8 : tie.Need-overflow-mul-t8
-mul-t8 c = omega (arith, few c.before.before.before.before.before)
+mul-t7 : tie.Need-overflow-mul-t7
+mul-t7 c = omega (arith, few c.before.before.before.before.before)
 
-add-t9 : tie.Need-overflow-add-t9
-add-t9 c = omega (arith, few c.before.before.before.before.before)
+add-t8 : tie.Need-overflow-add-t8
+add-t8 c = omega (arith, few c.before.before.before.before.before)
 
 shared-cuts-requires : tie.Need-shared-cuts-requires
 shared-cuts-requires c κs = tt
@@ -105,7 +105,6 @@ returns c =
         sizes = c.sizes-of.ensures;
       },
       refl,
-      refl,
     )
 
 pub make-plan-spec : {M : Type 1} → statement M
@@ -113,8 +112,8 @@ make-plan-spec =
     tie.close
     (tie.spec
     piece-kinds-requires
-    mul-t8
-    add-t9
+    mul-t7
+    add-t8
     shared-cuts-requires
     copies-table-requires
     ends-of-requires

@@ -22,13 +22,13 @@ cast-put : tie.Need-overflow-cast-put
 cast-put c = search rules
 
 put-requires-2 : tie.Need-put-requires-2
-put-requires-2 c κs = omega (arith, c.before.before.before.before.before.before.before.before.requires.1, at_most_one c.marks-cut.result)
+put-requires-2 c κs = omega (arith, c.before.before.before.before.before.before.before.before.requires.1, at_most_one c.marks_cut_lem.result)
 
 same_length : tie.Need-same-length
 same_length c = search rules
 
 returns : tie.Need-returns
-returns c = gap-written c.before.before.before.before.before.before.before.before.before.before.before.args.at c.before.before.before.before.before.before.before.before.before.before.before.args.byte _ c.before.before.before.marks-cut.result c.before.before.before.before.before.before.before.before.before.before.before.args.answer.now _ _ c.before.before.before.before.before.before.before.before.gap-meant.ensures c.before.before.before.marks-cut.ensures c.before.before.before.before.before.before.before.put.ensures c.before.before.put2.ensures
+returns c = gap-written c.before.before.before.before.before.before.before.before.before.before.before.args.at c.before.before.before.before.before.before.before.before.before.before.before.args.byte _ c.before.before.before.marks_cut_lem.result c.before.before.before.before.before.before.before.before.before.before.before.args.answer.now _ _ c.before.before.before.before.before.before.before.before.gap-meant.ensures c.before.before.before.marks_cut_lem.ensures c.before.before.before.before.before.before.before.put.ensures c.before.before.put2.ensures
 
 pub put-gap-spec : {M : Type 1} → statement M
 put-gap-spec = tie.close (tie.spec gap-meant-requires put-requires add-put marks-cut-requires cast-put put-requires-2 same_length returns)

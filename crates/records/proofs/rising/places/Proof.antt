@@ -3,7 +3,7 @@ use Prim.Native.Nat.{◌≤◌, ◌-◌}
 use native.Mathlib.Omega.{arith}
 use lib.Dec.{ltb}
 use Rattle.words.proofs.Cases.{at_most_one}
-use Rattle.records.proofs.RisingLaws.{at_most-eight, RisenTo, risen-begin, risen-next, risen-end}
+use Rattle.records.proofs.RisingLaws.{at_most-eight, RisenTo, risen_begin, risen_next, risen_end}
 use borrow.Author.Rules.{rules}
 use Rattle.records.proofs.rising.places.Statement.{statement}
 use Rattle.records.proofs.rising.places.Tie as tie
@@ -15,7 +15,7 @@ abbrev decreases-loop : tie.decreases-loop
 decreases-loop job at n places₀ done₀ id₀ places done id = 8 - id
 
 loop-holds : tie.Need-loop-init invariant-loop decreases-loop
-loop-holds c = (omega arith, risen-begin _ _ _ _ refl)
+loop-holds c = (omega arith, risen_begin _ _ _ _ refl)
 
 find-requires : tie.Need-find-requires invariant-loop decreases-loop
 find-requires c κs = omega (arith, c.before.before.before.requires.0, at_most-eight c.before.before.before.args.job.now c.before.before.before.args.at c.before.before.before.args.n c.before.before.before.requires.1)
@@ -45,10 +45,10 @@ loop-less : tie.Need-loop-smaller invariant-loop decreases-loop
 loop-less c = search rules
 
 loop-again : tie.Need-loop-preserved invariant-loop decreases-loop
-loop-again c = (omega arith, risen-next c.before.before.before.before.args.job.now c.before.before.before.before.args.at c.before.before.before.before.args.n c.before.before.loop.id c.before.before.loop.done _ c.before.before.loop.places c.before.before.loop.invariant.1 c.before.before.before.before.requires.1 c.find.ensures.0 (omega arith) c.before.before.before.before.requires.0)
+loop-again c = (omega arith, risen_next c.before.before.before.before.args.job.now c.before.before.before.before.args.at c.before.before.before.before.args.n c.before.before.loop.id c.before.before.loop.done _ c.before.before.loop.places c.before.before.loop.invariant.1 c.before.before.before.before.requires.1 c.find.ensures.0 (omega arith) c.before.before.before.before.requires.0)
 
 returns : tie.Need-returns invariant-loop decreases-loop
-returns c = risen-end c.before.before.before.args.job.now c.before.before.before.args.at c.before.before.before.args.n c.before.loop.id c.before.loop.done _ (omega arith) c.before.before.before.requires.1 c.before.loop.invariant.1
+returns c = risen_end c.before.before.before.args.job.now c.before.before.before.args.at c.before.before.before.args.n c.before.loop.id c.before.loop.done _ (omega arith) c.before.before.before.requires.1 c.before.loop.invariant.1
 
 pub places-spec : {M : Type 1} → statement M
 places-spec = tie.close (tie.spec invariant-loop decreases-loop loop-holds find-requires mul-places add-places mul-places-2 array-write-places cast-done add_done add-id loop-less loop-again returns)

@@ -1,5 +1,4 @@
 -- `root::walking::walk` meets its contract.
-use mathlib.Core.Bool.{Bool}
 use mathlib.Core.List.{List}
 use mathlib.Core.Path.{◌≡◌, refl, sym, ◌∙◌, subst}
 use Prim.Native.Nat.{ℕ, ◌<◌}
@@ -15,7 +14,6 @@ use Rattle.job.specs.View.{problem_of}
 use Rattle.stepping.proofs.Limits.{demanded}
 use Rattle.plans.specs.Planned.{planned}
 use Rattle.bounding.specs.Trimmed.{Shrunk}
-use Rattle.bounded.specs.Bounded.{best_at}
 use Rattle.walks.specs.Walk.{held_of}
 use Rattle.runs.specs.declared.progress.Progress.{Progress}
 use Rattle.root.specs.Walked.{RoomFor, Begun, Walked}
@@ -37,11 +35,10 @@ begun c = subst (λ (m : ℕ). Begun (under m (content c.before.before.before.be
 
 -- and what the walk leaves of that problem it leaves of the view's.
 as-viewed : (c : tie.After-make-plan) {work out work' out' : List ℕ} {st : Progress}
-    → Walked (planned c.before.before.before.before.args.job.now c.make_plan.result) c.make_plan.result.once (best_at c.before.before.before.before.args.bound (held_of (planned c.before.before.before.before.args.job.now c.make_plan.result) c.before.before.before.before.args.found c.before.before.before.before.args.answer.now)) c.before.before.before.before.args.budget work out work' out' st
-    → Walked (problem_of c.before.before.before.before.args.job.now c.before.before.before.before.args.view) c.before.before.before.before.args.once (best_at c.before.before.before.before.args.bound (held_of (problem_of c.before.before.before.before.args.job.now c.before.before.before.before.args.view) c.before.before.before.before.args.found c.before.before.before.before.args.answer.now)) c.before.before.before.before.args.budget work out work' out' st
+    → Walked (planned c.before.before.before.before.args.job.now c.make_plan.result) (held_of (planned c.before.before.before.before.args.job.now c.make_plan.result) c.before.before.before.before.args.found c.before.before.before.before.args.answer.now) c.before.before.before.before.args.budget work out work' out' st
+    → Walked (problem_of c.before.before.before.before.args.job.now c.before.before.before.before.args.view) (held_of (problem_of c.before.before.before.before.args.job.now c.before.before.before.before.args.view) c.before.before.before.before.args.found c.before.before.before.before.args.answer.now) c.before.before.before.before.args.budget work out work' out' st
 as-viewed c {work} {out} {work'} {out'} {st} w =
-    subst (λ (o : Bool). Walked (problem_of c.before.before.before.before.args.job.now c.before.before.before.before.args.view) o (best_at c.before.before.before.before.args.bound (held_of (problem_of c.before.before.before.before.args.job.now c.before.before.before.before.args.view) c.before.before.before.before.args.found c.before.before.before.before.args.answer.now)) c.before.before.before.before.args.budget work out work' out' st) c.make_plan.ensures.2
-    (subst (λ (m : ℕ). Walked (under m (content c.before.before.before.before.args.job.now)) c.make_plan.result.once (best_at c.before.before.before.before.args.bound (held_of (under m (content c.before.before.before.before.args.job.now)) c.before.before.before.before.args.found c.before.before.before.before.args.answer.now)) c.before.before.before.before.args.budget work out work' out' st) c.make_plan.ensures.1 w)
+    subst (λ (m : ℕ). Walked (under m (content c.before.before.before.before.args.job.now)) (held_of (under m (content c.before.before.before.before.args.job.now)) c.before.before.before.before.args.found c.before.before.before.before.args.answer.now) c.before.before.before.before.args.budget work out work' out' st) c.make_plan.ensures.1 w
 
 make-plan-requires : tie.Need-make-plan-requires
 make-plan-requires c κs = (c.before.before.before.requires.0.viewed, c.before.before.before.requires.0.boxes)
@@ -58,7 +55,7 @@ same_length c = c.before.before.before.before.settle_first.auto.1.1.1.1.1.0
 returns : tie.Need-returns
 returns c =
     as-viewed c.before.before.before.before.before.before
-    (begin_back _ c.before.before.before.before.before.before.before.before.before.before.args.budget c.before.before.before.before.before.before.before.before.before.before.args.bound _ c.before.before.before.before.before.before.before.before.before.before.args.found c.before.before.before.before.before.before.make_plan.result.once _ _ _ (some-piece c.before.before.before.before.before.before.before.before.before.before) (begun c.before.before.before.before.before.before) c.before.before.before.before.before.before.make_plan.ensures.0.words refl (room c.before.before.before.before.before.before) _ c.before.before.before.before.settle_first.result c.before.before.before.before.settle_first.ensures c.begin.result c.begin.ensures (not-true c.before.before.before.before.settle_first.result c.before.if1.true))
+    (begin_back _ c.before.before.before.before.before.before.before.before.before.before.args.budget c.before.before.before.before.before.before.before.before.before.before.args.bound _ c.before.before.before.before.before.before.before.before.before.before.args.found _ _ _ (some-piece c.before.before.before.before.before.before.before.before.before.before) (begun c.before.before.before.before.before.before) c.before.before.before.before.before.before.make_plan.ensures.0.words refl (room c.before.before.before.before.before.before) _ c.before.before.before.before.settle_first.result c.before.before.before.before.settle_first.ensures c.begin.result c.begin.ensures (not-true c.before.before.before.before.settle_first.result c.before.if1.true))
 
 shrink-requires : tie.Need-shrink-requires
 shrink-requires c κs =
@@ -81,7 +78,7 @@ nofit-of-requires c κs = (c.before.before.before.before.before.before.before.be
 walk-with-table-requires : tie.Need-walk-with-table-requires
 walk-with-table-requires c κs = (
   (record { viewed = c.before.before.before.before.before.before.before.before.before.before.before.before.before.before.before.before.requires.0.viewed; table = c.before.before.before.before.before.before.before.before.before.before.before.before.before.before.before.before.requires.0.turned; boxed = c.before.before.before.before.before.before.before.before.before.before.before.before.before.before.before.before.requires.0.boxes; plan = c.before.before.before.before.before.before.before.before.before.before.before.before.make_plan.ensures.0; measures = c.before.before.nofit-of.ensures.0 }, omega (arith, c.before.before.nofit-of.ensures.1, c.before.before.nofit-of.ensures.0.small, c.before.before.before.room_for.ensures)),
-  begin_deep _ c.before.before.before.before.before.before.before.before.before.before.before.before.before.before.before.before.args.budget c.before.before.before.before.before.before.before.before.before.before.before.before.before.before.before.before.args.bound _ c.before.before.before.before.before.before.before.before.before.before.before.before.before.before.before.before.args.found c.before.before.before.before.before.before.before.before.before.before.before.before.make_plan.result.once _ _ _ (some-piece c.before.before.before.before.before.before.before.before.before.before.before.before.before.before.before.before) (begun c.before.before.before.before.before.before.before.before.before.before.before.before) c.before.before.before.before.before.before.before.before.before.before.before.before.make_plan.ensures.0.words refl (room c.before.before.before.before.before.before.before.before.before.before.before.before) _ c.before.before.before.before.before.before.before.before.before.before.settle_first.result c.before.before.before.before.before.before.before.before.before.before.settle_first.ensures (demanded c.before.before.before.before.before.before.before.before.before.before.before.before.before.before.before.before.args.job.now c.before.before.before.before.before.before.before.before.before.before.before.before.before.before.before.before.requires.0.viewed.accepted) (not-false c.before.before.before.before.before.before.before.before.before.before.settle_first.result c.before.before.before.before.before.before.before.if1.false) c.before.before.before.before.before.shrink.result (shrunk c.before.before.before.before.before) c.before.before.before.before.begin2.result c.before.before.before.before.begin2.ensures c.before.before.before.before.before.before.before.before.before.before.settle_first.auto.1.1.1.1.1.0,
+  begin_deep _ c.before.before.before.before.before.before.before.before.before.before.before.before.before.before.before.before.args.budget c.before.before.before.before.before.before.before.before.before.before.before.before.before.before.before.before.args.bound _ c.before.before.before.before.before.before.before.before.before.before.before.before.before.before.before.before.args.found _ _ _ (some-piece c.before.before.before.before.before.before.before.before.before.before.before.before.before.before.before.before) (begun c.before.before.before.before.before.before.before.before.before.before.before.before) c.before.before.before.before.before.before.before.before.before.before.before.before.make_plan.ensures.0.words refl (room c.before.before.before.before.before.before.before.before.before.before.before.before) _ c.before.before.before.before.before.before.before.before.before.before.settle_first.result c.before.before.before.before.before.before.before.before.before.before.settle_first.ensures (demanded c.before.before.before.before.before.before.before.before.before.before.before.before.before.before.before.before.args.job.now c.before.before.before.before.before.before.before.before.before.before.before.before.before.before.before.before.requires.0.viewed.accepted) (not-false c.before.before.before.before.before.before.before.before.before.before.settle_first.result c.before.before.before.before.before.before.before.if1.false) c.before.before.before.before.before.shrink.result (shrunk c.before.before.before.before.before) c.before.before.before.before.begin2.result c.before.before.before.before.begin2.ensures c.before.before.before.before.before.before.before.before.before.before.settle_first.auto.1.1.1.1.1.0,
 )
 
 same-length-2 : tie.Need-same-length-2
@@ -93,7 +90,7 @@ same-length-3 c = c.before.before.before.before.walk_with_table.auto.1.1.1.1.1.1
 returns-2 : tie.Need-returns-2
 returns-2 c =
     as-viewed c.before.before.before.before.before.before.before.before.before.before.before.before.before.before.before.before.before
-    (begin_walks _ c.before.before.before.before.before.before.before.before.before.before.before.before.before.before.before.before.before.before.before.before.before.args.budget c.before.before.before.before.before.before.before.before.before.before.before.before.before.before.before.before.before.before.before.before.before.args.bound _ c.before.before.before.before.before.before.before.before.before.before.before.before.before.before.before.before.before.before.before.before.before.args.found c.before.before.before.before.before.before.before.before.before.before.before.before.before.before.before.before.before.make_plan.result.once _ _ _ (some-piece c.before.before.before.before.before.before.before.before.before.before.before.before.before.before.before.before.before.before.before.before.before) (begun c.before.before.before.before.before.before.before.before.before.before.before.before.before.before.before.before.before) c.before.before.before.before.before.before.before.before.before.before.before.before.before.before.before.before.before.make_plan.ensures.0.words refl (room c.before.before.before.before.before.before.before.before.before.before.before.before.before.before.before.before.before) _ c.before.before.before.before.before.before.before.before.before.before.before.before.before.before.before.settle_first.result c.before.before.before.before.before.before.before.before.before.before.before.before.before.before.before.settle_first.ensures (demanded c.before.before.before.before.before.before.before.before.before.before.before.before.before.before.before.before.before.before.before.before.before.args.job.now c.before.before.before.before.before.before.before.before.before.before.before.before.before.before.before.before.before.before.before.before.before.requires.0.viewed.accepted) (not-false c.before.before.before.before.before.before.before.before.before.before.before.before.before.before.before.settle_first.result c.before.before.before.before.before.before.before.before.before.before.before.before.if1.false) c.before.before.before.before.before.before.before.before.before.before.shrink.result (shrunk c.before.before.before.before.before.before.before.before.before.before) c.before.before.before.before.before.before.before.before.before.begin2.result c.before.before.before.before.before.before.before.before.before.begin2.ensures _ _ c.before.before.before.before.walk_with_table.result c.before.before.before.before.walk_with_table.ensures)
+    (begin_walks _ c.before.before.before.before.before.before.before.before.before.before.before.before.before.before.before.before.before.before.before.before.before.args.budget c.before.before.before.before.before.before.before.before.before.before.before.before.before.before.before.before.before.before.before.before.before.args.bound _ c.before.before.before.before.before.before.before.before.before.before.before.before.before.before.before.before.before.before.before.before.before.args.found _ _ _ (some-piece c.before.before.before.before.before.before.before.before.before.before.before.before.before.before.before.before.before.before.before.before.before) (begun c.before.before.before.before.before.before.before.before.before.before.before.before.before.before.before.before.before) c.before.before.before.before.before.before.before.before.before.before.before.before.before.before.before.before.before.make_plan.ensures.0.words refl (room c.before.before.before.before.before.before.before.before.before.before.before.before.before.before.before.before.before) _ c.before.before.before.before.before.before.before.before.before.before.before.before.before.before.before.settle_first.result c.before.before.before.before.before.before.before.before.before.before.before.before.before.before.before.settle_first.ensures (demanded c.before.before.before.before.before.before.before.before.before.before.before.before.before.before.before.before.before.before.before.before.before.args.job.now c.before.before.before.before.before.before.before.before.before.before.before.before.before.before.before.before.before.before.before.before.before.requires.0.viewed.accepted) (not-false c.before.before.before.before.before.before.before.before.before.before.before.before.before.before.before.settle_first.result c.before.before.before.before.before.before.before.before.before.before.before.before.if1.false) c.before.before.before.before.before.before.before.before.before.before.shrink.result (shrunk c.before.before.before.before.before.before.before.before.before.before) c.before.before.before.before.before.before.before.before.before.begin2.result c.before.before.before.before.before.before.before.before.before.begin2.ensures _ _ c.before.before.before.before.walk_with_table.result c.before.before.before.before.walk_with_table.ensures)
 
 pub walk-spec : {M : Type 1} → statement M
 walk-spec =

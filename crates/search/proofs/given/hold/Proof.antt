@@ -8,7 +8,7 @@ use borrow.Author.Rules.{rules}
 use Rattle.model.specs.Lists.{below}
 use Rattle.model.specs.Services.{entry_in, layout_in, with_layout}
 use Rattle.job.specs.View.{problem_of}
-use Rattle.stepping.proofs.Answer.{layout-none}
+use Rattle.stepping.proofs.Answer.{layout_none}
 use Rattle.stepping.proofs.Limits.{few-pieces}
 use Rattle.walks.specs.Walk.{held_of}
 use Rattle.search.proofs.given.hold.Statement.{statement}
@@ -29,7 +29,7 @@ returns c =
 
 returns-2 : tie.Need-returns-2
 returns-2 c =
-    sym (layout-none c.before.before.before.before.args.answer.now)
+    sym (layout_none c.before.before.before.before.args.answer.now)
     ∙ ap (λ b. with_layout (held_of (problem_of c.before.before.before.before.args.job.now c.before.before.before.before.args.view) b c.before.before.before.before.args.layout.now) c.before.before.before.before.args.answer.now) (sym c.if1.false)
 
 pub hold-spec : {M : Type 1} → statement M

@@ -1,6 +1,4 @@
 -- `search::run::run_from` meets its contract: it answers and leaves what the model says of a run from this layout, or from none.
-use mathlib.Core.Bool.{false}
-use mathlib.Core.List.{List}
 use mathlib.Core.Option.{Option}
 use mathlib.Core.Path.{◌≡◌, sym, ap, ◌∙◌, subst}
 use Prim.Native.Nat.{ℕ, ◌*◌, ◌≤◌}
@@ -16,12 +14,10 @@ use Rattle.model.specs.Services.{numbers_in, work_words, with_layout, given_layo
 use Rattle.model.proofs.Accepted.{accepted-sensible}
 use Rattle.job.specs.View.{problem_of}
 use Rattle.stepping.proofs.Limits.{few-pieces, short-board}
-use Rattle.bounded.specs.Bounded.{Best, best_at, start_of}
 use Rattle.walks.specs.Walk.{held_of}
 use Rattle.root.specs.Walked.{RoomFor, Begun, Walked}
-use Rattle.root.proofs.Buffers.{room-enough}
-use Rattle.search.proofs.Beginning.{begin_laid, begin_entries, given_whole, begin_best, begins}
-use Rattle.search.proofs.Running.{from-few-words, from-few-numbers, from-done, left-within}
+use Rattle.search.proofs.Beginning.{begin_laid, begin_entries, given_whole, held-again, begins}
+use Rattle.search.proofs.Running.{from-few-words, from-few-numbers, from-room, from-done, left-within}
 use Rattle.search.proofs.run.run_from.Statement.{statement}
 use Rattle.search.proofs.run.run_from.Tie as tie
 
@@ -62,7 +58,7 @@ returns-2 c =
 -- Both buffers are large enough.
 room : (c : tie.Else2) → RoomFor (problem c.before.before.before.before.before.before.before.before.before.before) c.before.before.before.before.before.before.before.before.before.before.args.work.now c.before.before.before.before.before.before.before.before.before.before.args.answer.now
 room c =
-    room-enough (problem c.before.before.before.before.before.before.before.before.before.before) c.before.before.before.before.before.before.before.before.before.before.args.work.now c.before.before.before.before.before.before.before.before.before.before.args.answer.now c.before.before.before.before.before.work-words.result _ (words_are c.before.before.before.before.before) (numbers-are c.before.before.before.before.before.before.before.before.before.before) (sym c.before.before.before.before.lacks_words.ensures ∙ c.before.before.before.if1.false) (sym c.before.lacks_numbers.ensures ∙ c.if2.false)
+    from-room (problem c.before.before.before.before.before.before.before.before.before.before) (begin c.before.before.before.before.before.before.before.before.before.before) c.before.before.before.before.before.before.before.before.before.before.args.budget c.before.before.before.before.before.before.before.before.before.before.args.work.now c.before.before.before.before.before.before.before.before.before.before.args.answer.now c.before.before.before.before.before.work-words.result (words_are c.before.before.before.before.before) _ (numbers-are c.before.before.before.before.before.before.before.before.before.before) (sym c.before.before.before.before.lacks_words.ensures ∙ c.before.before.before.if1.false) (sym c.before.lacks_numbers.ensures ∙ c.if2.false)
 
 hold-requires : tie.Need-hold-requires
 unfolding numbers_in count
@@ -88,10 +84,10 @@ walk-requires : tie.Need-walk-requires
 walk-requires c κs = (c.before.before.before.before.before.before.before.before.before.before.before.before.before.before.before.before.requires.0, ready c.before.before.before.before)
 
 -- What the walk leaves, of a walk with that best.
-walked : (c : tie.After-walk) → Walked (problem c.before.before.before.before.before.before.before.before.before.before.before.before.before.before.before.before.before) false (start_of (problem c.before.before.before.before.before.before.before.before.before.before.before.before.before.before.before.before.before) (begin c.before.before.before.before.before.before.before.before.before.before.before.before.before.before.before.before.before)) c.before.before.before.before.before.before.before.before.before.before.before.before.before.before.before.before.before.args.budget c.before.before.before.before.before.before.before.before.before.before.before.before.before.before.before.before.before.args.work.now c.before.before.before.before.before.hold.new.1.1.1.1.0 c.walk.new.1.1.1.1.1.1.1.0 c.walk.new.1.1.1.1.1.1.1.1.0 c.walk.result
+walked : (c : tie.After-walk) → Walked (problem c.before.before.before.before.before.before.before.before.before.before.before.before.before.before.before.before.before) (begin c.before.before.before.before.before.before.before.before.before.before.before.before.before.before.before.before.before) c.before.before.before.before.before.before.before.before.before.before.before.before.before.before.before.before.before.args.budget c.before.before.before.before.before.before.before.before.before.before.before.before.before.before.before.before.before.args.work.now c.before.before.before.before.before.hold.new.1.1.1.1.0 c.walk.new.1.1.1.1.1.1.1.0 c.walk.new.1.1.1.1.1.1.1.1.0 c.walk.result
 walked c =
-    subst (λ (h : Best). Walked (problem c.before.before.before.before.before.before.before.before.before.before.before.before.before.before.before.before.before) false h c.before.before.before.before.before.before.before.before.before.before.before.before.before.before.before.before.before.args.budget c.before.before.before.before.before.before.before.before.before.before.before.before.before.before.before.before.before.args.work.now c.before.before.before.before.before.hold.new.1.1.1.1.0 c.walk.new.1.1.1.1.1.1.1.0 c.walk.new.1.1.1.1.1.1.1.1.0 c.walk.result)
-    (ap (λ (a : List ℕ). best_at c.before.before.before.before.before.before.before.before.before.before.before.before.before.before.before.before.before.args.given.bound (held_of (problem c.before.before.before.before.before.before.before.before.before.before.before.before.before.before.before.before.before) c.before.before.before.before.before.before.before.before.before.before.before.before.before.before.before.before.before.args.given.found a)) (holds c.before.before.before.before.before) ∙ begin_best c.before.before.before.before.before.before.before.before.before.before.before.before.before.before.before.before.before.args.job.now c.before.before.before.before.before.before.before.before.before.before.before.before.before.before.before.before.before.args.view.margin c.before.before.before.before.before.before.before.before.before.before.before.before.before.before.before.before.before.requires.0.viewed.accepted c.before.before.before.before.before.before.before.before.before.before.before.before.before.before.before.before.before.args.layout.now c.before.before.before.before.before.before.before.before.before.before.before.before.before.before.before.before.before.args.answer.now c.before.before.before.before.before.before.before.before.before.before.before.before.before.before.before.before.before.args.given c.before.before.before.before.before.before.before.before.before.before.before.before.before.before.before.before.before.requires.1.0 c.before.before.before.before.before.before.before.before.before.before.before.before.before.before.before.before.before.requires.1.1) c.walk.ensures
+    subst (λ (h : Option Layout). Walked (problem c.before.before.before.before.before.before.before.before.before.before.before.before.before.before.before.before.before) h c.before.before.before.before.before.before.before.before.before.before.before.before.before.before.before.before.before.args.budget c.before.before.before.before.before.before.before.before.before.before.before.before.before.before.before.before.before.args.work.now c.before.before.before.before.before.hold.new.1.1.1.1.0 c.walk.new.1.1.1.1.1.1.1.0 c.walk.new.1.1.1.1.1.1.1.1.0 c.walk.result)
+    (ap (held_of (problem c.before.before.before.before.before.before.before.before.before.before.before.before.before.before.before.before.before) c.before.before.before.before.before.before.before.before.before.before.before.before.before.before.before.before.before.args.given.found) (holds c.before.before.before.before.before) ∙ held-again c.before.before.before.before.before.before.before.before.before.before.before.before.before.before.before.before.before.args.job.now c.before.before.before.before.before.before.before.before.before.before.before.before.before.before.before.before.before.args.view.margin c.before.before.before.before.before.before.before.before.before.before.before.before.before.before.before.before.before.requires.0.viewed.accepted c.before.before.before.before.before.before.before.before.before.before.before.before.before.before.before.before.before.args.layout.now c.before.before.before.before.before.before.before.before.before.before.before.before.before.before.before.before.before.args.answer.now c.before.before.before.before.before.before.before.before.before.before.before.before.before.before.before.before.before.args.given c.before.before.before.before.before.before.before.before.before.before.before.before.before.before.before.before.before.requires.1.0 c.before.before.before.before.before.before.before.before.before.before.before.before.before.before.before.before.before.requires.1.1) c.walk.ensures
 
 clear-requires : tie.Need-clear-requires
 clear-requires c κs =

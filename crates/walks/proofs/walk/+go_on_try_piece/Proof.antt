@@ -67,7 +67,7 @@ few-dots t c = accepted-dots c.args.job.now c.requires.1.0.plan.accepted
 few-kinds : (t : ℕ) (c : go-on-lts.Start (record-layout-reads.Asked, record-layout-reads.Learnt, lower-reads.Asked, lower-reads.Learnt, complete-reads.Asked, complete-reads.Learnt, settle-reads.Asked, settle-reads.Learnt, try-piece-below t, try-piece.Post) (go-on-at t) go_on.Post) → kind_count (content c.args.job.now).kinds ≤ 8
 few-kinds t c = (accepted-kinds c.args.job.now c.requires.1.0.plan.accepted).few-kinds
 
-go-on-record-layout-requires : (t : ℕ) → go-on-lts.Need-record_layout-requires (record-layout-reads.Asked, record-layout-reads.Learnt, lower-reads.Asked, lower-reads.Learnt, complete-reads.Asked, complete-reads.Learnt, settle-reads.Asked, settle-reads.Learnt, try-piece-below t, try-piece.Post) (go-on-at t) go_on.Post
+go-on-record-layout-requires : (t : ℕ) → go-on-lts.Need-record_layout_requires (record-layout-reads.Asked, record-layout-reads.Learnt, lower-reads.Asked, lower-reads.Learnt, complete-reads.Asked, complete-reads.Learnt, settle-reads.Asked, settle-reads.Learnt, try-piece-below t, try-piece.Post) (go-on-at t) go_on.Post
 go-on-record-layout-requires t c κs = (c.before.before.before.before.before.before.before.requires.1.0.plan, record_ready _ _ _ _ _ _ _ c.before.before.before.before.before.before.before.requires.1.1.0 (λ h. c.before.before.before.before.before.before.before.requires.1.1.1.below) (few-dots t c.before.before.before.before.before.before.before) (few-kinds t c.before.before.before.before.before.before.before) (c.before.if1.true ∙ c.before.before.before.before.before.before.before.requires.1.0.plan.pieces))
 
 go-on-lower-requires : (t : ℕ) → go-on-lts.Need-lower-requires (record-layout-reads.Asked, record-layout-reads.Learnt, lower-reads.Asked, lower-reads.Learnt, complete-reads.Asked, complete-reads.Learnt, settle-reads.Asked, settle-reads.Learnt, try-piece-below t, try-piece.Post) (go-on-at t) go_on.Post
@@ -83,7 +83,7 @@ go-on-same-length-2 : (t : ℕ) → go-on-lts.Need-same-length-2 (record-layout-
 go-on-same-length-2 t c = c.before.before.before.before.before.before.before.record_layout.auto.1.1.1.0
 
 go-on-returns : (t : ℕ) → go-on-lts.Need-returns (record-layout-reads.Asked, record-layout-reads.Learnt, lower-reads.Asked, lower-reads.Learnt, complete-reads.Asked, complete-reads.Learnt, settle-reads.Asked, settle-reads.Learnt, try-piece-below t, try-piece.Post) (go-on-at t) go_on.Post
-go-on-returns t c = go_last _ _ _ _ _ _ _ c.before.before.before.before.before.before.before.before.before.before.before.before.before.before.before.requires.1.1.0 (λ h. c.before.before.before.before.before.before.before.before.before.before.before.before.before.before.before.requires.1.1.1.below) _ _ _ c.before.before.before.lower.result c.complete.result c.complete.ensures (few-dots t c.before.before.before.before.before.before.before.before.before.before.before.before.before.before.before) (few-kinds t c.before.before.before.before.before.before.before.before.before.before.before.before.before.before.before) (demanded c.before.before.before.before.before.before.before.before.before.before.before.before.before.before.before.args.job.now c.before.before.before.before.before.before.before.before.before.before.before.before.before.before.before.requires.1.0.plan.accepted) c.before.before.before.before.before.before.before.before.before.before.before.before.before.before.before.requires.1.1.1.some (c.before.before.before.before.before.before.before.before.before.if1.true ∙ c.before.before.before.before.before.before.before.before.before.before.before.before.before.before.before.requires.1.0.plan.pieces) c.before.before.before.before.before.before.before.record_layout.ensures c.before.before.before.lower.ensures
+go-on-returns t c = go_last _ _ _ _ _ _ _ c.before.before.before.before.before.before.before.before.before.before.before.before.before.before.before.requires.1.1.0 (λ h. c.before.before.before.before.before.before.before.before.before.before.before.before.before.before.before.requires.1.1.1.below) _ _ c.before.before.before.lower.result c.complete.result c.complete.ensures (few-dots t c.before.before.before.before.before.before.before.before.before.before.before.before.before.before.before) (few-kinds t c.before.before.before.before.before.before.before.before.before.before.before.before.before.before.before) (demanded c.before.before.before.before.before.before.before.before.before.before.before.before.before.before.before.args.job.now c.before.before.before.before.before.before.before.before.before.before.before.before.before.before.before.requires.1.0.plan.accepted) c.before.before.before.before.before.before.before.before.before.before.before.before.before.before.before.requires.1.1.1.some (c.before.before.before.before.before.before.before.before.before.if1.true ∙ c.before.before.before.before.before.before.before.before.before.before.before.before.before.before.before.requires.1.0.plan.pieces) c.before.before.before.before.before.before.before.record_layout.ensures c.before.before.before.lower.ensures
 
 -- A piece is left.
 unplaced : (t : ℕ) (c : go-on-lts.Else1 (record-layout-reads.Asked, record-layout-reads.Learnt, lower-reads.Asked, lower-reads.Learnt, complete-reads.Asked, complete-reads.Learnt, settle-reads.Asked, settle-reads.Learnt, try-piece-below t, try-piece.Post) (go-on-at t) go_on.Post) → c.before.before.before.before.before.before.args.level < piece_count (content c.before.before.before.before.before.before.args.job.now).kinds
@@ -102,19 +102,19 @@ go-on-same-length-4 : (t : ℕ) → go-on-lts.Need-same-length-4 (record-layout-
 go-on-same-length-4 t c = c.before.before.before.before.try_piece.auto.1.1.1.1.1.1.0
 
 go-on-returns-2 : (t : ℕ) → go-on-lts.Need-returns_2 (record-layout-reads.Asked, record-layout-reads.Learnt, lower-reads.Asked, lower-reads.Learnt, complete-reads.Asked, complete-reads.Learnt, settle-reads.Asked, settle-reads.Learnt, try-piece-below t, try-piece.Post) (go-on-at t) go_on.Post
-go-on-returns-2 t c = go_deep _ _ _ _ _ _ _ c.before.before.before.before.before.before.before.before.before.before.before.before.before.before.before.before.before.before.requires.1.1.0 (λ h. c.before.before.before.before.before.before.before.before.before.before.before.before.before.before.before.before.before.before.requires.1.1.1.below) _ _ _ _ c.before.before.before.before.try_piece.result c.before.before.before.before.before.before.before.before.before.before.settle.result (unplaced t c.before.before.before.before.before.before.before.before.before.before.before.before) c.before.before.before.before.before.before.before.if2.true c.before.before.before.before.before.before.before.before.before.before.settle.ensures c.before.before.before.before.try_piece.ensures
+go-on-returns-2 t c = go_deep _ _ _ _ _ _ _ c.before.before.before.before.before.before.before.before.before.before.before.before.before.before.before.before.before.before.requires.1.1.0 (λ h. c.before.before.before.before.before.before.before.before.before.before.before.before.before.before.before.before.before.before.requires.1.1.1.below) _ _ _ c.before.before.before.before.try_piece.result c.before.before.before.before.before.before.before.before.before.before.settle.result (unplaced t c.before.before.before.before.before.before.before.before.before.before.before.before) c.before.before.before.before.before.before.before.if2.true c.before.before.before.before.before.before.before.before.before.before.settle.ensures c.before.before.before.before.try_piece.ensures
 
 go-on-same-length-5 : (t : ℕ) → go-on-lts.Need-same-length-5 (record-layout-reads.Asked, record-layout-reads.Learnt, lower-reads.Asked, lower-reads.Learnt, complete-reads.Asked, complete-reads.Learnt, settle-reads.Asked, settle-reads.Learnt, try-piece-below t, try-piece.Post) (go-on-at t) go_on.Post
 go-on-same-length-5 t c = c.before.before.before.settle.auto.1.1.1.1.1.1.1.1.0
 
 go-on-returns-3 : (t : ℕ) → go-on-lts.Need-returns_3 (record-layout-reads.Asked, record-layout-reads.Learnt, lower-reads.Asked, lower-reads.Learnt, complete-reads.Asked, complete-reads.Learnt, settle-reads.Asked, settle-reads.Learnt, try-piece-below t, try-piece.Post) (go-on-at t) go_on.Post
-go-on-returns-3 t c = go_back _ _ _ _ _ _ _ c.before.before.before.before.before.before.before.before.before.before.before.requires.1.1.0 (λ h. c.before.before.before.before.before.before.before.before.before.before.before.requires.1.1.1.below) _ _ c.before.before.before.settle.result (unplaced t c.before.before.before.before.before) c.if2.false c.before.before.before.settle.ensures
+go-on-returns-3 t c = go_back _ _ _ _ _ _ _ c.before.before.before.before.before.before.before.before.before.before.before.requires.1.1.0 (λ h. c.before.before.before.before.before.before.before.before.before.before.before.requires.1.1.1.below) _ c.before.before.before.settle.result (unplaced t c.before.before.before.before.before) c.if2.false c.before.before.before.settle.ensures
 
 -- ---- The loop of a piece
 
 abbrev try-piece-Inv-loop : try-piece-lts.invariant_loop
 try-piece-Inv-loop job plan nofit turned strings work₀ out₀ numbers level extent st₀ from₀ work out st from =
-    ((length work ≡ length work₀) × (length out ≡ length out₀)) × Trying (planned job plan) plan.once numbers level extent work₀ out₀ work out st₀ st from
+    ((length work ≡ length work₀) × (length out ≡ length out₀)) × Trying (planned job plan) numbers level extent work₀ out₀ work out st₀ st from
 
 abbrev try-piece-μ-loop : try-piece-lts.decreases_loop
 try-piece-μ-loop job plan nofit turned strings work₀ out₀ numbers level extent st₀ from₀ work out st from = set_words (content job).sheet * 64 - from
@@ -127,10 +127,10 @@ words-few : (t : ℕ) (c : try-piece-lts.Start (next-live-reads.Asked, next-live
 words-few t c = few_words c.args.job.now c.requires.1.0.0.plan.accepted
 
 try-piece-loop-holds : (t : ℕ) → try-piece-lts.Need-loop_init (next-live-reads.Asked, next-live-reads.Learnt, halt-reads.Asked, halt-reads.Learnt, step-reads.Asked, step-reads.Learnt, go-on-below t, go_on.Post) (try-piece-at t) try-piece.Post try-piece-Inv-loop try-piece-μ-loop
-try-piece-loop-holds t c = ((refl, refl), trying_begin _ _ _ _ _ _ _ _ c.before.before.before.before.requires.1.1)
+try-piece-loop-holds t c = ((refl, refl), trying_begin _ _ _ _ _ _ _ c.before.before.before.before.requires.1.1)
 
 try-piece-next-live-requires : (t : ℕ) → try-piece-lts.Need-next_live-requires (next-live-reads.Asked, next-live-reads.Learnt, halt-reads.Asked, halt-reads.Learnt, step-reads.Asked, step-reads.Learnt, go-on-below t, go_on.Post) (try-piece-at t) try-piece.Post try-piece-Inv-loop try-piece-μ-loop
-try-piece-next-live-requires t c κs = ((c.before.before.before.before.before.before.requires.1.0.0.plan, c.before.before.before.before.before.before.requires.1.0.1, c.before.loop.invariant.1.ready.work-fits), (c.before.loop.invariant.1.ready.spans, trying_keeps _ _ _ _ _ _ _ _ _ _ _ _ c.before.loop.invariant.1 c.before.before.before.before.before.before.requires.1.0.1))
+try-piece-next-live-requires t c κs = ((c.before.before.before.before.before.before.requires.1.0.0.plan, c.before.before.before.before.before.before.requires.1.0.1, c.before.loop.invariant.1.ready.work-fits), (c.before.loop.invariant.1.ready.spans, trying_keeps _ _ _ _ _ _ _ _ _ _ _ c.before.loop.invariant.1 c.before.before.before.before.before.before.requires.1.0.1))
 
 try-piece-same-length : (t : ℕ) → try-piece-lts.Need-same-length (next-live-reads.Asked, next-live-reads.Learnt, halt-reads.Asked, halt-reads.Learnt, step-reads.Asked, step-reads.Learnt, go-on-below t, go_on.Post) (try-piece-at t) try-piece.Post try-piece-Inv-loop try-piece-μ-loop
 try-piece-same-length t c = c.before.before.before.before.loop.invariant.0.0
@@ -139,7 +139,7 @@ try-piece-same-length-2 : (t : ℕ) → try-piece-lts.Need-same-length-2 (next-l
 try-piece-same-length-2 t c = c.before.before.before.before.loop.invariant.0.1
 
 try-piece-returns : (t : ℕ) → try-piece-lts.Need-returns (next-live-reads.Asked, next-live-reads.Learnt, halt-reads.Asked, halt-reads.Learnt, step-reads.Asked, step-reads.Learnt, go-on-below t, go_on.Post) (try-piece-at t) try-piece.Post try-piece-Inv-loop try-piece-μ-loop
-try-piece-returns t c = trying_past _ _ _ _ _ _ _ _ _ _ _ _ c.before.before.before.before.loop.invariant.1 _ c.before.before.next_live.ensures (not-true c.before.before.next_live.result.found c.if1.true)
+try-piece-returns t c = trying_past _ _ _ _ _ _ _ _ _ _ _ c.before.before.before.before.loop.invariant.1 _ c.before.before.next_live.ensures (not-true c.before.before.next_live.result.found c.if1.true)
 
 try-piece-halt-requires : (t : ℕ) → try-piece-lts.Need-halt_requires (next-live-reads.Asked, next-live-reads.Learnt, halt-reads.Asked, halt-reads.Learnt, step-reads.Asked, step-reads.Learnt, go-on-below t, go_on.Post) (try-piece-at t) try-piece.Post try-piece-Inv-loop try-piece-μ-loop
 try-piece-halt-requires t c κs = search rules
@@ -151,7 +151,7 @@ try-piece-same-length-4 : (t : ℕ) → try-piece-lts.Need-same-length-4 (next-l
 try-piece-same-length-4 t c = c.before.before.before.before.before.before.before.loop.invariant.0.1
 
 try-piece-returns-2 : (t : ℕ) → try-piece-lts.Need-returns_2 (next-live-reads.Asked, next-live-reads.Learnt, halt-reads.Asked, halt-reads.Learnt, step-reads.Asked, step-reads.Learnt, go-on-below t, go_on.Post) (try-piece-at t) try-piece.Post try-piece-Inv-loop try-piece-μ-loop
-try-piece-returns-2 t c = trying_stops _ _ _ _ _ _ _ _ _ _ _ _ c.before.before.before.before.before.before.before.loop.invariant.1 _ c.before.before.before.before.before.next_live.ensures (not-false c.before.before.before.before.before.next_live.result.found c.before.before.before.if1.false) c.before.before.before.before.before.before.before.before.before.before.before.before.requires.1.0.1 (level-few t c.before.before.before.before.before.before.before.before.before.before.before.before) c.halt.result c.halt.ensures c.before.if2.true
+try-piece-returns-2 t c = trying_stops _ _ _ _ _ _ _ _ _ _ _ c.before.before.before.before.before.before.before.loop.invariant.1 _ c.before.before.before.before.before.next_live.ensures (not-false c.before.before.before.before.before.next_live.result.found c.before.before.before.if1.false) c.before.before.before.before.before.before.before.before.before.before.before.before.requires.1.0.1 (level-few t c.before.before.before.before.before.before.before.before.before.before.before.before) c.halt.result c.halt.ensures c.before.if2.true
 
 try-piece-mul-taken : (t : ℕ) → try-piece-lts.Need-overflow_mul_taken (next-live-reads.Asked, next-live-reads.Learnt, halt-reads.Asked, halt-reads.Learnt, step-reads.Asked, step-reads.Learnt, go-on-below t, go_on.Post) (try-piece-at t) try-piece.Post try-piece-Inv-loop try-piece-μ-loop
 try-piece-mul-taken t c = omega (arith, level-few t c.before.before.before.before.before.before.before.before.before.before.before)
@@ -166,7 +166,7 @@ try-piece-step-requires : (t : ℕ) → try-piece-lts.Need-step-requires (next-l
 try-piece-step-requires t c κs = positive c.before.before.before.before.before.before.before.before.loop.st.left c.before.before.if2.false
 
 try-piece-go-on-requires : (t : ℕ) → try-piece-lts.Need-go_on_requires (next-live-reads.Asked, next-live-reads.Learnt, halt-reads.Asked, halt-reads.Learnt, step-reads.Asked, step-reads.Learnt, go-on-below t, go_on.Post) (try-piece-at t) try-piece.Post try-piece-Inv-loop try-piece-μ-loop
-try-piece-go-on-requires t c κs = (omega (arith, c.before.before.before.before.before.before.before.before.before.before.before.before.before.before.requires.0, c.before.before.before.before.before.before.before.before.before.before.before.before.before.before.requires.1.0.0.plan.pieces, c.before.before.before.before.before.before.before.before.before.before.before.before.before.before.requires.1.0.1), (c.before.before.before.before.before.before.before.before.before.before.before.before.before.before.requires.1.0.0, (taken-ready _ _ _ _ _ _ _ _ _ _ _ _ c.before.before.before.before.before.before.before.before.before.loop.invariant.1 _ c.before.before.before.before.before.before.before.next_live.ensures (not-false c.before.before.before.before.before.before.before.next_live.result.found c.before.before.before.before.before.if1.false) c.before.before.before.before.before.before.before.before.before.before.before.before.before.before.requires.1.0.1 (level-few t c.before.before.before.before.before.before.before.before.before.before.before.before.before.before) c.step.result c.step.ensures, taken-taken _ _ _ _ _ _ _ _ _ _ _ _ c.before.before.before.before.before.before.before.before.before.loop.invariant.1 _ c.before.before.before.before.before.before.before.next_live.ensures (not-false c.before.before.before.before.before.before.before.next_live.result.found c.before.before.before.before.before.if1.false) c.before.before.before.before.before.before.before.before.before.before.before.before.before.before.requires.1.0.1 (level-few t c.before.before.before.before.before.before.before.before.before.before.before.before.before.before) c.step.result c.step.ensures)))
+try-piece-go-on-requires t c κs = (omega (arith, c.before.before.before.before.before.before.before.before.before.before.before.before.before.before.requires.0, c.before.before.before.before.before.before.before.before.before.before.before.before.before.before.requires.1.0.0.plan.pieces, c.before.before.before.before.before.before.before.before.before.before.before.before.before.before.requires.1.0.1), (c.before.before.before.before.before.before.before.before.before.before.before.before.before.before.requires.1.0.0, (taken-ready _ _ _ _ _ _ _ _ _ _ _ c.before.before.before.before.before.before.before.before.before.loop.invariant.1 _ c.before.before.before.before.before.before.before.next_live.ensures (not-false c.before.before.before.before.before.before.before.next_live.result.found c.before.before.before.before.before.if1.false) c.before.before.before.before.before.before.before.before.before.before.before.before.before.before.requires.1.0.1 (level-few t c.before.before.before.before.before.before.before.before.before.before.before.before.before.before) c.step.result c.step.ensures, taken-taken _ _ _ _ _ _ _ _ _ _ _ c.before.before.before.before.before.before.before.before.before.loop.invariant.1 _ c.before.before.before.before.before.before.before.next_live.ensures (not-false c.before.before.before.before.before.before.before.next_live.result.found c.before.before.before.before.before.if1.false) c.before.before.before.before.before.before.before.before.before.before.before.before.before.before.requires.1.0.1 (level-few t c.before.before.before.before.before.before.before.before.before.before.before.before.before.before) c.step.result c.step.ensures)))
 
 try-piece-same-length-5 : (t : ℕ) → try-piece-lts.Need-same-length-5 (next-live-reads.Asked, next-live-reads.Learnt, halt-reads.Asked, halt-reads.Learnt, step-reads.Asked, step-reads.Learnt, go-on-below t, go_on.Post) (try-piece-at t) try-piece.Post try-piece-Inv-loop try-piece-μ-loop
 try-piece-same-length-5 t c = c.before.before.before.before.before.go_on.auto.1.1.1.1.1.0 ∙ c.before.before.before.before.before.before.before.before.before.before.before.before.before.before.before.loop.invariant.0.0
@@ -175,7 +175,7 @@ try-piece-same-length-6 : (t : ℕ) → try-piece-lts.Need-same-length-6 (next-l
 try-piece-same-length-6 t c = c.before.before.before.before.before.go_on.auto.1.1.1.1.1.1.0 ∙ c.before.before.before.before.before.before.before.before.before.before.before.before.before.before.before.loop.invariant.0.1
 
 try-piece-returns-3 : (t : ℕ) → try-piece-lts.Need-returns_3 (next-live-reads.Asked, next-live-reads.Learnt, halt-reads.Asked, halt-reads.Learnt, step-reads.Asked, step-reads.Learnt, go-on-below t, go_on.Post) (try-piece-at t) try-piece.Post try-piece-Inv-loop try-piece-μ-loop
-try-piece-returns-3 t c = trying_ends _ _ _ _ _ _ _ _ _ _ _ _ c.before.before.before.before.before.before.before.before.before.before.before.before.before.before.before.loop.invariant.1 _ c.before.before.before.before.before.before.before.before.before.before.before.before.before.next_live.ensures (not-false c.before.before.before.before.before.before.before.before.before.before.before.before.before.next_live.result.found c.before.before.before.before.before.before.before.before.before.before.before.if1.false) c.before.before.before.before.before.before.before.before.before.before.before.before.before.before.before.before.before.before.before.before.requires.1.0.1 (level-few t c.before.before.before.before.before.before.before.before.before.before.before.before.before.before.before.before.before.before.before.before) _ _ c.before.before.before.before.before.go_on.result c.before.before.before.before.before.go_on.auto.1.1.1.1.1.0 c.before.before.before.before.before.go_on.auto.1.1.1.1.1.1.0 (positive c.before.before.before.before.before.before.before.before.before.before.before.before.before.before.before.loop.st.left c.before.before.before.before.before.before.before.before.before.if2.false) c.before.before.before.before.before.before.step.result c.before.before.before.before.before.before.step.ensures c.before.before.before.before.before.go_on.ensures c.if3.true
+try-piece-returns-3 t c = trying_ends _ _ _ _ _ _ _ _ _ _ _ c.before.before.before.before.before.before.before.before.before.before.before.before.before.before.before.loop.invariant.1 _ c.before.before.before.before.before.before.before.before.before.before.before.before.before.next_live.ensures (not-false c.before.before.before.before.before.before.before.before.before.before.before.before.before.next_live.result.found c.before.before.before.before.before.before.before.before.before.before.before.if1.false) c.before.before.before.before.before.before.before.before.before.before.before.before.before.before.before.before.before.before.before.before.requires.1.0.1 (level-few t c.before.before.before.before.before.before.before.before.before.before.before.before.before.before.before.before.before.before.before.before) _ _ c.before.before.before.before.before.go_on.result c.before.before.before.before.before.go_on.auto.1.1.1.1.1.0 c.before.before.before.before.before.go_on.auto.1.1.1.1.1.1.0 (positive c.before.before.before.before.before.before.before.before.before.before.before.before.before.before.before.loop.st.left c.before.before.before.before.before.before.before.before.before.if2.false) c.before.before.before.before.before.before.step.result c.before.before.before.before.before.before.step.ensures c.before.before.before.before.before.go_on.ensures c.if3.true
 
 try-piece-add-from : (t : ℕ) → try-piece-lts.Need-overflow_add_from (next-live-reads.Asked, next-live-reads.Learnt, halt-reads.Asked, halt-reads.Learnt, step-reads.Asked, step-reads.Learnt, go-on-below t, go_on.Post) (try-piece-at t) try-piece.Post try-piece-Inv-loop try-piece-μ-loop
 try-piece-add-from t c = omega (arith, (c.before.before.before.before.before.before.before.before.before.before.before.before.before.before.next_live.ensures.found (not-false c.before.before.before.before.before.before.before.before.before.before.before.before.before.before.next_live.result.found c.before.before.before.before.before.before.before.before.before.before.before.before.if1.false)).small, words-few t c.before.before.before.before.before.before.before.before.before.before.before.before.before.before.before.before.before.before.before.before.before)
@@ -184,7 +184,7 @@ try-piece-loop-less : (t : ℕ) → try-piece-lts.Need-loop_smaller (next-live-r
 try-piece-loop-less t c = omega (arith, (c.before.before.before.before.before.before.before.before.before.before.before.before.before.before.next_live.ensures.found (not-false c.before.before.before.before.before.before.before.before.before.before.before.before.before.before.next_live.result.found c.before.before.before.before.before.before.before.before.before.before.before.before.if1.false)).small, c.before.before.before.before.before.before.before.before.before.before.before.before.before.before.next_live.ensures.above)
 
 try-piece-loop-again : (t : ℕ) → try-piece-lts.Need-loop_preserved (next-live-reads.Asked, next-live-reads.Learnt, halt-reads.Asked, halt-reads.Learnt, step-reads.Asked, step-reads.Learnt, go-on-below t, go_on.Post) (try-piece-at t) try-piece.Post try-piece-Inv-loop try-piece-μ-loop
-try-piece-loop-again t c = ((c.before.before.before.before.before.before.go_on.auto.1.1.1.1.1.0 ∙ c.before.before.before.before.before.before.before.before.before.before.before.before.before.before.before.before.loop.invariant.0.0, c.before.before.before.before.before.before.go_on.auto.1.1.1.1.1.1.0 ∙ c.before.before.before.before.before.before.before.before.before.before.before.before.before.before.before.before.loop.invariant.0.1), trying_goes _ _ _ _ _ _ _ _ _ _ _ _ c.before.before.before.before.before.before.before.before.before.before.before.before.before.before.before.before.loop.invariant.1 _ c.before.before.before.before.before.before.before.before.before.before.before.before.before.before.next_live.ensures (not-false c.before.before.before.before.before.before.before.before.before.before.before.before.before.before.next_live.result.found c.before.before.before.before.before.before.before.before.before.before.before.before.if1.false) c.before.before.before.before.before.before.before.before.before.before.before.before.before.before.before.before.before.before.before.before.before.requires.1.0.1 (level-few t c.before.before.before.before.before.before.before.before.before.before.before.before.before.before.before.before.before.before.before.before.before) _ _ c.before.before.before.before.before.before.go_on.result c.before.before.before.before.before.before.go_on.auto.1.1.1.1.1.0 c.before.before.before.before.before.before.go_on.auto.1.1.1.1.1.1.0 (positive c.before.before.before.before.before.before.before.before.before.before.before.before.before.before.before.before.loop.st.left c.before.before.before.before.before.before.before.before.before.before.if2.false) c.before.before.before.before.before.before.before.step.result c.before.before.before.before.before.before.before.step.ensures c.before.before.before.before.before.before.go_on.ensures c.before.if3.false)
+try-piece-loop-again t c = ((c.before.before.before.before.before.before.go_on.auto.1.1.1.1.1.0 ∙ c.before.before.before.before.before.before.before.before.before.before.before.before.before.before.before.before.loop.invariant.0.0, c.before.before.before.before.before.before.go_on.auto.1.1.1.1.1.1.0 ∙ c.before.before.before.before.before.before.before.before.before.before.before.before.before.before.before.before.loop.invariant.0.1), trying_goes _ _ _ _ _ _ _ _ _ _ _ c.before.before.before.before.before.before.before.before.before.before.before.before.before.before.before.before.loop.invariant.1 _ c.before.before.before.before.before.before.before.before.before.before.before.before.before.before.next_live.ensures (not-false c.before.before.before.before.before.before.before.before.before.before.before.before.before.before.next_live.result.found c.before.before.before.before.before.before.before.before.before.before.before.before.if1.false) c.before.before.before.before.before.before.before.before.before.before.before.before.before.before.before.before.before.before.before.before.before.requires.1.0.1 (level-few t c.before.before.before.before.before.before.before.before.before.before.before.before.before.before.before.before.before.before.before.before.before) _ _ c.before.before.before.before.before.before.go_on.result c.before.before.before.before.before.before.go_on.auto.1.1.1.1.1.0 c.before.before.before.before.before.before.go_on.auto.1.1.1.1.1.1.0 (positive c.before.before.before.before.before.before.before.before.before.before.before.before.before.before.before.before.loop.st.left c.before.before.before.before.before.before.before.before.before.before.if2.false) c.before.before.before.before.before.before.before.step.result c.before.before.before.before.before.before.before.step.ensures c.before.before.before.before.before.before.go_on.ensures c.before.if3.false)
 
 pub +go-on-try-piece-spec : {M : Type 1} → statement M
 +go-on-try-piece-spec = close μ-go-on μ-try-piece (λ t. go-on-lts.spec (
