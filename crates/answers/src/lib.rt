@@ -1,4 +1,6 @@
 // The paper's number and values of each answer, and an answer as one number.
+#![tactic(auto)]
+
 ghost use Rattle.std.specs.Prelude.{◌≡◌};
 ghost use Rattle.model.specs.Answers.{
   run_number,

@@ -1,5 +1,7 @@
 // Every small board of document 01, marked and unmarked, and those of document 02's requests, put through the compiled services. The boards, and what is
 // asked of each, are this program's input, `stdin`; a line or more for each answer is held to `stdout`.
+#![tactic(auto)]
+
 ghost use Rattle.std.specs.Prelude.{◌≤◌, length};
 
 use input::Numbers;

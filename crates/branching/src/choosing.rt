@@ -17,7 +17,7 @@ use runs::progress::Progress;
 use words::sets;
 
 // The next candidate to take, where one is found: its number, and how far the layout reaches with it.
-#[derive(Drop)]
+#[derive(Clone, Copy)]
 pub struct Next {
     pub found: bool,
     pub number: usize,

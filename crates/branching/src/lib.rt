@@ -1,2 +1,4 @@
 // Branching: the candidate that a piece takes next.
+#![tactic(auto)]
+
 pub mod choosing;

@@ -10,7 +10,7 @@ use job::View;
 use shapes::pieces::turned_to;
 
 // A dot and a rotation.
-#[derive(Drop)]
+#[derive(Clone, Copy)]
 pub struct Placed {
     pub column: usize,
     pub row: usize,

@@ -1,3 +1,5 @@
 // Candidates of an accepted job, and conflict of two placed pieces.
+#![tactic(auto)]
+
 pub mod conflicts;
 pub mod placements;

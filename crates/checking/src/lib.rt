@@ -1,4 +1,6 @@
 // The check service.
+#![tactic(auto)]
+
 ghost use Rattle.std.specs.Prelude.{◌≡◌};
 ghost use Rattle.model.specs.Services;
 

@@ -1,4 +1,6 @@
 // What the command program does between reading a job and writing its text.
+#![tactic(auto)]
+
 ghost use Rattle.std.specs.Prelude.{[], ◌++◌, ◌≡◌, ◌≤◌, length, drop};
 ghost use Rattle.model.specs.Format.{content};
 ghost use Rattle.model.specs.Output;

@@ -1,4 +1,6 @@
 // The cut service of document 02's "7/13 Pieces drawn as one outline": an outline cut into triangles, corner by corner.
+#![tactic(auto)]
+
 ghost use Rattle.std.specs.Prelude.{◌≡◌};
 ghost use Rattle.outlines.specs.Service as Service;
 

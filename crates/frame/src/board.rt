@@ -6,7 +6,7 @@ ghost use Rattle.frame.specs.Board.{BoardIn, board_unfit};
 use crate::fields;
 
 // Width, length and step as they stand in the bytes.
-#[derive(Drop)]
+#[derive(Clone, Copy)]
 pub struct Board {
     pub width: usize,
     pub length: usize,

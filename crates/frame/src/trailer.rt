@@ -6,7 +6,7 @@ ghost use Rattle.frame.specs.Trailer.{TrailerOf};
 use crate::fields;
 
 // What the trailer says: where each section begins and how much stands there, how long the job is, and whether the mark is right.
-#[derive(Drop)]
+#[derive(Clone, Copy)]
 pub struct Trailer {
     pub board: usize,
     pub classes: usize,

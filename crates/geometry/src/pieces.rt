@@ -12,7 +12,7 @@ use polygons::extents::Extents;
 
 // A piece in a table: where its first part stands, how many parts it has, and how many vertices each. Each part has 20 numbers: its box, and x and y of up
 // to eight vertices.
-#[derive(Drop)]
+#[derive(Clone, Copy)]
 pub struct Piece {
     pub first: usize,
     pub count: usize,

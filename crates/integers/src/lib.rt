@@ -1,4 +1,6 @@
 // The leaf functions on signed numbers: products of 16-bit numbers in 64 bits, and bytes read as signed.
+#![tactic(auto)]
+
 ghost use Rattle.std.specs.Prelude.{◌≡◌, ◌<◌, ◌+ℤ◌, ◌-ℤ◌, ◌*ℤ◌, length, get_or};
 ghost use Rattle.integers.specs.Byte.{signed};
 

@@ -10,7 +10,7 @@ use records::{classes, kinds};
 
 // The best-ranked class so far, if there is one: its rank, its gap, and its number if it is marked as common cut. As long as there is none, the gap is
 // that of a type in no class, and the number is 0.
-#[derive(Drop)]
+#[derive(Clone, Copy)]
 pub struct Best {
     pub found: bool,
     pub rank: usize,

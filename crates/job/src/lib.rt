@@ -1,4 +1,5 @@
 // An accepted job: the first of the sender's causes of refusal, 1 to 7, and 13 for a margin; and the view that the layers above use.
+#![tactic(auto)]
 
 ghost use Rattle.std.specs.Prelude.{◌≡◌};
 ghost use Rattle.model.specs.Format.{refusal};
@@ -14,7 +15,7 @@ mod table;
 // What the layers above use of an accepted job under a margin: numbers, and where each part's bytes begin. Of each array the first
 // `kinds` entries count; of `part_at` the entries t * 6 + i for part i of kind t. Entry t of `cuts` tells the best-ranked class of kind t, by its id
 // plus 1, if it is marked as common cut, and is 0 otherwise.
-#[derive(Drop)]
+#[derive(Clone, Copy)]
 pub struct View {
     pub width: usize,
     pub length: usize,
@@ -33,7 +34,7 @@ pub struct View {
 }
 
 // The number of the refusal, 0 if nothing is refused, and then the job's view under the margin.
-#[derive(Drop)]
+#[derive(Clone, Copy)]
 pub struct Opened {
     pub refusal: u8,
     pub view: View,

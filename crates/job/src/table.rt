@@ -8,7 +8,7 @@ ghost use Rattle.job.specs.Table.{HeadIn, Built};
 use crate::{gaps, places};
 use frame::fields;
 
-#[derive(Drop)]
+#[derive(Clone, Copy)]
 pub struct Table {
     pub pieces: usize,
     pub demands: [usize; 8],
@@ -20,7 +20,7 @@ pub struct Table {
 }
 
 // The four fields in front of a type's parts.
-#[derive(Drop)]
+#[derive(Clone, Copy)]
 pub struct Head {
     pub demand: usize,
     pub rotations: usize,

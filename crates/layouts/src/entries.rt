@@ -4,7 +4,7 @@ ghost use Rattle.words.specs.Number.{number_at};
 ghost use Rattle.layouts.specs.Entries.{EntryAt};
 
 // An entry as the layout states it: nothing is known yet of any of the numbers.
-#[derive(Drop)]
+#[derive(Clone, Copy)]
 pub struct Entry {
     pub kind: usize,
     pub column: usize,

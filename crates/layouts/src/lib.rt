@@ -1,4 +1,6 @@
 // Layouts that are handed in: which of them pass, and how long they are.
+#![tactic(auto)]
+
 mod admission;
 mod clearance;
 mod demands;

@@ -46,7 +46,7 @@ module _ {A : Type 0} (P : A → Type 0) where
   -- What one reading gives has P, so what several give has it.
   many-reads : (f : List ℕ → Got A) → ((s : List ℕ) → Reads (f s)) → (n : ℕ) (s : List ℕ) → ReadsAll n (many f n s)
   unfolding many followed
-  many-reads f each zero s = (refl, λ a h. absurd (Memᴰ.not_nil h))
+  many-reads f each zero s = (refl, λ a h. absurd (Memᴰ.not-nil h))
   many-reads f each (suc n) s = go (f s) (each s) (λ k. many-reads f each n (drop k s))
     where
       go : (g : Got A) → Reads g → ((k : ℕ) → ReadsAll n (many f n (drop k s))) → ReadsAll (suc n) (followed g (many f n) s)

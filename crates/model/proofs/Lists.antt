@@ -100,6 +100,7 @@ module _ {A : Type 0} where
   unfolding all
   all-mem p (x ∷ xs) a e (Memᴰ.head q) = subst (λ (y : A). p y ≡ true) (sym q) (and_left (p x) (all p xs) e)
   all-mem p (x ∷ xs) a e (Memᴰ.tail d) = all-mem p xs a (and_right (p x) (all p xs) e) d
+  all-mem p [] a e x'' = elim x'' [ ]
 
   -- And it counts more if it holds of an element of which the other does not.
   pub count_of-more : (p q : A → Bool) → ((x : A) → p x ≡ true → q x ≡ true) → (xs : List A) (a : A) → Memᴰ a xs → p a ≡ false → q a ≡ true
@@ -116,11 +117,13 @@ module _ {A : Type 0} where
       go true false d e h = absurd (not_both (f x d) e)
       go false true d e h = rw (d, e) (omega arith)
       go false false d e h = rw (d, e) (omega arith)
+  count_of-more p q f [] a x3 h k = elim x3 [ ]
 
 -- An element of a list of results is the result of an element.
 pub mem_map : {A B : Type 0} (f : A → B) (xs : List A) (b : B) → Memᴰ b (map f xs) → (a : A) × Memᴰ a xs × (b ≡ f a)
 mem_map f (x ∷ xs) b (Memᴰ.head q) = (x, Memᴰ.head refl, q)
 mem_map f (x ∷ xs) b (Memᴰ.tail d) = let r = mem_map f xs b d in (r.0, Memᴰ.tail r.1, r.2)
+mem_map {A = A} {B = B} f [] b x' = elim x' [ ]
 
 module _ {A : Type 0} (f : ℕ → A) where
   -- Element t of a function over numbers that rise, and over the numbers below k.
@@ -156,7 +159,7 @@ mem_reverse_aux (x ∷ xs) ys a h =
 
 -- What is in a list laid the other way round is in the list.
 pub mem_reverse : {A : Type 0} (xs : List A) (a : A) → Memᴰ a (reverse xs) → Memᴰ a xs
-mem_reverse xs a h = ⊎_elim (λ d. d) (λ d. absurd (Memᴰ.not_nil d)) (mem_reverse_aux xs [] a h)
+mem_reverse xs a h = ⊎_elim (λ d. d) (λ d. absurd (Memᴰ.not-nil d)) (mem_reverse_aux xs [] a h)
 
 -- A test of all of two lists is a test of all of the second.
 pub all_back : {A : Type 0} (p : A → Bool) (xs ys : List A) → all p (xs ++ ys) ≡ true → all p ys ≡ true

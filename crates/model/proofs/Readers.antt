@@ -74,7 +74,7 @@ module _ {A : Type 0} where
     unfolding extended
     many-stays-bad n zero s e = ap (λ i. many f i s) (add-zero n) ∙ e
     many-stays-bad n (suc l) s e =
-        ap (λ i. many f i s) (native.Mathlib.Nat.add_suc n l) ∙ many-extended (n + l) s
+        ap (λ i. many f i s) (native.Mathlib.Nat.add-suc n l) ∙ many-extended (n + l) s
         ∙ ap (λ g. extended g (λ m. f (drop m s))) (many-stays-bad n l s e)
 
     -- Where the record at which n are read cannot be read, more than n cannot be.

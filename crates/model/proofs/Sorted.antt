@@ -37,7 +37,7 @@ Ascending (n ∷ ns) = NotBelow n ns × Ascending ns
 -- The numbers that rise by one from i on: which they are, and that they rise.
 pub mem_rising : (i k m : ℕ) → Memᴰ m (rising i k) → (i ≤ m) × (m < i + k)
 unfolding rising
-mem_rising i zero m h = absurd (Memᴰ.not_nil h)
+mem_rising i zero m h = absurd (Memᴰ.not-nil h)
 mem_rising i (suc k) m h = ⊎_elim (λ e. omega arith) (λ d. let r = mem_rising (suc i) k m d in omega arith) (Memᴰ.cases_cons h)
 
 -- And each such number is among them.
@@ -54,7 +54,7 @@ module _ {A : Type 0} (p : A → Bool) where
   -- What is kept: the elements of which the test holds.
   pub mem_keep : (xs : List A) (a : A) → Memᴰ a (keep p xs) → Memᴰ a xs × (p a ≡ true)
   unfolding keep
-  mem_keep [] a h = absurd (Memᴰ.not_nil h)
+  mem_keep [] a h = absurd (Memᴰ.not-nil h)
   mem_keep (x ∷ xs) a h = go (p x) refl h (mem_keep xs a)
     where
       go : (b : Bool) → p x ≡ b → Memᴰ a (cond b (x ∷ keep p xs) (keep p xs)) → (Memᴰ a (keep p xs) → Memᴰ a xs × (p a ≡ true))
@@ -72,6 +72,7 @@ module _ {A : Type 0} (p : A → Bool) where
       go true q (inr d) r = Memᴰ.tail (r d)
       go false q (inl d) r = absurd (not_both (rw d at e) q)
       go false q (inr d) r = r d
+  keep-mem [] a h e = elim h [ ]
 
 -- What is kept of rising numbers rises.
 pub keep-rises : (p : ℕ → Bool) (i k : ℕ) → Rising (keep p (rising i k))
@@ -129,8 +130,8 @@ count-tail n ns ms t e = omega arith
 -- Two ascending lists with equal counts of every number are equal.
 pub ascending_same : (ns ms : List ℕ) → Ascending ns → Ascending ms → ((t : ℕ) → count_of (eqb t) ns ≡ count_of (eqb t) ms) → ns ≡ ms
 ascending_same [] [] p q f = refl
-ascending_same [] (m ∷ ms) p q f = absurd (Memᴰ.not_nil (counted_mem m [] (rw (f m) (counted_first m ms))))
-ascending_same (n ∷ ns) [] p q f = absurd (Memᴰ.not_nil (counted_mem n [] (rw (f n) at (counted_first n ns))))
+ascending_same [] (m ∷ ms) p q f = absurd (Memᴰ.not-nil (counted_mem m [] (rw (f m) (counted_first m ms))))
+ascending_same (n ∷ ns) [] p q f = absurd (Memᴰ.not-nil (counted_mem n [] (rw (f n) at (counted_first n ns))))
 ascending_same (n ∷ ns) (m ∷ ms) p q f = go (ascending_same ns ms p.1 q.1)
   where
     at_least : (a b : ℕ) (bs : List ℕ) → NotBelow b bs → Memᴰ a (b ∷ bs) → b ≤ a
@@ -154,13 +155,13 @@ blocks d i k = concat (map (λ t. replicate (d t) t) (rising i k))
 
 -- What is in n times a number is that number.
 mem_replicate : (n a m : ℕ) → Memᴰ m (replicate n a) → m ≡ a
-mem_replicate zero a m h = absurd (Memᴰ.not_nil h)
+mem_replicate zero a m h = absurd (Memᴰ.not-nil h)
 mem_replicate (suc n) a m h = ⊎_elim (λ e. e) (λ d. mem_replicate n a m d) (Memᴰ.cases_cons h)
 
 -- Each number of the blocks is one of the k from i on.
 pub mem_blocks : (d : ℕ → ℕ) (i k m : ℕ) → Memᴰ m (blocks d i k) → (i ≤ m) × (m < i + k)
 unfolding concat rising
-mem_blocks d i zero m h = absurd (Memᴰ.not_nil h)
+mem_blocks d i zero m h = absurd (Memᴰ.not-nil h)
 mem_blocks d i (suc k) m h =
     ⊎_elim (λ e. let q : m ≡ i = mem_replicate (d i) i m e in omega arith) (λ e. let r = mem_blocks d (suc i) k m e in omega arith)
     (Memᴰ.append_cases (replicate (d i) i) h)

@@ -1,5 +1,7 @@
 // The engine for programs in C: the six services on numbers and byte slices, each with its answer in one 64-bit number.
 // include/nest.h declares them. A slice passes as a pointer and a length.
+#![tactic(auto)]
+
 ghost use Rattle.std.specs.Prelude.{◌≡◌};
 ghost use Rattle.model.specs.Answers.{written_word, check_word, run_word};
 ghost use Rattle.model.specs.Services;

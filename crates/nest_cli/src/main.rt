@@ -1,4 +1,6 @@
 // The command program: it reads a job from standard input, and writes the text that `command::program` makes of it.
+#![tactic(auto)]
+
 use libc::{STDIN_FILENO, STDOUT_FILENO};
 
 fn main() {

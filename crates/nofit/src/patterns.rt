@@ -22,7 +22,7 @@ use shapes::pieces::{piece_of, turned_to};
 use words::{bits, numbers};
 
 // A dot of a string: the column and the row, counted from the string's first dot.
-#[derive(Drop)]
+#[derive(Clone, Copy)]
 pub struct Dot {
     pub column: usize,
     pub row: usize,
@@ -30,7 +30,7 @@ pub struct Dot {
 
 // What a string is made of: the step from dot to dot, the board's rows, how many columns pieces reach, how many rows under the placed piece's a column
 // begins (`lift`), the number below which all is blocked, the rotations that the other piece may have, and the gap of the two.
-#[derive(Drop)]
+#[derive(Clone, Copy)]
 pub struct Pattern {
     pub step: usize,
     pub rows: usize,
@@ -42,7 +42,7 @@ pub struct Pattern {
 }
 
 // Whose string it is: the placed kind and its rotation, the other kind, and 1 for the rows under the placed piece's, 0 for its row and those above.
-#[derive(Drop)]
+#[derive(Clone, Copy)]
 pub struct Pair {
     pub kind: usize,
     pub turn: usize,

@@ -23,7 +23,7 @@ use shapes::pieces::piece_of;
 // t * 8 + u; the kind of each piece; the copies of each kind left at each level, those of kind u at level l under l * 8 + u; where each kind
 // ends at the first column, turned k quarter turns under t * 4 + k; its gap, how many parts it has, and how many vertices each part has, part
 // i of kind t under t * 6 + i.
-#[derive(Drop)]
+#[derive(Clone, Copy)]
 pub struct Plan {
     pub rows: usize,
     pub step: usize,

@@ -8,7 +8,7 @@ ghost use Rattle.polygons.specs.Boxes.{box, box_of, extents_of, joined};
 use crate::vertices::coordinate;
 
 // The least and the largest x and y.
-#[derive(Drop)]
+#[derive(Clone, Copy)]
 pub struct Extents {
     pub min_x: i16,
     pub max_x: i16,

@@ -1,4 +1,6 @@
 // The read service: the content of an accepted job as numbers.
+#![tactic(auto)]
+
 ghost use Rattle.std.specs.Prelude.{◌≡◌};
 ghost use Rattle.model.specs.Services as Services;
 

@@ -1,4 +1,6 @@
 // The text that the command program prints of a run: its first line, and the lines of its layout.
+#![tactic(auto)]
+
 ghost use Rattle.std.specs.Prelude.{◌≡◌, ◌++◌, ◌+◌, ◌*◌, ◌/◌, ◌≤◌, length, drop};
 ghost use Rattle.report.specs.Text.{text_of, token_of, rendered};
 

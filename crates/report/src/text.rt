@@ -4,7 +4,7 @@ ghost use Rattle.report.specs.Placed.{Placed};
 ghost use Rattle.report.specs.Text.{number_then, text_of};
 
 // A word or a number with the byte that ends it: the bytes from `from` on. Ten digits are enough for a number, nine letters for a word.
-#[derive(Drop)]
+#[derive(Clone, Copy)]
 pub struct Token {
     pub bytes: [u8; 11],
     pub from: usize,

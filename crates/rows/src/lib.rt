@@ -1,4 +1,6 @@
 // The row service: where another kind's candidates are in conflict with a candidate.
+#![tactic(auto)]
+
 ghost use Rattle.std.specs.Prelude.{map, ◌≡◌, ◌+◌, ◌*◌, ◌≤◌, ◌<◌, length};
 ghost use Rattle.words.specs.Number.{filled};
 ghost use Rattle.model.specs.Format.{content};

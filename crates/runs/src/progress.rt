@@ -6,7 +6,7 @@ use model::{Held, RunAnswer};
 
 // How far the walk has come: what is left of the budget, what an end has to stay below, in how many words of a live set candidates lie that do so, whether a
 // layout is held, whether the walk stopped.
-#[derive(Drop)]
+#[derive(Clone, Copy)]
 pub struct Progress {
     pub left: u32,
     pub bound: usize,

@@ -1,4 +1,6 @@
 // The save service: an accepted job written anew, as document 02's "4/13 Saving a job" has it.
+#![tactic(auto)]
+
 ghost use Rattle.std.specs.Prelude.{◌≡◌};
 ghost use Rattle.model.specs.Services as Services;
 

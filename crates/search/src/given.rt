@@ -13,7 +13,7 @@ use plans::recording::copy_layout;
 use shapes::boxes::Boxes;
 
 // What the buffer of the layout gives: the number of its refusal, 0 if there is none; what an end has to stay below; whether there is a layout.
-#[derive(Drop)]
+#[derive(Clone, Copy)]
 pub struct Given {
     pub refusal: u8,
     pub bound: usize,

@@ -13,7 +13,7 @@ use job::View;
 use polygons::extents::{Extents, join, point};
 
 // The box of kind t turned k quarter turns stands at t × 4 + k.
-#[derive(Drop)]
+#[derive(Clone, Copy)]
 pub struct Boxes {
     pub of: [Extents; 32],
 }

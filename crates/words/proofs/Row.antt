@@ -28,6 +28,7 @@ bytes_of-append k (n ∷ ns) ms = rw (bytes_of-append k ns ms) (sym (append_asso
 -- The i-th number of a row, whatever follows the row.
 pub number_at-bytes_of : (k : ℕ) (ns rest : List ℕ) (i : ℕ) → i < length ns → number_at k (bytes_of k ns ++ rest) (i * k) ≡ get_or ns i 0 % 256 ^ k
 unfolding bytes_of
+number_at-bytes_of k [] rest i h = elim h [ ]
 number_at-bytes_of k (n ∷ ns) rest zero h =
     number_at-cong k (bytes k n ++ bytes_of k ns ++ rest) (bytes k n) (0 * k) 0 (λ m l. rw (zero-mul, append_assoc, zero-add) (get_or-within (bytes k n) (bytes_of k ns ++ rest) k m (length-bytes k n) l))
     ∙ number_at-whole k (bytes k n) (length-bytes k n) ∙ value-bytes k n

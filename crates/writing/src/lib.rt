@@ -1,4 +1,6 @@
 // Numbers written into the answer, two bytes each. Place `at` is counted in numbers.
+#![tactic(auto)]
+
 ghost use Rattle.std.specs.Prelude.{[], ◌∷◌, ◌≡◌, ◌+◌, ◌*◌, ◌≤◌, ◌<◌, length};
 ghost use Rattle.writing.specs.Numbers.{with_numbers_at, as_number, bytes_from, words_from};
 

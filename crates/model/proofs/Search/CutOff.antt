@@ -26,7 +26,7 @@ module _ (j : Problem) (ok : Sensible j) where
 
   -- And each of the first leads the others.
   leads_back : (front es : Layout) → Leading j (front ++ es) → (f : Entry) → Memᴰ f front → Leads j f es
-  leads_back [] es l f d = absurd (Memᴰ.not_nil d)
+  leads_back [] es l f d = absurd (Memᴰ.not-nil d)
   leads_back (g ∷ front) es l f d =
       ⊎_elim (λ q. subst (λ (x : Entry). Leads j x es) (sym q) (λ e m. l.0 e (Memᴰ.append_right front m))) (leads_back front es l.1 f) (Memᴰ.cases_cons d)
 

@@ -78,6 +78,7 @@ module _ (j : Problem) where
         → (t : ℕ) → copies_left t ts ≤ count_of (live j es b t) (get_or cs t [])
     unfolding copies_left count_of
     copies-live [] es ns c l t = omega arith
+    copies-live (u ∷ ts) es [] c l t = elim c [ ]
     copies-live (u ∷ ts) es (n ∷ ns) c l t = go (eqb t u) refl (copies-live ts (entry_of j u n ∷ es) ns c.1.2 l t)
       where
         x : Entry

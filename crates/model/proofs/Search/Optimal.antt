@@ -11,7 +11,7 @@ use native.Mathlib.Omega.{arith}
 use lib.ListN.{length, get_or}
 use Rattle.model.specs.Layout.{Entry, Layout, entry_of, layout_length}
 use Rattle.model.specs.Problem.{Problem}
-use Rattle.model.specs.Search.{Step, Searched, step, searched, then, live, forward_check, completed, try_candidates, search_pieces, search_from, pieces, length_of, latest, best_after}
+use Rattle.model.specs.Search.{Step, Searched, step, searched, then, live, forward_check, completed, try_candidates, search_pieces, search_from, pieces, length_of, latest, best_after, latest}
 use Rattle.words.proofs.Cases.{true_or_false, le_or_lt}
 use Rattle.model.proofs.Lists.{not_both}
 use Rattle.model.proofs.Sorted.{Above, Rising}
@@ -25,7 +25,7 @@ use Rattle.model.proofs.Search.ForwardCheck.{forward_keeps}
 pub best_after-append : (h : Option Layout) (ss rs : List Step) → best_after h (ss ++ rs) ≡ best_after (best_after h ss) rs
 unfolding best_after
 best_after-append h [] rs = refl
-best_after-append h (s ∷ ss) rs = best_after-append _ ss rs
+best_after-append h (s ∷ ss) rs = best_after-append (latest h s.completes) ss rs
 
 module _ (j : Problem) (G : Layout → Type 0) where
   -- A layout that a step completes, if it does, has the property G and is shorter than the one held.
@@ -105,26 +105,32 @@ module _ (j : Problem) (cs : List (List ℕ)) (t : ℕ) (ts : List ℕ) (es : La
       go : (m ≡ n) ⊎ Memᴰ m ns → C (m ∷ ms)
       go (inl e) = subst (λ (x : ℕ). C (x ∷ ms)) (sym e) (f ms (subst (λ (x : ℕ). CompletesWith j cs t ts es x ms) e c.1))
       go (inr d) = g (m ∷ ms) (d, c.1)
+  from_all n ns C f g [] c = elim c [ ]
 
   -- One candidate more takes away no completion.
   from_tail : (n : ℕ) (ns ms : List ℕ) → CompletesFrom j cs t ts ns es ms → CompletesFrom j cs t ts (n ∷ ns) es ms
   from_tail n ns (m ∷ ms) c = (Memᴰ.tail c.0, c.1)
+  from_tail n ns [] c = elim c [ ]
 
   -- Nothing begins with one of no candidates.
   from-none : (ms : List ℕ) → CompletesFrom j cs t ts [] es ms → ⊥
-  from-none (m ∷ ms) c = Memᴰ.not_nil c.0
+  from-none [] c = elim c [ ]
+  from-none (m ∷ ms) c = Memᴰ.not-nil c.0
 
   -- A completion over t and ts begins with one of the candidates of t.
   from-whole : (ms : List ℕ) → Completes j cs (t ∷ ts) es ms → CompletesFrom j cs t ts (get_or cs t []) es ms
   from-whole (m ∷ ms) c = c
+  from-whole [] c = elim c [ ]
 
   -- And the other way round.
   whole_from : (ms : List ℕ) → CompletesFrom j cs t ts (get_or cs t []) es ms → Completes j cs (t ∷ ts) es ms
   whole_from (m ∷ ms) c = c
+  whole_from [] c = elim c [ ]
 
   -- A completion that begins with n is not after one that begins with a number above it.
   from-after : (n : ℕ) (ns ks ms : List ℕ) → Above n ns → CompletesFrom j cs t ts ns es ms → NotAfter (n ∷ ks) ms
   from-after n ns ks (m ∷ ms) above c = inl (above m c.0)
+  from-after n ns ks [] above c = elim c [ ]
 
   -- A walk over the completions that begin with n, and then one over those that begin with one of ns, all above n.
   found-then : (n : ℕ) (ns : List ℕ) → Above n ns → (h h' h'' : Option Layout)

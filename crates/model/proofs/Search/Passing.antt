@@ -49,17 +49,20 @@ module _ (j : Problem) where
     pub length-entries : (ts : List ℕ) (es : Layout) (ns : List ℕ) → Completes j cs ts es ns → length (entries ts ns) ≡ length ts
     length-entries [] es ns c = refl
     length-entries (t ∷ ts) es (n ∷ ns) c = ap suc (length-entries ts (entry_of j t n ∷ es) ns c.1.2)
+    length-entries (t ∷ ts) es [] c = elim c [ ]
 
     -- Its entries have the pieces' types.
     copies-entries : (ts : List ℕ) (es : Layout) (ns : List ℕ) → Completes j cs ts es ns → (t : ℕ) → copies t (entries ts ns) ≡ count_of (eqb t) ts
     unfolding copies count_of entry_of
     copies-entries [] es ns c t = refl
     copies-entries (u ∷ ts) es (n ∷ ns) c t = rw (eqb_comm u t, copies-entries ts (entry_of j u n ∷ es) ns c.1.2 t)
+    copies-entries (u ∷ ts) es [] c t = elim c [ ]
 
     -- What is in conflict with nothing placed is not in conflict with one of what is placed.
     free-at : (es : Layout) (e f : Entry) → free j es e ≡ true → Memᴰ f es → conflict j f e ≡ false
     free-at (g ∷ es) e f h (Memᴰ.head d) = subst (λ (x : Entry). conflict j x e ≡ false) (sym d) (free-head j g es e h)
     free-at (g ∷ es) e f h (Memᴰ.tail d) = free-at es e f (free-tail j g es e h) d
+    free-at [] e f h x'' = elim x'' [ ]
 
     -- No entry of a completion is in conflict with what was placed before it.
     clear-entries : (ts : List ℕ) (es : Layout) (ns : List ℕ) → Completes j cs ts es ns → (f : Entry) → Memᴰ f es
@@ -69,6 +72,7 @@ module _ (j : Problem) where
     clear-entries (t ∷ ts) es (n ∷ ns) c f d =
         and_both (not (conflict j f (entry_of j t n))) _ (ap not (free-at es (entry_of j t n) f c.1.1 d))
         (clear-entries ts (entry_of j t n ∷ es) ns c.1.2 f (Memᴰ.tail d))
+    clear-entries (t ∷ ts) es [] c f d = elim c [ ]
 
     -- No two of its entries are in conflict.
     apart-entries : (ts : List ℕ) (es : Layout) (ns : List ℕ) → Completes j cs ts es ns → apart j (entries ts ns) ≡ true
@@ -78,6 +82,7 @@ module _ (j : Problem) where
         and_both (all (λ f. not (conflict j (entry_of j t n) f)) (entries ts ns)) _
         (clear-entries ts (entry_of j t n ∷ es) ns c.1.2 (entry_of j t n) (Memᴰ.head refl))
         (apart-entries ts (entry_of j t n ∷ es) ns c.1.2)
+    apart-entries (t ∷ ts) es [] c = elim c [ ]
 
     -- An entry placed after one of no larger type, and above the previous copy, comes after it.
     above-order : (es : Layout) (e f : Entry) → e.kind ≤ f.kind → above_previous j (e ∷ es) f ≡ true → in_order j e f ≡ true
@@ -98,6 +103,8 @@ module _ (j : Problem) where
         and_both (in_order j (entry_of j t n) (entry_of j u m)) _
         (above-order es (entry_of j t n) (entry_of j u m) (a.0 u (Memᴰ.head refl)) c.1.2.1.0)
         (ordered-entries (u ∷ ts) (entry_of j t n ∷ es) (m ∷ ns) a.1 c.1.2)
+    ordered-entries (t ∷ []) es [] a c = elim c [ ]
+    ordered-entries (t ∷ (u ∷ ts)) es [] a c = elim c [ ]
 
   -- Each entry is a candidate.
   offered-entries : (ts : List ℕ) (es : Layout) (ns : List ℕ) → Completes j (candidate_table j) ts es ns → all (is_entry j) (entries ts ns) ≡ true
@@ -105,6 +112,7 @@ module _ (j : Problem) where
   offered-entries [] es ns c = refl
   offered-entries (t ∷ ts) es (n ∷ ns) c =
       and_both (is_entry j (entry_of j t n)) _ (mem_table j t n c.0) (offered-entries ts (entry_of j t n ∷ es) ns c.1.2)
+  offered-entries (t ∷ ts) es [] c = elim c [ ]
 
   -- A completion of the empty board passes.
   pub completion_passes : (ns : List ℕ) → Completes j (candidate_table j) (pieces j.kinds) [] ns → Passes j (reverse (laid j (pieces j.kinds) ns []))
@@ -151,7 +159,7 @@ module _ (j : Problem) where
   -- The first of ordered entries comes before all others.
   ordered-first : (e : Entry) (es : Layout) → ordered j (e ∷ es) ≡ true → (f : Entry) → Memᴰ f es → Precedes j e f
   unfolding ordered
-  ordered-first e [] h f d = absurd (Memᴰ.not_nil d)
+  ordered-first e [] h f d = absurd (Memᴰ.not-nil d)
   ordered-first e (g ∷ es) h f d = go (Memᴰ.cases_cons d) (ordered-first g es (and_right (in_order j e g) _ h) f)
     where
       first : Precedes j e g
@@ -264,7 +272,7 @@ module _ (j : Problem) where
       let l = passing-leads es p in
       let q : map (λ e. e.kind) es ≡ pieces j.kinds = kinds-pieces es l.1 l.0 p.demanded in (
         subst (λ (ts : List ℕ). Completes j (candidate_table j) ts [] (map (entry_number j) es)) q
-            (completes-of ok.turned es [] l.1 l.0 (λ f d. absurd (Memᴰ.not_nil d))),
+            (completes-of ok.turned es [] l.1 l.0 (λ f d. absurd (Memᴰ.not-nil d))),
         laid_layout (pieces j.kinds) (map (entry_number j) es)
             ∙ subst (λ (ts : List ℕ). entries ts (map (entry_number j) es) ≡ es) q (entries_of ok.turned es l.1),
       )

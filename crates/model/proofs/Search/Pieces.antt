@@ -77,7 +77,7 @@ module _ (j : Problem) where
   unfolding candidates is_entry is_candidate entry_kind entry_of
   mem_table t n m =
       ⊎_elim (λ h. (mem_keep (is_candidate j t) (below (number_limit j.sheet)) n (subst (Memᴰ n) (table_at t h) m)).1)
-      (λ h. absurd (Memᴰ.not_nil (subst (Memᴰ n) (table-beyond t h) m))) (in_table t)
+      (λ h. absurd (Memᴰ.not-nil (subst (Memᴰ n) (table-beyond t h) m))) (in_table t)
 
   -- What a candidate is: four tests.
   pub admitted-parts : (k : Kind) (p : Placement) → admitted j k p ≡ true

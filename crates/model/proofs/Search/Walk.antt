@@ -27,7 +27,7 @@ use Rattle.model.proofs.Search.Pieces.{length-pieces, table-rises}
 
 -- Without a step nothing is completed.
 completed-nil : (es : Layout) → Completed [] es → ⊥
-completed-nil es c = Memᴰ.not_nil c.1
+completed-nil es c = Memᴰ.not-nil c.1
 
 -- Of steps, the first completes the layout, or one of the others does.
 completed-cases : (s : Step) (ss : List Step) (es : Layout) → Completed (s ∷ ss) es → (s.completes ≡ some es) ⊎ Completed ss es
