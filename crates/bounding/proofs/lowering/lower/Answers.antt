@@ -1,0 +1,16 @@
+-- `bounding::lowering::lower` meets its contract.
+use mathlib.Core.Path.{◌≡◌}
+use Prim.Native.Nat.{◌*◌}
+use native.Mathlib.Omega.{arith}
+use lib.ListN.{length}
+use borrow.Author.Rules.{rules}
+use Rattle.bounding.proofs.lowering.lower.Goals as goal
+
+pub trim-requires : goal.trim-requires
+trim-requires c = c.requires
+
+pub shrink-requires : goal.shrink-requires
+shrink-requires c = (c.requires.0.0, c.requires.0.1, omega (arith, c.trim.auto.1.1.1.1.0, c.requires.1.0))
+
+pub returns : goal.returns
+returns c = record { trimmed = c.trim.ensures; shrunk = rw (c.requires.0.0.types, c.requires.0.0.words) at c.shrink.ensures }

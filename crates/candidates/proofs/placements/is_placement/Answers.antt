@@ -1,0 +1,46 @@
+-- `candidates::placements::is_placement` meets its contract. Assumes nothing.
+use mathlib.Core.Bool.{true}
+use mathlib.Core.Path.{◌≡◌, ap, ◌∙◌}
+use Prim.Native.Nat.{◌<◌}
+use native.Mathlib.Omega.{arith}
+use borrow.Author.Tests.{lt-ltb}
+use lib.Dec.{ltb}
+use lib.ListN.{get_or}
+use Rattle.words.specs.Bits.{test_bit}
+use Rattle.candidates.specs.Placements.{fits_at, placeable}
+use Rattle.polygons.specs.declared.extents.Extents.{Extents}
+use Rattle.shapes.specs.Boxes.{box_at}
+use Rattle.candidates.proofs.PlacementLaws.{past_board, on_dots, turn-refused, turn-allowed, refused-turn, allowed}
+use borrow.Author.Rules.{rules}
+use Rattle.candidates.proofs.placements.is_placement.Goals as goal
+
+pub returns-then-column-view : goal.returns-then-column-view
+unfolding placeable
+returns-then-column-view c = past_board c.args.column c.args.view.columns c.args.row c.args.view.rows _ _ c.if-column-view.true
+
+pub returns-then-rotation-test_bit : goal.returns-then-rotation-test_bit
+unfolding placeable
+returns-then-rotation-test_bit c =
+    refused-turn (ltb c.args.column c.args.view.columns) (ltb c.args.row c.args.view.rows) _
+    (fits_at c.args.view (box_at c.args.boxes c.args.kind c.args.rotation) c.args.column c.args.row) (turn-refused (get_or c.args.view.rotations c.args.kind 0) c.args.rotation _ (c.requires.0.rotations _ c.requires.1) c.test_bit.ensures c.if-rotation-test_bit.true)
+
+pub box_at-requires : goal.box_at-requires
+box_at-requires c =
+    let turn : (c.args.rotation < 4)
+    × (test_bit (get_or c.args.view.rotations c.args.kind 0) c.args.rotation ≡ true) = turn-allowed (get_or c.args.view.rotations c.args.kind 0) c.args.rotation _ (c.requires.0.rotations _ c.requires.1) c.test_bit.ensures c.if-rotation-test_bit.false in
+    (omega (arith, c.requires.0.kinds, c.requires.1), (turn).0)
+
+pub stays_on_board-requires : goal.stays_on_board-requires
+stays_on_board-requires c =
+    let dots : (c.args.column < c.args.view.columns) × (c.args.row < c.args.view.rows) = on_dots c.args.column c.args.view.columns c.args.row c.args.view.rows c.if-column-view.false in
+    (c.requires.0, dots)
+
+pub returns : goal.returns
+unfolding placeable
+returns c =
+    let dots : (c.args.column < c.args.view.columns) × (c.args.row < c.args.view.rows) = on_dots c.args.column c.args.view.columns c.args.row c.args.view.rows c.if-column-view.false in
+    let turn : (c.args.rotation < 4)
+    × (test_bit (get_or c.args.view.rotations c.args.kind 0) c.args.rotation ≡ true) = turn-allowed (get_or c.args.view.rotations c.args.kind 0) c.args.rotation _ (c.requires.0.rotations _ c.requires.1) c.test_bit.ensures c.if-rotation-test_bit.false in
+    let on = dots in
+    allowed _ _ _ _ _ (lt-ltb _ _ on.0) (lt-ltb _ _ on.1) (turn).1
+    (c.stays_on_board.ensures ∙ ap (λ (b : Extents). fits_at c.args.view b c.args.column c.args.row) c.box_at.ensures)

@@ -1,0 +1,13 @@
+-- `command::program` meets its contract: its buffers are long enough for every job, so the text of the run is the program's.
+use mathlib.Core.List.{List, ◌++◌}
+use mathlib.Core.Path.{refl, ap, ◌∙◌}
+use Prim.Native.Nat.{ℕ}
+use lib.ListN.{length, drop}
+use borrow.Author.Rules.{rules}
+use Rattle.command.proofs.program.Goals as goal
+
+pub returns : goal.returns
+returns c =
+    let answered = c.respond in
+    let same = answered.ensures.1.1.1.0 refl refl refl in
+    (answered.ensures.0 ∙ ap length same, (answered.ensures.1.0 ∙ ap (λ (t : List ℕ). t ++ drop answered.result c.args.text.now) same, answered.ensures.1.1.0))

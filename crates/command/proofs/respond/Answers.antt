@@ -1,0 +1,16 @@
+-- `command::respond` meets its contract: what is rendered of the run is what the program prints of it.
+use mathlib.Core.List.{List}
+use Prim.Native.Nat.{ℕ}
+use Rattle.command.proofs.Text.{text-told, text-as, prints-program}
+use borrow.Author.Rules.{rules}
+use Rattle.command.proofs.respond.Goals as goal
+
+pub returns : goal.returns
+returns c =
+    let shown = c.pieces_shown-pieces in
+    let ran = c.run-a in
+    let put = c.render in
+    let bytes : List ℕ = c.args.bytes.now in
+    let text = text-told bytes shown.result c.args.margin c.args.budget c.args.layout.now c.args.work.now c.args.answer.now _ ran.result shown.ensures ran.ensures.0 ran.ensures.1.1 in
+    let front = text-as _ _ c.args.text.now _ put.result text put.ensures.0 put.ensures.1.0 in
+    (front.0, (front.1, (put.ensures.1.1, (λ m e n. rw (m, e) (prints-program bytes c.args.layout.now c.args.work.now c.args.answer.now n c.requires.0 c.requires.1), (ran.ensures.1.0, ran.ensures.1.1)))))

@@ -1,0 +1,18 @@
+use mathlib.Core.Bool.{◌||◌}
+use mathlib.Core.Path.{◌≡◌, sym, ap₂, ◌∙◌}
+use Prim.Native.Nat.{◌≤◌, ◌-◌}
+use native.Mathlib.Omega.{arith}
+use lib.ListN.{take}
+use Rattle.model.specs.Content.{kind_count}
+use Rattle.model.specs.Format.{content}
+use Rattle.model.specs.Lists.{any}
+use Rattle.job.specs.Soundness.{bad_kind}
+use Rattle.job.proofs.ViewLaws.{any_none, kinds-more, kinds-all}
+use borrow.Author.Rules.{rules}
+use Rattle.job.proofs.accepted.unsound.Given as goal
+
+abbrev pub invariant-loop-t : goal.invariant-loop-t
+invariant-loop-t l = ((l.t ≤ l.n) × (l.n ≡ kind_count (content l.job).kinds)) × (l.refused ≡ any bad_kind (take l.t (content l.job).kinds))
+
+abbrev pub decreases-loop-t : goal.decreases-loop-t
+decreases-loop-t l = l.n - l.t

@@ -1,0 +1,17 @@
+use mathlib.Core.Path.{refl, ◌∙◌}
+use Prim.Native.Nat.{ℕ, ◌≤◌, ◌<◌, ◌+◌, ◌*◌, ◌-◌}
+use native.Mathlib.Omega.{arith}
+use mir.Syntax.{w64}
+use mir.Val.{Fits}
+use Rattle.records.specs.Classes.{classes_from}
+use Rattle.job.specs.Table.{Built}
+use Rattle.records.proofs.NextLaws.{kind-begins, parts-few, parts-read}
+use Rattle.job.proofs.TableLaws.{Whole, sized, whole-entered, built_none, built_more, built_end, best_of_lem}
+use borrow.Author.Rules.{rules}
+use Rattle.job.proofs.table.read_kinds.Given as goal
+
+abbrev pub invariant-loop-t : goal.invariant-loop-t
+invariant-loop-t l = ((l.t ≤ l.kinds) × (l.table.pieces ≤ 255 * l.t)) × (Whole l.table × Built (classes_from l.job l.at l.n) l.list l.base l.t l.here l.table)
+
+abbrev pub decreases-loop-t : goal.decreases-loop-t
+decreases-loop-t l = l.kinds - l.t

@@ -1,0 +1,44 @@
+-- `live_sets::narrowing::narrow_word` meets its contract.
+use mathlib.Core.Bool.{Bool, ◌&&◌}
+use mathlib.Core.Path.{sym, ap, ◌∙◌}
+use Prim.Native.Nat.{◌+◌}
+use native.Mathlib.Omega.{arith}
+use lib.Dec.{leb}
+use Rattle.words.specs.Bits.{test_bit}
+use Rattle.model.specs.Format.{content}
+use Rattle.model.proofs.Margin.{candidate-less}
+use Rattle.stepping.proofs.Limits.{few_words}
+use Rattle.live_sets.proofs.Blocking.{word_kind, known_sought, known_laid}
+use Rattle.live_sets.proofs.Meeting.{stays-any-margin}
+use Rattle.live_sets.proofs.Sifting.{keeps-nothing}
+use Rattle.live_sets.proofs.narrowing.narrow_word.Goals as goal
+
+pub returns-then-w-eq0 : goal.returns-then-w-eq0
+returns-then-w-eq0 c = keeps-nothing _ c.args.w c.if-w-eq0.true
+
+pub holds-requires : goal.holds-requires
+holds-requires c =
+    known_sought _ _ _ _ _ c.requires.0.0 _ _ _ c.requires.0.1 c.requires.1.0.0 c.args.u c.args.first
+    (word_kind _ c.args.u c.args.first c.args.w c.ranges.w.fits c.if-w-eq0.false c.requires.1.1)
+
+pub strain_word-requires : goal.strain_word-requires
+strain_word-requires c =
+    (
+  known_laid _ _ _ _ _ c.requires.0.0 _ _ _ c.requires.0.1 c.requires.1.0.0 c.args.u c.args.first
+      (word_kind _ c.args.u c.args.first c.args.w c.ranges.w.fits c.if-w-eq0.false c.requires.1.1)
+      c.requires.1.0.1 (sym (ap (λ (b : Bool). leb c.args.t c.args.u && b) c.holds.ensures) ∙ c.if-t-u.true),
+  λ i e. candidate-less 0 c.args.plan.margin (omega arith) (content c.args.job.now) c.args.u (c.args.first + i)
+      (c.requires.1.1 i e),
+)
+
+-- which candidates stay does not turn on the margin
+pub returns-then-t-u : goal.returns-then-t-u
+returns-then-t-u c =
+    c.strain_word.ensures i
+    ∙ ap (λ (b : Bool). test_bit c.args.w i && b) (stays-any-margin 0 c.args.plan.margin (content c.args.job.now) c.args.t c.args.n c.args.u (c.args.first + i))
+
+pub sift_word-requires : goal.sift_word-requires
+sift_word-requires c = (((c.requires.0.0.plan, c.requires.0.0.table), c.requires.0.1), ((c.requires.1.0.0, omega (arith, c.requires.1.0.1, few_words c.args.job.now c.requires.0.0.plan.accepted)), c.requires.1.1))
+
+pub returns : goal.returns
+returns c = c.sift_word.ensures

@@ -1,0 +1,49 @@
+-- `nofit::patterns::fill_next` meets its contract. Assumes nothing.
+use mathlib.Core.Path.{sym, ap, ◌∙◌}
+use Prim.Native.Nat.{◌<◌}
+use native.Mathlib.Omega.{arith}
+use Rattle.words.specs.Bits.{test_bit}
+use Rattle.model.specs.Content.{kind_count}
+use Rattle.model.specs.Format.{content}
+use Rattle.model.proofs.Lists.{not_both}
+use Rattle.shapes.proofs.ViewLaws.{kind-in}
+use Rattle.candidates.proofs.PreparedLaws.{bounded}
+use Rattle.nofit.proofs.PairLaws.{held-few, string-filled, string-skipped, parities-kept}
+use borrow.Author.Rules.{rules}
+use Rattle.nofit.proofs.patterns.fill_next.Goals as goal
+
+pub pair_of-x-requires : goal.pair_of-x-requires
+pair_of-x-requires c =
+    let f = c.requires.0.0 in
+    ((held-few c.args.job.now c.args.view f.viewed c.args.nofit f.measures).0, omega (arith, c.requires.0.1, f.measures.few))
+
+pub is_turned-requires : goal.is_turned-requires
+is_turned-requires c =
+    let f = c.requires.0.0 in
+    let o = c.pair_of-x.ensures in
+    (bounded c.args.job.now c.args.view f.viewed, (omega (arith, o.ordered, o.exists, f.measures.kinds, f.viewed.view.kinds), o.turn))
+
+pub returns-then-is_turned : goal.returns-then-is_turned
+returns-then-is_turned c =
+    let s = c.args.job.now in
+    let w = c.args.nofit in
+    let i = c.args.i in
+    let bits = c.args.bits.now in (
+      parities-kept w i _ _ bits _ c.fill_pair.ensures c.requires.1.0,
+      string-filled (content s) w c.requires.0.0.measures.kinds i c.pair_of-x.result c.pair_of-x.ensures bits c.requires.1.1 _ c.fill_pair.ensures,
+    )
+
+pub returns-else-is_turned : goal.returns-else-is_turned
+returns-else-is_turned c =
+    let s = c.args.job.now in
+    let w = c.args.nofit in
+    let i = c.args.i in
+    let f = c.requires.0.0 in
+    let x = c.pair_of-x.result in
+    let o = c.pair_of-x.ensures in
+    let k : x.kind < kind_count (content s).kinds = omega (arith, o.ordered, o.exists, f.measures.kinds) in
+    let m = (kind-in s c.args.view f.viewed x.kind k).rotations in (
+      c.requires.1.0,
+      string-skipped (content s) w f.measures.kinds i x o c.args.bits.now c.requires.1.1
+          (λ h. not_both h (ap (λ mask. test_bit mask x.turn) (sym m) ∙ sym c.is_turned.ensures ∙ c.if-is_turned.false)),
+    )

@@ -1,0 +1,20 @@
+-- `nofit::patterns::pattern_of` meets its contract. Assumes nothing.
+use Prim.Native.Nat.{◌*◌}
+use lib.ListN.{get_or}
+use borrow.Author.Rules.{rules}
+use Rattle.nofit.proofs.patterns.pattern_of.Goals as goal
+
+pub returns : goal.returns
+returns c =
+    let v = c.args.view in
+    let w = c.args.nofit in
+    let x = c.args.x in
+    λ j. record {
+      step = v.step;
+      rows = w.rows;
+      reach = w.reach;
+      lift = x.down * w.rows;
+      below = c.bound_of.ensures j;
+      mask = get_or v.rotations x.other 0;
+      gap = c.pair_gap.ensures j;
+    }

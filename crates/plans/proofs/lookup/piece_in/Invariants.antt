@@ -1,0 +1,21 @@
+-- `plans::lookup::piece_in` meets its contract. The invariant: the sizes passed are those of the kind's parts.
+use mathlib.Core.List.{[]}
+use mathlib.Core.Path.{◌≡◌, refl}
+use Prim.Native.Nat.{ℕ, ◌+◌, ◌-◌, ◌*◌, ◌≤◌, ◌<◌}
+use native.Mathlib.Omega.{arith}
+use borrow.Author.Count.{below_none}
+use lib.ListN.{length, get_or, length-set}
+use Rattle.model.specs.Content.{kind_at}
+use Rattle.model.specs.Format.{content}
+use Rattle.job.specs.View.{PartAt, KindIn, Viewed}
+use Rattle.shapes.proofs.PieceLaws.{written-more, piece_is}
+use Rattle.shapes.proofs.ViewLaws.{few-kinds, kind-in, part_in_lem}
+use Rattle.plans.proofs.PlanLaws.{plan-viewed}
+use Rattle.plans.proofs.lookup.piece_in.Given as goal
+
+abbrev pub invariant-loop-i : goal.invariant-loop-i
+invariant-loop-i l = ((l.kind < 8) × (l.n ≤ 6) × (l.i ≤ l.n)) × (l.n ≡ length (kind_at (content l.job).kinds l.kind).parts) × (length l.sizes ≡ 6)
+    × ((j : ℕ) → j < l.i → get_or l.sizes j 0 ≡ length (get_or (kind_at (content l.job).kinds l.kind).parts j []))
+
+abbrev pub decreases-loop-i : goal.decreases-loop-i
+decreases-loop-i l = l.n - l.i

@@ -1,0 +1,18 @@
+-- `plans::plan::shared_cuts` meets its contract.
+use mathlib.Core.Bool.{Bool}
+use mathlib.Core.Path.{◌≡◌, sym, ap, ◌∙◌}
+use Prim.Native.Nat.{ℕ, ◌/◌, ◌%◌, ◌-◌, ◌≤◌}
+use native.Mathlib.Nat.{mod-eq_of_lt}
+use native.Mathlib.Omega.{arith}
+use lib.ListN.{get_or}
+use Rattle.words.specs.Bits.{bits_where, assigned_bit}
+use Rattle.words.proofs.Bit.{bits_where-none, bits_where-next}
+use Rattle.job.specs.Gaps.{same_cut}
+use borrow.Author.Rules.{rules}
+use Rattle.plans.proofs.plan.shared_cuts.Given as goal
+
+abbrev pub invariant-loop-x : goal.invariant-loop-x
+invariant-loop-x l = (l.x ≤ 64) × (l.shared ≡ bits_where l.x (λ y. same_cut (get_or l.view.cuts (y / 8) 0) (get_or l.view.cuts (y % 8) 0)))
+
+abbrev pub decreases-loop-x : goal.decreases-loop-x
+decreases-loop-x l = 64 - l.x

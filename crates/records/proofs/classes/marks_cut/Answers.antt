@@ -1,0 +1,7 @@
+use Rattle.model.specs.Format.{marks_cut}
+use borrow.Author.Rules.{rules}
+use Rattle.records.proofs.classes.marks_cut.Goals as goal
+
+pub returns : goal.returns
+unfolding marks_cut
+returns c = c.in_range.ensures

@@ -1,0 +1,16 @@
+use Prim.Native.Nat.{◌≤◌, ◌*◌, ◌-◌}
+use native.Mathlib.Omega.{arith}
+use lib.ListN.{length}
+use Rattle.model.specs.Content.{no_kind}
+use Rattle.model.specs.Format.{read_kind}
+use Rattle.records.specs.Classes.{classes_from}
+use Rattle.records.proofs.RecordLaws.{kind-none, stop, tail_length}
+use Rattle.records.proofs.KindLaws.{Seen, seen_none, seen_more, list_bad, list_read, kind-room}
+use borrow.Author.Rules.{rules}
+use Rattle.records.proofs.kinds.unfit.Given as goal
+
+abbrev pub invariant-loop-t : goal.invariant-loop-t
+invariant-loop-t l = ((l.t ≤ l.kinds) × (l.here ≤ length l.list) × (l.demand ≤ 255 * l.t)) × Seen (classes_from l.job l.at l.n) l.list l.t l.here l.demand l.present
+
+abbrev pub decreases-loop-t : goal.decreases-loop-t
+decreases-loop-t l = l.kinds - l.t

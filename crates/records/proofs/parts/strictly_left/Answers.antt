@@ -1,0 +1,12 @@
+use mathlib.Core.Path.{◌∙◌, ap}
+use lib.IntN.{pos}
+use lib.Signed.{lt_z}
+use mir.Syntax.{w64}
+use mir.ValLaws.{to_z-of_z}
+use Rattle.model.specs.Geometry.{strictly_left}
+use borrow.Author.Rules.{rules}
+use Rattle.records.proofs.parts.strictly_left.Goals as goal
+
+pub returns : goal.returns
+unfolding strictly_left
+returns c = ap (lt_z (pos 0)) (to_z-of_z w64 c.turn.result (record { sfits = c.turn.type_inv }) ∙ c.turn.ensures)

@@ -1,0 +1,144 @@
+-- `search::run::run_from` meets its contract: it answers and leaves what the model says of a run from this layout, or from none.
+use mathlib.Core.Option.{Option}
+use mathlib.Core.Path.{◌≡◌, sym, ap, ◌∙◌, subst}
+use Prim.Native.Nat.{ℕ, ◌*◌, ◌≤◌}
+use native.Mathlib.Omega.{arith}
+use borrow.Author.Rules.{rules}
+use lib.ListN.{length}
+use Rattle.words.specs.Number.{count}
+use Rattle.model.specs.Content.{piece_count}
+use Rattle.model.specs.Format.{content}
+use Rattle.model.specs.Layout.{Layout}
+use Rattle.model.specs.Problem.{Problem}
+use Rattle.model.specs.Services.{numbers_in, work_words, with_layout, given_layout}
+use Rattle.model.proofs.Accepted.{accepted-sensible}
+use Rattle.job.specs.View.{problem_of}
+use Rattle.stepping.proofs.Limits.{few-pieces, short-board}
+use Rattle.walks.specs.Walk.{held_of}
+use Rattle.root.specs.Walked.{RoomFor, Begun, Walked}
+use Rattle.search.proofs.Beginning.{begin_laid, begin_entries, given_whole, held-again, begins}
+use Rattle.search.proofs.Running.{from-few-words, from-few-numbers, from-room, from-done, left-within}
+use Rattle.search.proofs.run.run_from.Goals as goal
+
+pub work_words-words-requires : goal.work_words-words-requires
+work_words-words-requires c = c.requires.0.viewed
+
+pub returns-then-lacks_words : goal.returns-then-lacks_words
+returns-then-lacks_words c =
+    let problem : Problem = problem_of c.args.job.now c.args.view in
+    let begin : Option Layout = (let problem : Problem = problem_of c.args.job.now c.args.view in
+    given_layout (problem) c.args.layout.now) in
+    let problem : Problem = problem_of c.args.job.now c.args.view in
+    let words_are : c.work_words-words.result ≡ work_words (problem) = c.work_words-words.ensures.0 in
+    from-few-words (problem) (begin) _ _ _ c.work_words-words.result (words_are) (sym c.lacks_words.ensures ∙ c.if-lacks_words.true)
+
+pub overflow_mul-view : goal.overflow_mul-view
+overflow_mul-view c =
+    let numbers_are : 4 * c.args.view.pieces ≡ 4 * piece_count (content c.args.job.now).kinds = ap (λ (n : ℕ). 4 * n) c.requires.0.viewed.view.pieces in
+    omega (arith, numbers_are, few-pieces c.args.job.now c.requires.0.viewed.accepted)
+
+pub returns-then-lacks_numbers : goal.returns-then-lacks_numbers
+returns-then-lacks_numbers c =
+    let problem : Problem = problem_of c.args.job.now c.args.view in
+    let begin : Option Layout = (let problem : Problem = problem_of c.args.job.now c.args.view in
+    given_layout (problem) c.args.layout.now) in
+    let numbers_are : 4 * c.args.view.pieces ≡ 4 * piece_count (content c.args.job.now).kinds = ap (λ (n : ℕ). 4 * n) c.requires.0.viewed.view.pieces in
+    let problem : Problem = problem_of c.args.job.now c.args.view in
+    let words_are : c.work_words-words.result ≡ work_words (problem) = c.work_words-words.ensures.0 in
+    from-few-numbers (problem) (begin) _ _ _ c.work_words-words.result (words_are) _ (numbers_are) (sym c.lacks_words.ensures ∙ c.if-lacks_words.false) (sym c.lacks_numbers.ensures ∙ c.if-lacks_numbers.true)
+
+pub hold-requires : goal.hold-requires
+unfolding numbers_in count
+hold-requires c =
+    let problem : Problem = problem_of c.args.job.now c.args.view in
+    let problem : Problem = problem_of c.args.job.now c.args.view in
+    let room : RoomFor (problem) c.args.work.now c.args.answer.now = (let problem : Problem = problem_of c.args.job.now c.args.view in
+    let begin : Option Layout = (let problem : Problem = problem_of c.args.job.now c.args.view in
+    given_layout (problem) c.args.layout.now) in
+    let numbers_are : 4 * c.args.view.pieces ≡ 4 * piece_count (content c.args.job.now).kinds = ap (λ (n : ℕ). 4 * n) c.requires.0.viewed.view.pieces in
+    let problem : Problem = problem_of c.args.job.now c.args.view in
+    let words_are : c.work_words-words.result ≡ work_words (problem) = c.work_words-words.ensures.0 in
+    from-room (problem) (begin) c.args.budget c.args.work.now c.args.answer.now c.work_words-words.result (words_are) _ (numbers_are) (sym c.lacks_words.ensures ∙ c.if-lacks_words.false) (sym c.lacks_numbers.ensures ∙ c.if-lacks_numbers.false)) in
+    (
+  (c.requires.0.viewed, omega (arith, c.requires.0.viewed.view.pieces, (room).out-fits)),
+  λ f. subst (λ (n : ℕ). n * 8 ≤ length c.args.layout.now) (sym c.requires.0.viewed.view.pieces) (given_whole (problem) c.args.layout.now c.args.given c.requires.1.0 c.requires.1.1 f),
+)
+
+pub walk-st-requires : goal.walk-st-requires
+walk-st-requires c =
+    let problem : Problem = problem_of c.args.job.now c.args.view in
+    let ready : RoomFor (problem) c.args.work.now c.hold.new.1.1.1.1.0 × Begun (problem) c.args.given.bound c.args.given.found c.hold.new.1.1.1.1.0 = (let problem : Problem = problem_of c.args.job.now c.args.view in
+    let room : RoomFor (problem) c.args.work.now c.args.answer.now = (let problem : Problem = problem_of c.args.job.now c.args.view in
+    let begin : Option Layout = (let problem : Problem = problem_of c.args.job.now c.args.view in
+    given_layout (problem) c.args.layout.now) in
+    let numbers_are : 4 * c.args.view.pieces ≡ 4 * piece_count (content c.args.job.now).kinds = ap (λ (n : ℕ). 4 * n) c.requires.0.viewed.view.pieces in
+    let problem : Problem = problem_of c.args.job.now c.args.view in
+    let words_are : c.work_words-words.result ≡ work_words (problem) = c.work_words-words.ensures.0 in
+    from-room (problem) (begin) c.args.budget c.args.work.now c.args.answer.now c.work_words-words.result (words_are) _ (numbers_are) (sym c.lacks_words.ensures ∙ c.if-lacks_words.false) (sym c.lacks_numbers.ensures ∙ c.if-lacks_numbers.false)) in
+    let begin : Option Layout = (let problem : Problem = problem_of c.args.job.now c.args.view in
+    given_layout (problem) c.args.layout.now) in
+    let holds : c.hold.new.1.1.1.1.0 ≡ with_layout (begin) c.args.answer.now = c.hold.ensures ∙ ap (λ (h : Option Layout). with_layout h c.args.answer.now) (c.requires.1.0.held c.requires.1.1) in
+    let k : length c.hold.new.1.1.1.1.0 ≡ length c.args.answer.now = c.hold.auto.1.1.1.1.0 in (
+      record { work-fits = (room).work-fits; out-fits = omega (arith, k, (room).out-fits) },
+      rw (holds) (begins c.args.job.now c.args.view.margin c.requires.0.viewed.accepted c.args.layout.now c.args.answer.now c.args.given c.requires.1.0 c.requires.1.1),
+    )) in
+    (c.requires.0, ready)
+
+pub clear-requires : goal.clear-requires
+clear-requires c =
+    let problem : Problem = problem_of c.args.job.now c.args.view in
+    let words_are : c.work_words-words.result ≡ work_words (problem) = c.work_words-words.ensures.0 in
+    let problem : Problem = problem_of c.args.job.now c.args.view in
+    let room : RoomFor (problem) c.args.work.now c.args.answer.now = (let problem : Problem = problem_of c.args.job.now c.args.view in
+    let begin : Option Layout = (let problem : Problem = problem_of c.args.job.now c.args.view in
+    given_layout (problem) c.args.layout.now) in
+    let numbers_are : 4 * c.args.view.pieces ≡ 4 * piece_count (content c.args.job.now).kinds = ap (λ (n : ℕ). 4 * n) c.requires.0.viewed.view.pieces in
+    let problem : Problem = problem_of c.args.job.now c.args.view in
+    let words_are : c.work_words-words.result ≡ work_words (problem) = c.work_words-words.ensures.0 in
+    from-room (problem) (begin) c.args.budget c.args.work.now c.args.answer.now c.work_words-words.result (words_are) _ (numbers_are) (sym c.lacks_words.ensures ∙ c.if-lacks_words.false) (sym c.lacks_numbers.ensures ∙ c.if-lacks_numbers.false)) in
+    let k : length c.walk-st.new.1.1.1.1.1.1.1.0 ≡ length c.args.work.now = c.walk-st.auto.1.1.1.1.1.1.1.0 in
+    omega (arith, k, (room).work-fits, words_are)
+
+pub tell-requires : goal.tell-requires
+tell-requires c =
+    let problem : Problem = problem_of c.args.job.now c.args.view in
+    let begin : Option Layout = (let problem : Problem = problem_of c.args.job.now c.args.view in
+    given_layout (problem) c.args.layout.now) in
+    let walked : Walked (problem) (begin) c.args.budget c.args.work.now c.hold.new.1.1.1.1.0 c.walk-st.new.1.1.1.1.1.1.1.0 c.walk-st.new.1.1.1.1.1.1.1.1.0 c.walk-st.result = (let problem : Problem = problem_of c.args.job.now c.args.view in
+    let begin : Option Layout = (let problem : Problem = problem_of c.args.job.now c.args.view in
+    given_layout (problem) c.args.layout.now) in
+    let holds : c.hold.new.1.1.1.1.0 ≡ with_layout (begin) c.args.answer.now = c.hold.ensures ∙ ap (λ (h : Option Layout). with_layout h c.args.answer.now) (c.requires.1.0.held c.requires.1.1) in
+    subst (λ (h : Option Layout). Walked (problem) h c.args.budget c.args.work.now c.hold.new.1.1.1.1.0 c.walk-st.new.1.1.1.1.1.1.1.0 c.walk-st.new.1.1.1.1.1.1.1.1.0 c.walk-st.result)
+    (ap (held_of (problem) c.args.given.found) (holds) ∙ held-again c.args.job.now c.args.view.margin c.requires.0.viewed.accepted c.args.layout.now c.args.answer.now c.args.given c.requires.1.0 c.requires.1.1) c.walk-st.ensures) in
+    (left-within _ _ _ _ _ _ _ _ (walked), (c.requires.0.viewed.view.margin, omega (arith, (walked).lowered, short-board c.args.job.now c.requires.0.viewed.accepted)))
+
+pub shape_of-work : goal.shape_of-work
+shape_of-work c = c.clear.auto.0 ∙ c.walk-st.auto.1.1.1.1.1.1.1.0
+
+pub shape_of-answer : goal.shape_of-answer
+shape_of-answer c = c.walk-st.auto.1.1.1.1.1.1.1.1.0 ∙ c.hold.auto.1.1.1.1.0
+
+pub returns : goal.returns
+returns c =
+    let problem : Problem = problem_of c.args.job.now c.args.view in
+    let begin : Option Layout = (let problem : Problem = problem_of c.args.job.now c.args.view in
+    given_layout (problem) c.args.layout.now) in
+    let numbers_are : 4 * c.args.view.pieces ≡ 4 * piece_count (content c.args.job.now).kinds = ap (λ (n : ℕ). 4 * n) c.requires.0.viewed.view.pieces in
+    let problem : Problem = problem_of c.args.job.now c.args.view in
+    let words_are : c.work_words-words.result ≡ work_words (problem) = c.work_words-words.ensures.0 in
+    let begin : Option Layout = (let problem : Problem = problem_of c.args.job.now c.args.view in
+    given_layout (problem) c.args.layout.now) in
+    let holds : c.hold.new.1.1.1.1.0 ≡ with_layout (begin) c.args.answer.now = c.hold.ensures ∙ ap (λ (h : Option Layout). with_layout h c.args.answer.now) (c.requires.1.0.held c.requires.1.1) in
+    let problem : Problem = problem_of c.args.job.now c.args.view in
+    let begin : Option Layout = (let problem : Problem = problem_of c.args.job.now c.args.view in
+    given_layout (problem) c.args.layout.now) in
+    let walked : Walked (problem) (begin) c.args.budget c.args.work.now c.hold.new.1.1.1.1.0 c.walk-st.new.1.1.1.1.1.1.1.0 c.walk-st.new.1.1.1.1.1.1.1.1.0 c.walk-st.result = (let problem : Problem = problem_of c.args.job.now c.args.view in
+    let begin : Option Layout = (let problem : Problem = problem_of c.args.job.now c.args.view in
+    given_layout (problem) c.args.layout.now) in
+    let holds : c.hold.new.1.1.1.1.0 ≡ with_layout (begin) c.args.answer.now = c.hold.ensures ∙ ap (λ (h : Option Layout). with_layout h c.args.answer.now) (c.requires.1.0.held c.requires.1.1) in
+    subst (λ (h : Option Layout). Walked (problem) h c.args.budget c.args.work.now c.hold.new.1.1.1.1.0 c.walk-st.new.1.1.1.1.1.1.1.0 c.walk-st.new.1.1.1.1.1.1.1.1.0 c.walk-st.result)
+    (ap (held_of (problem) c.args.given.found) (holds) ∙ held-again c.args.job.now c.args.view.margin c.requires.0.viewed.accepted c.args.layout.now c.args.answer.now c.args.given c.requires.1.0 c.requires.1.1) c.walk-st.ensures) in
+    from-done (problem) (begin) _ _ _ c.work_words-words.result (words_are) _ (numbers_are) (sym c.lacks_words.ensures ∙ c.if-lacks_words.false) (sym c.lacks_numbers.ensures ∙ c.if-lacks_numbers.false)
+    (accepted-sensible c.args.job.now c.args.view.margin c.requires.0.viewed.accepted).pieced
+    (begin_entries (problem) (begin) (begin_laid (problem) c.args.layout.now c.args.given c.requires.1.0 c.requires.1.1))
+    _ _ _ _ _ c.walk-st.result (holds) (walked) c.tell.ensures c.clear.ensures

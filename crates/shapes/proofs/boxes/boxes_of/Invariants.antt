@@ -1,0 +1,24 @@
+-- `shapes::boxes::boxes_of` meets its contract. Assumes nothing.
+use mathlib.Core.List.{List}
+use mathlib.Core.Path.{◌≡◌, refl, sym, ap, subst, ◌∙◌}
+use Prim.Native.Nat.{ℕ, ◌+◌, ◌-◌, ◌*◌, ◌/◌, ◌%◌, ◌≤◌, ◌<◌}
+use native.Mathlib.Omega.{arith}
+use borrow.Author.Count.{below_none}
+use borrow.Author.Rules.{rules}
+use lib.ListN.{length, get_or, length-set}
+use Rattle.model.specs.Content.{Part}
+use Rattle.model.specs.Lists.{concat}
+use Rattle.polygons.specs.Boxes.{extents_of}
+use Rattle.geometry.specs.Pieces.{Standing, parts_in}
+use Rattle.geometry.specs.declared.pieces.Piece.{Piece}
+use Rattle.shapes.specs.Boxes.{no_box, turned_vertices}
+use Rattle.shapes.specs.Pieces.{Turnable}
+use Rattle.shapes.proofs.PieceLaws.{written-more, parts-turned, piece_turnable}
+use Rattle.shapes.proofs.ViewLaws.{few-kinds}
+use Rattle.shapes.proofs.boxes.boxes_of.Given as goal
+
+abbrev pub invariant-loop-n : goal.invariant-loop-n
+invariant-loop-n l = ((l.kinds ≤ 8) × (l.n ≤ l.kinds * 4)) × (length l.of ≡ 32) × ((m : ℕ) → m < l.n → get_or l.of m no_box ≡ extents_of (turned_vertices l.job (m / 4) (m % 4)))
+
+abbrev pub decreases-loop-n : goal.decreases-loop-n
+decreases-loop-n l = l.kinds * 4 - l.n

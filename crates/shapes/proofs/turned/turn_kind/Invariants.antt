@@ -1,0 +1,19 @@
+-- `shapes::turned::turn_kind` meets its contract. Assumes nothing.
+use mathlib.Core.List.{[]}
+use mathlib.Core.Path.{◌≡◌, ◌∙◌}
+use Prim.Native.Nat.{◌+◌, ◌-◌, ◌*◌, ◌≤◌, ◌<◌}
+use native.Mathlib.Omega.{arith}
+use borrow.Author.Rules.{rules}
+use lib.ListN.{length, get_or}
+use Rattle.model.specs.Content.{kind_at}
+use Rattle.model.specs.Format.{content}
+use Rattle.job.specs.View.{PartAt}
+use Rattle.shapes.proofs.TurnLaws.{KindTurnedTo, kind-none, kind-more, kind-all}
+use Rattle.shapes.proofs.ViewLaws.{few-kinds, kind-in, part_in_lem, part-short, part-read-at}
+use Rattle.shapes.proofs.turned.turn_kind.Given as goal
+
+abbrev pub invariant-loop-i : goal.invariant-loop-i
+invariant-loop-i l = ((l.kind < 8) × (l.n ≤ 6) × (l.i ≤ l.n)) × (l.n ≡ length (kind_at (content l.job).kinds l.kind).parts) × (length l.turned ≡ 4096) × KindTurnedTo l.job l.kind l.initial.turned l.turned l.i
+
+abbrev pub decreases-loop-i : goal.decreases-loop-i
+decreases-loop-i l = l.n - l.i

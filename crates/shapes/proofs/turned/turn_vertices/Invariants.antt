@@ -1,0 +1,18 @@
+-- `shapes::turned::turn_vertices` meets its contract. Assumes nothing.
+use mathlib.Core.List.{map}
+use mathlib.Core.Path.{◌≡◌, refl, sym, ap, ◌∙◌}
+use Prim.Native.Nat.{◌+◌, ◌*◌, ◌-◌, ◌≤◌}
+use native.Mathlib.Omega.{arith}
+use borrow.Author.Rules.{rules}
+use lib.ListN.{length, drop}
+use Rattle.model.specs.Format.{vertices}
+use Rattle.model.specs.Geometry.{rotated}
+use Rattle.shapes.specs.Turned.{vertex_in, with_part, with_vertex}
+use Rattle.shapes.proofs.TurnLaws.{written_none, written-more}
+use Rattle.shapes.proofs.turned.turn_vertices.Given as goal
+
+abbrev pub invariant-loop-m : goal.invariant-loop-m
+invariant-loop-m l = (l.m ≤ l.n) × (length l.turned ≡ length l.initial.turned) × (l.turned ≡ with_part l.initial.turned l.to (map (rotated l.k) (vertices l.m (drop l.from l.job))))
+
+abbrev pub decreases-loop-m : goal.decreases-loop-m
+decreases-loop-m l = l.n - l.m
