@@ -95,6 +95,7 @@ bound-two a b (e ∷ es) = order 2 (λ u v. (# (pos 2) ≲ v) ∷ [] ⊢ # (pos 
 
 bound-in : (a b : ℤ) (es : List Edge) (e : Edge) → In e es → (lin a b e *ℤ lin a b e +ℤ pos 2) ≤ℤ bound a b es
 unfolding bound
+bound-in a b [] k x' = elim x' [ ]
 bound-in a b (e ∷ es) k here = order 2 (λ u v. (# (pos 2) ≲ v) ∷ [] ⊢ u ⊠ u ⊞ # (pos 2) ≲ u ⊠ u ⊞ v by hyp 0) tt (lin a b e) (bound a b es) (bound-two a b es)
 bound-in a b (e ∷ es) k (there i) = order 3 (λ u v w. (w ⊠ w ⊞ # (pos 2) ≲ v) ∷ [] ⊢ w ⊠ w ⊞ # (pos 2) ≲ u ⊠ u ⊞ v by hyp 0 ⊕ sqr u) tt (lin a b e) (bound a b es) (lin a b k) (bound-in a b es k i)
 

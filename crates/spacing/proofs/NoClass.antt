@@ -32,7 +32,7 @@ use Rattle.spacing.proofs.SameGaps.{kind-count-same, gaps-decide}
 -- What is the largest gap by the definition is so.
 largest-is : (cs : List SpacingClass) → LargestOf cs (largest_gap cs)
 unfolding largest_gap largest
-largest-is [] = record { most = λ c h. absurd (Memᴰ.not_nil h); taken = inl (refl, refl) }
+largest-is [] = record { most = λ c h. absurd (Memᴰ.not-nil h); taken = inl (refl, refl) }
 largest-is (c ∷ cs) = go (largest-is cs) (le_or_lt (largest_gap cs) c.gap)
   where
     go : LargestOf cs (largest_gap cs) → (largest_gap cs ≤ c.gap) ⊎ (c.gap < largest_gap cs) → LargestOf (c ∷ cs) (max c.gap (largest_gap cs))

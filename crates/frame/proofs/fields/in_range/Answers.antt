@@ -1,0 +1,7 @@
+use mathlib.Core.Path.{refl}
+use Rattle.model.specs.Lists.{between}
+use Rattle.frame.proofs.fields.in_range.Goals as goal
+
+pub returns : goal.returns
+unfolding between
+returns c = refl
