@@ -156,6 +156,8 @@ fillers_gaps s t f a b ha hb = go _ _ _ _ refl refl (f a ha) (f b hb)
 
     go : (x y x' y' : Option SpacingClass) → best_class cs k ≡ x' → best_class cs m ≡ y' → FillerPut x x' → FillerPut y y'
         → cond (same_marked x' y') 0 (max (gap_or (largest_gap cs) x') (gap_or (largest_gap cs) y')) ≡ cond (same_marked x y) 0 (max (gap_or 0 x) (gap_or 0 y))
+    go _ y none _ ec ed x6 _ = elim x6 [ ]
+    go _ y (some c) none ec ed _ x12 = elim x12 [ ]
     go _ _ (some c) (some d) ec ed keeps keeps = refl
     go _ _ (some c) (some d) ec ed keeps (put z) = either (same_marked (some c) (some d)) _ _ (λ e. let same = one c d ec ed e in omega arith) (omega arith)
     go _ _ (some c) (some d) ec ed (put z) keeps = either (same_marked (some c) (some d)) _ _ (λ e. let same = one c d ec ed e in omega arith) (omega arith)

@@ -17,5 +17,5 @@ coordinate-requires-2 c = (c.requires, omega arith)
 pub returns : goal.returns
 returns c =
     c.point.ensures
-    ∙ read₂ w16 c.coordinate.result c.coordinate-2.result (sfits_of c.coordinate.type_inv) (sfits_of c.coordinate-2.type_inv) (λ c c. box c c c c)
+    ∙ read₂ w16 c.coordinate.result c.coordinate-2.result (sfits_of c.coordinate.type_inv) (sfits_of c.coordinate-2.type_inv) (λ x y. box x x y y)
     ∙ same-box c.coordinate.ensures c.coordinate.ensures c.coordinate-2.ensures c.coordinate-2.ensures
