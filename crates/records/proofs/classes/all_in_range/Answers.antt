@@ -1,10 +1,7 @@
-use mathlib.Core.Path.{◌≡◌, ◌∙◌}
-use Prim.Native.Nat.{◌≤◌, ◌-◌}
+use mathlib.Core.Path.{◌∙◌}
 use native.Mathlib.Omega.{arith}
-use Rattle.model.specs.Lists.{all, below}
 use Rattle.records.proofs.ClassLaws.{in_range_at, range_all}
 use Rattle.records.proofs.Loops.{all_none, all-next, all_end}
-use borrow.Author.Rules.{rules}
 use Rattle.records.proofs.classes.all_in_range.Goals as goal
 
 pub loop-j-init : goal.loop-j-init

@@ -1,10 +1,7 @@
-use mathlib.Core.Path.{◌≡◌, ◌∙◌}
+use mathlib.Core.Path.{◌≡◌}
 use Prim.Native.Nat.{◌≤◌, ◌-◌}
-use native.Mathlib.Omega.{arith}
 use Rattle.model.specs.Lists.{all, below}
-use Rattle.records.proofs.ClassLaws.{in_range_at, range_all}
-use Rattle.records.proofs.Loops.{all_none, all-next, all_end}
-use borrow.Author.Rules.{rules}
+use Rattle.records.proofs.ClassLaws.{in_range_at}
 use Rattle.records.proofs.classes.all_in_range.Given as goal
 
 abbrev pub invariant-loop-j : goal.invariant-loop-j

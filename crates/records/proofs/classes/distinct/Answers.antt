@@ -1,12 +1,9 @@
-use mathlib.Core.Path.{◌≡◌, ap, ◌∙◌}
-use Prim.Native.Nat.{◌≤◌, ◌-◌}
+use mathlib.Core.Path.{ap, ◌∙◌}
 use native.Mathlib.Omega.{arith}
 use lib.Dec.{eqb}
-use Rattle.model.specs.Lists.{all, below}
 use Rattle.records.specs.Classes.{index_of}
 use Rattle.records.proofs.ClassLaws.{is_first, distinct-firsts}
 use Rattle.records.proofs.Loops.{all_none, all-next, all_end}
-use borrow.Author.Rules.{rules}
 use Rattle.records.proofs.classes.distinct.Goals as goal
 
 pub loop-j-init : goal.loop-j-init

@@ -1,9 +1,6 @@
-use mathlib.Core.Path.{◌≡◌, sym, ◌∙◌}
-use Prim.Native.Nat.{◌≤◌, ◌-◌}
+use mathlib.Core.Path.{sym, ◌∙◌}
 use native.Mathlib.Omega.{arith}
-use Rattle.records.specs.Classes.{first_from, has_id, index_of}
 use Rattle.records.proofs.ClassLaws.{index_start, index_found, index_next, index_none}
-use borrow.Author.Rules.{rules}
 use Rattle.records.proofs.classes.find.Goals as goal
 
 pub loop-j-init : goal.loop-j-init

@@ -1,9 +1,6 @@
-use mathlib.Core.Path.{◌≡◌, sym, ◌∙◌}
+use mathlib.Core.Path.{◌≡◌}
 use Prim.Native.Nat.{◌≤◌, ◌-◌}
-use native.Mathlib.Omega.{arith}
 use Rattle.records.specs.Classes.{first_from, has_id, index_of}
-use Rattle.records.proofs.ClassLaws.{index_start, index_found, index_next, index_none}
-use borrow.Author.Rules.{rules}
 use Rattle.records.proofs.classes.find.Given as goal
 
 abbrev pub invariant-loop-j : goal.invariant-loop-j

@@ -2,7 +2,6 @@ use mathlib.Core.Bool.{true, false}
 use mathlib.Core.Path.{sym, ◌∙◌}
 use native.Mathlib.Omega.{arith}
 use Rattle.model.proofs.CommonCut.{meant, marks}
-use borrow.Author.Rules.{rules}
 use Rattle.records.proofs.classes.gap_meant.Goals as goal
 
 -- A byte that marks is at least 128.

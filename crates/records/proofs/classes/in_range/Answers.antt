@@ -2,7 +2,6 @@ use mathlib.Core.Bool.{◌&&◌}
 use mathlib.Core.Path.{ap, ap₂, ◌∙◌}
 use lib.Dec.{leb}
 use Rattle.model.specs.Format.{gap_meant, class_in_range}
-use borrow.Author.Rules.{rules}
 use Rattle.records.proofs.classes.in_range.Goals as goal
 
 pub returns : goal.returns

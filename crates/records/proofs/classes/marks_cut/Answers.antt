@@ -1,5 +1,4 @@
 use Rattle.model.specs.Format.{marks_cut}
-use borrow.Author.Rules.{rules}
 use Rattle.records.proofs.classes.marks_cut.Goals as goal
 
 pub returns : goal.returns

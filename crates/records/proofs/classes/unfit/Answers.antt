@@ -2,7 +2,6 @@ use mathlib.Core.Bool.{not, ◌||◌}
 use mathlib.Core.Path.{ap, ap₂}
 use lib.Dec.{ltb}
 use Rattle.records.specs.Classes.{classes_unfit}
-use borrow.Author.Rules.{rules}
 use Rattle.records.proofs.classes.unfit.Goals as goal
 
 pub returns : goal.returns

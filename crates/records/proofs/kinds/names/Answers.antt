@@ -1,7 +1,6 @@
 use mathlib.Core.Path.{ap, ◌∙◌}
 use native.Mathlib.Nat.{mod-eq_of_lt}
 use Rattle.words.specs.Bits.{test_bit}
-use borrow.Author.Rules.{rules}
 use Rattle.records.proofs.kinds.names.Goals as goal
 
 pub returns : goal.returns

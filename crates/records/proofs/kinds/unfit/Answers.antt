@@ -1,12 +1,8 @@
-use Prim.Native.Nat.{◌≤◌, ◌*◌, ◌-◌}
 use native.Mathlib.Omega.{arith}
-use lib.ListN.{length}
 use Rattle.model.specs.Content.{no_kind}
 use Rattle.model.specs.Format.{read_kind}
-use Rattle.records.specs.Classes.{classes_from}
 use Rattle.records.proofs.RecordLaws.{kind-none, stop, tail_length}
-use Rattle.records.proofs.KindLaws.{Seen, seen_none, seen_more, list_bad, list_read, kind-room}
-use borrow.Author.Rules.{rules}
+use Rattle.records.proofs.KindLaws.{seen_none, seen_more, list_bad, list_read, kind-room}
 use Rattle.records.proofs.kinds.unfit.Goals as goal
 
 pub loop-t-init : goal.loop-t-init
@@ -25,8 +21,7 @@ pub overflow_add-here-in-loop-t : goal.overflow_add-here-in-loop-t
 overflow_add-here-in-loop-t c = omega (arith, tail_length c.args.list.now c.loop-t.here)
 
 pub loop-t-preserved : goal.loop-t-preserved
-loop-t-preserved c =
-    (
+loop-t-preserved c = (
   omega (arith, tail_length c.args.list.now c.loop-t.here),
   seen_more _ _ c.loop-t.t c.loop-t.here c.loop-t.demand _ _ _ c.loop-t.present _ c.loop-t.invariant.1 c.kind_size-size.ensures.0 c.if-size-eq0.false c.byte-demand.ensures.0 c.byte.ensures.0 c.none_absent-present.ensures,
 )

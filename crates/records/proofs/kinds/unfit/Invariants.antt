@@ -1,12 +1,7 @@
 use Prim.Native.Nat.{◌≤◌, ◌*◌, ◌-◌}
-use native.Mathlib.Omega.{arith}
 use lib.ListN.{length}
-use Rattle.model.specs.Content.{no_kind}
-use Rattle.model.specs.Format.{read_kind}
 use Rattle.records.specs.Classes.{classes_from}
-use Rattle.records.proofs.RecordLaws.{kind-none, stop, tail_length}
-use Rattle.records.proofs.KindLaws.{Seen, seen_none, seen_more, list_bad, list_read, kind-room}
-use borrow.Author.Rules.{rules}
+use Rattle.records.proofs.KindLaws.{Seen}
 use Rattle.records.proofs.kinds.unfit.Given as goal
 
 abbrev pub invariant-loop-t : goal.invariant-loop-t

@@ -4,7 +4,6 @@ use lib.Signed.{le_z}
 use mir.Syntax.{w16}
 use mir.ValLaws.{to_z-of_z}
 use Rattle.model.specs.Format.{byte_at}
-use borrow.Author.Rules.{rules}
 use Rattle.records.proofs.parts.above_least.Goals as goal
 
 pub returns : goal.returns

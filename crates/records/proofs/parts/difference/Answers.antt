@@ -1,6 +1,5 @@
 use Rattle.model.specs.Format.{byte_at}
 use Rattle.records.proofs.PartLaws.{difference_fits, difference_is}
-use borrow.Author.Rules.{rules}
 use Rattle.records.proofs.parts.difference.Goals as goal
 
 pub overflow_sub-result : goal.overflow_sub-result

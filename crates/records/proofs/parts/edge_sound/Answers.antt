@@ -1,11 +1,8 @@
 use mathlib.Core.Bool.{◌||◌}
-use mathlib.Core.Path.{◌≡◌, ap₂}
-use Prim.Native.Nat.{◌≤◌, ◌-◌}
+use mathlib.Core.Path.{ap₂}
 use native.Mathlib.Omega.{arith}
-use Rattle.model.specs.Lists.{all, below}
 use Rattle.records.specs.Parts.{corner_sound, edge_sound_from}
 use Rattle.records.proofs.Loops.{all_none, all-next, all_end}
-use borrow.Author.Rules.{rules}
 use Rattle.records.proofs.parts.edge_sound.Goals as goal
 
 pub loop-k-init : goal.loop-k-init

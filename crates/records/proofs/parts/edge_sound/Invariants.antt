@@ -1,11 +1,7 @@
-use mathlib.Core.Bool.{◌||◌}
-use mathlib.Core.Path.{◌≡◌, ap₂}
+use mathlib.Core.Path.{◌≡◌}
 use Prim.Native.Nat.{◌≤◌, ◌-◌}
-use native.Mathlib.Omega.{arith}
 use Rattle.model.specs.Lists.{all, below}
-use Rattle.records.specs.Parts.{corner_sound, edge_sound_from}
-use Rattle.records.proofs.Loops.{all_none, all-next, all_end}
-use borrow.Author.Rules.{rules}
+use Rattle.records.specs.Parts.{corner_sound}
 use Rattle.records.proofs.parts.edge_sound.Given as goal
 
 abbrev pub invariant-loop-k : goal.invariant-loop-k

@@ -1,13 +1,10 @@
 use mathlib.Core.Bool.{◌&&◌}
-use mathlib.Core.Path.{◌≡◌, ap₂, ◌∙◌}
-use Prim.Native.Nat.{◌≤◌, ◌-◌}
+use mathlib.Core.Path.{ap₂, ◌∙◌}
 use native.Mathlib.Omega.{arith}
 use Rattle.model.specs.Format.{vertex_in_range}
-use Rattle.model.specs.Lists.{all, below}
 use Rattle.records.specs.Parts.{vertex_from}
 use Rattle.records.proofs.PartLaws.{range_all}
 use Rattle.records.proofs.Loops.{all_none, all-next, all_end}
-use borrow.Author.Rules.{rules}
 use Rattle.records.proofs.parts.in_range.Goals as goal
 
 pub loop-k-init : goal.loop-k-init

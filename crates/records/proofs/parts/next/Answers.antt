@@ -4,7 +4,6 @@ use Prim.Native.Nat.{◌+◌}
 use native.Mathlib.Omega.{arith}
 use borrow.Author.Tests.{eq-eqb, ne_eqb}
 use Rattle.records.specs.Parts.{next_of}
-use borrow.Author.Rules.{rules}
 use Rattle.records.proofs.parts.next.Goals as goal
 
 pub returns-then-i-n : goal.returns-then-i-n

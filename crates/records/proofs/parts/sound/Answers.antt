@@ -1,10 +1,7 @@
-use mathlib.Core.Path.{◌≡◌, ap, ◌∙◌}
-use Prim.Native.Nat.{◌≤◌, ◌-◌}
+use mathlib.Core.Path.{ap, ◌∙◌}
 use native.Mathlib.Omega.{arith}
-use Rattle.model.specs.Lists.{all, below}
 use Rattle.records.specs.Parts.{edge_sound_from, edge_sound_at, sound_from}
 use Rattle.records.proofs.Loops.{all_none, all-next, all_end}
-use borrow.Author.Rules.{rules}
 use Rattle.records.proofs.parts.sound.Goals as goal
 
 pub loop-i-init : goal.loop-i-init
@@ -12,8 +9,7 @@ loop-i-init c = (omega arith, all_none _)
 
 pub loop-i-preserved : goal.loop-i-preserved
 unfolding edge_sound_at
-loop-i-preserved c =
-    (
+loop-i-preserved c = (
   omega arith,
   all-next (edge_sound_at c.args.part.now c.args.n) c.loop-i.i _ _ c.loop-i.invariant.1
       (c.edge_sound-ok.ensures ∙ ap (edge_sound_from c.args.part.now c.args.n c.loop-i.i) c.next.ensures.0),

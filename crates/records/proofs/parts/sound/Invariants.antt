@@ -1,10 +1,7 @@
-use mathlib.Core.Path.{◌≡◌, ap, ◌∙◌}
+use mathlib.Core.Path.{◌≡◌}
 use Prim.Native.Nat.{◌≤◌, ◌-◌}
-use native.Mathlib.Omega.{arith}
 use Rattle.model.specs.Lists.{all, below}
-use Rattle.records.specs.Parts.{edge_sound_from, edge_sound_at, sound_from}
-use Rattle.records.proofs.Loops.{all_none, all-next, all_end}
-use borrow.Author.Rules.{rules}
+use Rattle.records.specs.Parts.{edge_sound_at}
 use Rattle.records.proofs.parts.sound.Given as goal
 
 abbrev pub invariant-loop-i : goal.invariant-loop-i

@@ -4,7 +4,6 @@ use lib.Signed.{lt_z}
 use mir.Syntax.{w64}
 use mir.ValLaws.{to_z-of_z}
 use Rattle.model.specs.Geometry.{strictly_left}
-use borrow.Author.Rules.{rules}
 use Rattle.records.proofs.parts.strictly_left.Goals as goal
 
 pub returns : goal.returns

@@ -3,7 +3,6 @@ use mir.Syntax.{w16, w64}
 use mir.ValLaws.{to_z-of_z}
 use Rattle.records.specs.Parts.{vertex_from}
 use Rattle.records.proofs.PartLaws.{turn_is}
-use borrow.Author.Rules.{rules}
 use Rattle.records.proofs.parts.turn.Goals as goal
 
 pub returns : goal.returns

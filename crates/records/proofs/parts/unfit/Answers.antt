@@ -1,7 +1,6 @@
 use mathlib.Core.Bool.{not, ◌||◌}
 use mathlib.Core.Path.{ap₂}
 use Rattle.records.specs.Parts.{unfit_from}
-use borrow.Author.Rules.{rules}
 use Rattle.records.proofs.parts.unfit.Goals as goal
 
 pub returns : goal.returns

@@ -2,7 +2,6 @@ use mathlib.Core.Bool.{◌&&◌}
 use mathlib.Core.Path.{sym, ap, ap₂, ◌∙◌}
 use Rattle.model.specs.Lists.{between}
 use Rattle.records.proofs.RecordLaws.{head_short, head_long}
-use borrow.Author.Rules.{rules}
 use Rattle.records.proofs.sizes.head_in_range.Goals as goal
 
 pub returns-then-kind-lt4 : goal.returns-then-kind-lt4

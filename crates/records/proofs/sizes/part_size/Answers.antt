@@ -3,7 +3,6 @@ use native.Mathlib.Omega.{arith}
 use borrow.Author.Tests.{leb-true}
 use Rattle.model.proofs.Lists.{and_right}
 use Rattle.records.proofs.RecordLaws.{no_part, part-sized}
-use borrow.Author.Rules.{rules}
 use Rattle.records.proofs.sizes.part_size.Goals as goal
 
 pub returns-then-part-eq0 : goal.returns-then-part-eq0

@@ -1,12 +1,8 @@
 use mathlib.Core.List.{[]}
 use mathlib.Core.Path.{sym}
-use Prim.Native.Nat.{◌≤◌, ◌-◌}
 use native.Mathlib.Omega.{arith}
-use lib.ListN.{length}
-use Rattle.model.specs.Format.{many, read_part}
-use Rattle.records.specs.Records.{Reads}
+use Rattle.model.specs.Format.{read_part}
 use Rattle.records.proofs.RecordLaws.{reads_none, part_none, step, stop, done, size-bad, tail_length}
-use borrow.Author.Rules.{rules}
 use Rattle.records.proofs.sizes.parts_size.Goals as goal
 
 pub loop-i-init : goal.loop-i-init
