@@ -9,7 +9,10 @@ pub returns-then-first-ne0 : goal.returns-then-first-ne0
 returns-then-first-ne0 c =
     let s = c.args.job.now in
     let e = c.first_of_six-first.ensures in
-    (e ∙ refusal-six s (λ z. c.if-first-ne0.true (e ∙ z)), λ z. absurd (c.if-first-ne0.true z))
+    record {
+      refusal_value = e ∙ refusal-six s (λ z. c.if-first-ne0.true (e ∙ z));
+      viewed = λ z. absurd (c.if-first-ne0.true z);
+    }
 
 pub view_of-view-requires : goal.view_of-view-requires
 view_of-view-requires c = sym c.first_of_six-first.ensures ∙ c.if-first-ne0.false
@@ -20,10 +23,16 @@ unsound-requires c = (c.view_of-view.ensures, few-kinds _ (sym c.first_of_six-fi
 pub returns-then-unsound : goal.returns-then-unsound
 returns-then-unsound c =
     let s = c.args.job.now in
-    (sym (refusal-seven s true (sym c.first_of_six-first.ensures ∙ c.if-first-ne0.false) (sym c.unsound.ensures ∙ c.if-unsound.true)), λ z. absurd (omega arith))
+    record {
+      refusal_value = sym (refusal-seven s true (sym c.first_of_six-first.ensures ∙ c.if-first-ne0.false) (sym c.unsound.ensures ∙ c.if-unsound.true));
+      viewed = λ z. absurd (omega arith);
+    }
 
 pub returns : goal.returns
 returns c =
     let s = c.args.job.now in
     let told = sym (refusal-seven s false (sym c.first_of_six-first.ensures ∙ c.if-first-ne0.false) (sym c.unsound.ensures ∙ c.if-unsound.false)) in
-    (told, λ z. record { accepted = sym told; view = c.view_of-view.ensures })
+    record {
+      refusal_value = told;
+      viewed = λ z. record { accepted = sym told; view = c.view_of-view.ensures };
+    }
