@@ -1,14 +1,14 @@
 -- Laws of tokens: how many bytes one holds, and the digits of a number from the last to the first.
 use mathlib.Core.List.{List, [], ◌∷◌, ◌++◌, append_assoc}
 use mathlib.Core.Logic.{⊎_elim}
-use mathlib.Core.Path.{◌≡◌, sym, ◌∙◌}
+use mathlib.Core.Path.{◌≡◌, ◌∙◌}
 use Prim.Native.Nat.{ℕ, suc, ◌+◌, ◌-◌, ◌/◌, ◌%◌, ◌<◌, ◌≤◌}
 use native.Mathlib.Nat.{mod-eq_of_lt}
 use native.Mathlib.Omega.{arith}
 use denote.Struct.Declared.{row}
 use denote.Struct.Laws.{vals, owed}
 use denote.Laws.{Is}
-use lib.ListN.{length, drop, set, length-set, length-append, length-map}
+use lib.ListN.{length, drop, set, length-set, length-append}
 use lib.Seq.{drop-cons, get_or-set_same, drop-set-lt}
 use Rattle.words.proofs.Cases.{le_or_lt}
 use Rattle.model.specs.Output.{decimal}
@@ -23,7 +23,7 @@ TokenKnown t = Is (row token_type.the_type) t (vals token_type.the_type token_la
 
 -- It holds eleven bytes.
 pub token_size : (t : Token) → TokenKnown t → length t.bytes ≡ 11
-token_size t g = let f = owed token_type.the_type token_laws.the_laws t _ g in sym (length-map t.bytes (λ v. v)) ∙ f.0.1.0.1
+token_size t g = let f = owed token_type.the_type token_laws.the_laws t _ g in f.0.1.0.1
 
 -- A number has a digit, and its tenth one less than it.
 decimal-some : (n : ℕ) → 1 ≤ length (decimal n)

@@ -1,16 +1,9 @@
 -- `report::render` meets its contract: the first k tokens stand, until all do.
-use mathlib.Core.List.{List}
-use mathlib.Core.Path.{◌≡◌, refl, sym, ap, ◌∙◌}
-use Prim.Native.Nat.{ℕ, suc, ◌+◌, ◌-◌, ◌*◌, ◌≤◌}
-use native.Mathlib.Numerals.{add-one}
-use native.Mathlib.Omega.{arith}
-use lib.ListN.{length, length-append}
+use mathlib.Core.Path.{◌≡◌}
+use Prim.Native.Nat.{◌+◌, ◌-◌, ◌*◌, ◌≤◌}
+use lib.ListN.{length}
 use Rattle.report.specs.Placed.{Placed}
-use Rattle.report.specs.Text.{token_of, tokens_of}
-use Rattle.report.proofs.Placing.{placed-as, placed-nothing, placed-then, placed-front}
-use Rattle.report.proofs.Range.{answer-range}
-use Rattle.report.proofs.Whole.{tokens_none, tokens_more, tokens_short, tokens_rendered, shown_few}
-use borrow.Author.Rules.{rules}
+use Rattle.report.specs.Text.{tokens_of}
 use Rattle.report.proofs.render.Given as goal
 
 abbrev pub invariant-loop-k : goal.invariant-loop-k

@@ -8,12 +8,7 @@ use Rattle.words.specs.Number.{number_at}
 use Rattle.report.specs.Text.{number_then, end_if, places, field_of}
 use Rattle.report.proofs.Lines.{place-within}
 use borrow.Author.Tests.{lt-ltb, le-ltb}
-use borrow.Author.Rules.{rules}
 use Rattle.report.proofs.layout.field.Goals as goal
-
--- TODO goal array-read-get-u16
--- array-read-get-u16 : tie.Need-array-read-get-u16
--- array-read-get-u16 c = search rules
 
 pub overflow_add-k : goal.overflow_add-k
 overflow_add-k c = omega (arith, place-within (c.args.k % 4) (omega arith))

@@ -1,13 +1,9 @@
-use mathlib.Core.List.{[], ◌∷◌, ◌++◌}
-use mathlib.Core.Path.{◌≡◌, refl, sym, ◌∙◌}
-use Prim.Native.Nat.{◌+◌, ◌-◌, ◌≤◌}
+use mathlib.Core.Path.{refl, sym, ◌∙◌}
 use native.Mathlib.Omega.{arith}
-use lib.ListN.{length, drop, length-set}
-use Rattle.model.specs.Output.{decimal}
+use lib.ListN.{length-set}
 use Rattle.model.proofs.Decimal.{decimal-32}
 use Rattle.report.specs.Text.{number_then, text_of}
 use Rattle.report.proofs.Tokens.{tenth_shorter, digit_last, digit_more}
-use borrow.Author.Rules.{rules}
 use Rattle.report.proofs.text.number.Goals as goal
 
 pub loop-rest-init : goal.loop-rest-init

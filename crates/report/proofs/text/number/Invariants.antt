@@ -1,14 +1,9 @@
 -- `report::text::number` meets its contract: the digits found so far, and the mark, stand behind those that are left to find.
 use mathlib.Core.List.{[], ◌∷◌, ◌++◌}
-use mathlib.Core.Path.{◌≡◌, refl, sym, ◌∙◌}
+use mathlib.Core.Path.{◌≡◌}
 use Prim.Native.Nat.{◌+◌, ◌-◌, ◌≤◌}
-use native.Mathlib.Omega.{arith}
-use lib.ListN.{length, drop, length-set}
+use lib.ListN.{length, drop}
 use Rattle.model.specs.Output.{decimal}
-use Rattle.model.proofs.Decimal.{decimal-32}
-use Rattle.report.specs.Text.{number_then, text_of}
-use Rattle.report.proofs.Tokens.{tenth_shorter, digit_last, digit_more}
-use borrow.Author.Rules.{rules}
 use Rattle.report.proofs.text.number.Given as goal
 
 abbrev pub invariant-loop-rest : goal.invariant-loop-rest

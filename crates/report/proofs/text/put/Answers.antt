@@ -1,6 +1,6 @@
 use mathlib.Core.List.{List, [], ◌∷◌}
 use mathlib.Core.Path.{◌≡◌, refl, sym, ap, ◌∙◌}
-use Prim.Native.Nat.{ℕ, ◌+◌, ◌-◌, ◌<◌}
+use Prim.Native.Nat.{ℕ, ◌+◌, ◌<◌}
 use native.Mathlib.Numerals.{add-one}
 use native.Mathlib.Omega.{arith}
 use lib.ListN.{length, drop, get_or, length-set, length-drop, drop_of_length-le}
@@ -9,7 +9,6 @@ use Rattle.report.specs.Placed.{placed_at}
 use Rattle.report.specs.Text.{text_of}
 use Rattle.report.proofs.Placing.{placed-none, placed_first}
 use Rattle.report.proofs.Tokens.{token_size}
-use borrow.Author.Rules.{rules}
 use Rattle.report.proofs.text.put.Goals as goal
 
 pub loop-i-init : goal.loop-i-init
@@ -20,9 +19,14 @@ unfolding text_of
 bounds-dst-next c = omega (arith, c.requires, length-drop c.loop-i.i c.args.token.bytes, token_size c.args.token c.well_formed.1.1.0)
 
 pub overflow_add-next : goal.overflow_add-next
-overflow_add-next c = omega (arith, (omega (arith, c.requires, length-drop c.loop-i.i c.args.token.bytes, token_size c.args.token c.well_formed.1.1.0)), c.well_formed.0.0)
+unfolding text_of
+overflow_add-next c =
+    let within : c.loop-i.next < length c.loop-i.dst =
+    omega (arith, c.requires, length-drop c.loop-i.i c.args.token.bytes, token_size c.args.token c.well_formed.1.1.0) in
+    omega (arith, within, c.well_formed.0.0)
 
 pub loop-i-preserved : goal.loop-i-preserved
+unfolding text_of
 loop-i-preserved c =
     let l = c.loop-i in
     let bytes : List ℕ = c.args.token.bytes in

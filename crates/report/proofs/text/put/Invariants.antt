@@ -1,16 +1,8 @@
 -- `report::text::put` meets its contract: putting the bytes that are left, where they go, puts the whole token.
-use mathlib.Core.List.{List, [], ◌∷◌}
-use mathlib.Core.Path.{◌≡◌, refl, sym, ap, ◌∙◌}
-use Prim.Native.Nat.{ℕ, ◌+◌, ◌-◌, ◌<◌}
-use native.Mathlib.Numerals.{add-one}
-use native.Mathlib.Omega.{arith}
-use lib.ListN.{length, drop, get_or, length-set, length-drop, drop_of_length-le}
-use lib.Seq.{drop-cons}
+use mathlib.Core.Path.{◌≡◌}
+use Prim.Native.Nat.{◌+◌, ◌-◌}
+use lib.ListN.{length, drop}
 use Rattle.report.specs.Placed.{placed_at}
-use Rattle.report.specs.Text.{text_of}
-use Rattle.report.proofs.Placing.{placed-none, placed_first}
-use Rattle.report.proofs.Tokens.{token_size}
-use borrow.Author.Rules.{rules}
 use Rattle.report.proofs.text.put.Given as goal
 
 abbrev pub invariant-loop-i : goal.invariant-loop-i
