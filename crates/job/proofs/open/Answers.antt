@@ -2,7 +2,6 @@ use mathlib.Core.Bool.{true, false}
 use mathlib.Core.Path.{sym, ◌∙◌}
 use native.Mathlib.Omega.{arith}
 use Rattle.job.proofs.ViewLaws.{refusal-six, refusal-seven, few-kinds}
-use borrow.Author.Rules.{rules}
 use Rattle.job.proofs.open.Goals as goal
 
 pub returns-then-first-ne0 : goal.returns-then-first-ne0

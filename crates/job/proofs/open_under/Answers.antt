@@ -2,7 +2,6 @@ use mathlib.Core.Path.{refl, sym, ◌∙◌}
 use native.Mathlib.Omega.{arith}
 use Rattle.model.proofs.Margin.{refused-first, refused-13, accepted-under}
 use Rattle.job.proofs.ViewLaws.{with_margin}
-use borrow.Author.Rules.{rules}
 use Rattle.job.proofs.open_under.Goals as goal
 
 -- the job is refused by itself
@@ -30,11 +29,13 @@ returns c =
     record {
       refusal_value = sym ((accepted-under c.args.job.now c.args.margin).1 (accepted, omega (arith, c.if-margin-gt63.false)));
       viewed =
-        λ z.
-          (record {
-            accepted = accepted;
-            view =
-              with_margin c.args.job.now _ c.args.margin
-              (omega (arith, c.if-margin-gt63.false)) (o.viewed c.if-refusal-ne0.false).view;
-          }, refl);
+          λ z. (
+            record {
+              accepted = accepted;
+              view =
+                  with_margin c.args.job.now _ c.args.margin
+                  (omega (arith, c.if-margin-gt63.false)) (o.viewed c.if-refusal-ne0.false).view;
+            },
+            refl,
+          );
     }

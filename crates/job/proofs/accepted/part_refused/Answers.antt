@@ -1,7 +1,6 @@
 use native.Mathlib.Omega.{arith}
 use Rattle.records.proofs.RecordLaws.{tail_length}
 use Rattle.job.proofs.ViewLaws.{part-judged}
-use borrow.Author.Rules.{rules}
 use Rattle.job.proofs.accepted.part_refused.Goals as goal
 
 pub unfit-requires : goal.unfit-requires

@@ -1,14 +1,9 @@
 use mathlib.Core.Bool.{◌||◌}
-use mathlib.Core.Path.{◌≡◌, sym, ap₂, ◌∙◌}
-use Prim.Native.Nat.{◌≤◌, ◌-◌}
+use mathlib.Core.Path.{sym, ap₂, ◌∙◌}
 use native.Mathlib.Omega.{arith}
-use lib.ListN.{take}
-use Rattle.model.specs.Content.{kind_count}
 use Rattle.model.specs.Format.{content}
-use Rattle.model.specs.Lists.{any}
 use Rattle.job.specs.Soundness.{bad_kind}
 use Rattle.job.proofs.ViewLaws.{any_none, kinds-more, kinds-all}
-use borrow.Author.Rules.{rules}
 use Rattle.job.proofs.accepted.unsound.Goals as goal
 
 pub loop-t-init : goal.loop-t-init

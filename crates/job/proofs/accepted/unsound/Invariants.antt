@@ -1,14 +1,10 @@
-use mathlib.Core.Bool.{◌||◌}
-use mathlib.Core.Path.{◌≡◌, sym, ap₂, ◌∙◌}
+use mathlib.Core.Path.{◌≡◌}
 use Prim.Native.Nat.{◌≤◌, ◌-◌}
-use native.Mathlib.Omega.{arith}
 use lib.ListN.{take}
 use Rattle.model.specs.Content.{kind_count}
 use Rattle.model.specs.Format.{content}
 use Rattle.model.specs.Lists.{any}
 use Rattle.job.specs.Soundness.{bad_kind}
-use Rattle.job.proofs.ViewLaws.{any_none, kinds-more, kinds-all}
-use borrow.Author.Rules.{rules}
 use Rattle.job.proofs.accepted.unsound.Given as goal
 
 abbrev pub invariant-loop-t : goal.invariant-loop-t

@@ -1,7 +1,6 @@
 use mathlib.Core.Path.{refl}
 use native.Mathlib.Omega.{arith}
 use Rattle.job.proofs.ViewLaws.{inside, board-in, kinds-in, classes-in, list_reads, length-list, view-is, board-read}
-use borrow.Author.Rules.{rules}
 use Rattle.job.proofs.accepted.view_of.Goals as goal
 
 pub read_trailer-t-requires : goal.read_trailer-t-requires

@@ -2,7 +2,6 @@ use mathlib.Core.Path.{sym, ◌∙◌}
 use Rattle.model.proofs.Causes.{size-least}
 use Rattle.job.specs.Refusal.{refusal_to6}
 use Rattle.job.proofs.CauseLaws.{stopped, passed}
-use borrow.Author.Rules.{rules}
 use Rattle.job.proofs.causes.first_of_six.Goals as goal
 
 pub returns-then-wrong_size : goal.returns-then-wrong_size

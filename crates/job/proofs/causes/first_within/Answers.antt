@@ -2,7 +2,6 @@ use mathlib.Core.Path.{refl, sym, ◌∙◌}
 use native.Mathlib.Omega.{arith}
 use Rattle.model.proofs.Causes.{size-least, sections}
 use Rattle.job.proofs.CauseLaws.{board-cause, classes-cause, kinds-cause, stopped, passed}
-use borrow.Author.Rules.{rules}
 use Rattle.job.proofs.causes.first_within.Goals as goal
 
 pub read_trailer-t-requires : goal.read_trailer-t-requires

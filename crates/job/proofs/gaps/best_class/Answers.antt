@@ -1,9 +1,7 @@
 use mathlib.Core.Path.{◌≡◌, sym, ap, ◌∙◌}
-use Prim.Native.Nat.{◌≤◌, ◌-◌}
 use native.Mathlib.Omega.{arith}
 use Rattle.job.specs.Gaps.{best_below, offered_id}
 use Rattle.job.proofs.GapLaws.{best_none, best-more}
-use borrow.Author.Rules.{rules}
 use Rattle.job.proofs.gaps.best_class.Goals as goal
 
 pub loop-id-init : goal.loop-id-init

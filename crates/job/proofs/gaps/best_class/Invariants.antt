@@ -1,9 +1,6 @@
-use mathlib.Core.Path.{◌≡◌, sym, ap, ◌∙◌}
+use mathlib.Core.Path.{◌≡◌}
 use Prim.Native.Nat.{◌≤◌, ◌-◌}
-use native.Mathlib.Omega.{arith}
-use Rattle.job.specs.Gaps.{best_below, offered_id}
-use Rattle.job.proofs.GapLaws.{best_none, best-more}
-use borrow.Author.Rules.{rules}
+use Rattle.job.specs.Gaps.{best_below}
 use Rattle.job.proofs.gaps.best_class.Given as goal
 
 abbrev pub invariant-loop-id : goal.invariant-loop-id

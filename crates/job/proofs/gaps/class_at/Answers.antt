@@ -1,7 +1,6 @@
 use mathlib.Core.Path.{ap, ◌∙◌}
 use Rattle.model.specs.Format.{marks_cut, gap_meant}
 use Rattle.job.specs.Gaps.{cut_number, best_of, best_at}
-use borrow.Author.Rules.{rules}
 use Rattle.job.proofs.gaps.class_at.Goals as goal
 
 pub returns : goal.returns

@@ -2,7 +2,6 @@ use mathlib.Core.Bool.{cond}
 use mathlib.Core.Path.{sym, ap}
 use Prim.Native.Nat.{◌+◌}
 use Rattle.job.specs.Gaps.{cut_number}
-use borrow.Author.Rules.{rules}
 use Rattle.job.proofs.gaps.cut_number.Goals as goal
 
 pub returns-then-marked : goal.returns-then-marked

@@ -1,11 +1,10 @@
 use mathlib.Core.Path.{◌≡◌, ap, ◌∙◌}
-use Prim.Native.Nat.{◌≤◌, ◌-◌, max}
+use Prim.Native.Nat.{max}
 use native.Mathlib.Omega.{arith}
 use Rattle.model.specs.Format.{gap_meant}
 use Rattle.model.specs.Gap.{largest_gap}
 use Rattle.records.specs.Classes.{classes_from}
 use Rattle.job.proofs.GapLaws.{largest-none, largest-next}
-use borrow.Author.Rules.{rules}
 use Rattle.job.proofs.gaps.largest_gap.Goals as goal
 
 pub loop-i-init : goal.loop-i-init

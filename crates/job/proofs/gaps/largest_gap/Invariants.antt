@@ -1,11 +1,7 @@
-use mathlib.Core.Path.{◌≡◌, ap, ◌∙◌}
-use Prim.Native.Nat.{◌≤◌, ◌-◌, max}
-use native.Mathlib.Omega.{arith}
-use Rattle.model.specs.Format.{gap_meant}
+use mathlib.Core.Path.{◌≡◌}
+use Prim.Native.Nat.{◌≤◌, ◌-◌}
 use Rattle.model.specs.Gap.{largest_gap}
 use Rattle.records.specs.Classes.{classes_from}
-use Rattle.job.proofs.GapLaws.{largest-none, largest-next}
-use borrow.Author.Rules.{rules}
 use Rattle.job.proofs.gaps.largest_gap.Given as goal
 
 abbrev pub invariant-loop-i : goal.invariant-loop-i

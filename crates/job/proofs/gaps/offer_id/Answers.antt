@@ -3,7 +3,6 @@ use native.Mathlib.Omega.{arith}
 use borrow.Author.Tests.{ltb-true}
 use Rattle.model.proofs.Lists.{and_left}
 use Rattle.job.proofs.GapLaws.{offered-yes, offered-no}
-use borrow.Author.Rules.{rules}
 use Rattle.job.proofs.gaps.offer_id.Goals as goal
 
 pub class_at-requires : goal.class_at-requires

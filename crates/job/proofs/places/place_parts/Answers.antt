@@ -1,12 +1,6 @@
-use Prim.Native.Nat.{◌≤◌, ◌-◌}
 use native.Mathlib.Omega.{arith}
-use lib.ListN.{drop}
-use Rattle.model.specs.Format.{many, read_part}
-use Rattle.job.specs.Places.{Placed}
-use Rattle.records.specs.Records.{Reads}
 use Rattle.job.proofs.PlaceLaws.{placed-none, placed-more, placed_end}
 use Rattle.records.proofs.NextLaws.{parts-start, parts-end, part-begins, part-next}
-use borrow.Author.Rules.{rules}
 use Rattle.job.proofs.places.place_parts.Goals as goal
 
 pub loop-i-init : goal.loop-i-init

@@ -1,13 +1,10 @@
 use mathlib.Core.Path.{refl, ◌∙◌}
-use Prim.Native.Nat.{ℕ, ◌≤◌, ◌<◌, ◌+◌, ◌*◌, ◌-◌}
+use Prim.Native.Nat.{ℕ, ◌≤◌, ◌<◌, ◌+◌, ◌*◌}
 use native.Mathlib.Omega.{arith}
 use mir.Syntax.{w64}
 use mir.Val.{Fits}
-use Rattle.records.specs.Classes.{classes_from}
-use Rattle.job.specs.Table.{Built}
 use Rattle.records.proofs.NextLaws.{kind-begins, parts-few, parts-read}
-use Rattle.job.proofs.TableLaws.{Whole, sized, whole-entered, built_none, built_more, built_end, best_of_lem}
-use borrow.Author.Rules.{rules}
+use Rattle.job.proofs.TableLaws.{sized, whole-entered, built_none, built_more, built_end, best_of_lem}
 use Rattle.job.proofs.table.read_kinds.Goals as goal
 
 -- There are eight entries, and six places for each.
