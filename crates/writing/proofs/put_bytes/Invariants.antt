@@ -1,11 +1,7 @@
-use mathlib.Core.Path.{◌≡◌, refl, ap, ◌∙◌}
-use Prim.Native.Nat.{◌≤◌, ◌+◌, ◌-◌}
-use native.Mathlib.Omega.{arith}
+use mathlib.Core.Path.{◌≡◌}
+use Prim.Native.Nat.{◌≤◌, ◌-◌}
 use lib.ListN.{length}
-use Rattle.model.specs.Format.{byte_at}
-use Rattle.writing.specs.Numbers.{with_numbers_at, as_number, bytes_from}
-use Rattle.writing.proofs.NumberLaws.{row-none, row_more, row-end}
-use borrow.Author.Rules.{rules}
+use Rattle.writing.specs.Numbers.{with_numbers_at, bytes_from}
 use Rattle.writing.proofs.put_bytes.Given as goal
 
 abbrev pub invariant-loop-k : goal.invariant-loop-k

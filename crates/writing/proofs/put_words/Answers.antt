@@ -1,20 +1,16 @@
-use mathlib.Core.Path.{◌≡◌, ◌∙◌}
-use Prim.Native.Nat.{◌≤◌, ◌+◌, ◌*◌, ◌-◌}
+use mathlib.Core.Path.{◌∙◌}
+use Prim.Native.Nat.{◌+◌, ◌*◌}
 use native.Mathlib.Omega.{arith}
-use lib.ListN.{length}
 use Rattle.model.specs.Format.{word_at}
-use Rattle.writing.specs.Numbers.{with_numbers_at, words_from}
 use Rattle.writing.proofs.NumberLaws.{row-none, row_more, row-end}
-use borrow.Author.Rules.{rules}
 use Rattle.writing.proofs.put_words.Goals as goal
 
 pub loop-k-init : goal.loop-k-init
 loop-k-init c = (omega arith, row-none (λ i. word_at c.args.s.now (c.args.from + i * 2)) 0 _)
 
 pub loop-k-preserved : goal.loop-k-preserved
-loop-k-preserved c =
-    (
-  (omega arith, c.put.auto.0 ∙ c.loop-k.invariant.0.1),
+loop-k-preserved c = (
+  (omega arith, c.put.auto.answer ∙ c.loop-k.invariant.0.1),
   row_more (λ i. word_at c.args.s.now (c.args.from + i * 2)) 0 c.loop-k.k c.loop-k.k _ _ _ _ (omega arith)
       c.word.ensures.0 c.loop-k.invariant.1 c.put.ensures,
 )

@@ -1,11 +1,7 @@
-use mathlib.Core.Path.{◌≡◌, ◌∙◌}
-use Prim.Native.Nat.{◌≤◌, ◌+◌, ◌*◌, ◌-◌}
-use native.Mathlib.Omega.{arith}
+use mathlib.Core.Path.{◌≡◌}
+use Prim.Native.Nat.{◌≤◌, ◌-◌}
 use lib.ListN.{length}
-use Rattle.model.specs.Format.{word_at}
 use Rattle.writing.specs.Numbers.{with_numbers_at, words_from}
-use Rattle.writing.proofs.NumberLaws.{row-none, row_more, row-end}
-use borrow.Author.Rules.{rules}
 use Rattle.writing.proofs.put_words.Given as goal
 
 abbrev pub invariant-loop-k : goal.invariant-loop-k

@@ -1,6 +1,5 @@
 use native.Mathlib.Omega.{arith}
 use Rattle.writing.proofs.NumberLaws.{number-high, number-low}
-use borrow.Author.Rules.{rules}
 use Rattle.writing.proofs.to_number.Goals as goal
 
 pub returns-then-coordinate-b : goal.returns-then-coordinate-b
