@@ -1,173 +1,157 @@
 use mathlib.Core.Bool.{Bool, true, false}
 use mathlib.Core.List.{map}
-use mathlib.Core.Logic.{⊎_elim}
 use mathlib.Core.Path.{◌≡◌, refl, sym, ◌∙◌, ap, subst}
-use Prim.Native.Nat.{ℕ, ◌+◌, ◌-◌, ◌/◌, ◌≤◌, ◌<◌, zero-le}
+use Prim.Native.Nat.{ℕ, ◌+◌, ◌/◌, ◌<◌}
 use native.Mathlib.Omega.{arith}
 use borrow.Author.Count.{below_none, below_more}
 use borrow.Author.Rules.{sfits_of}
 use borrow.Author.Tests.{lt-ltb, le-ltb}
-use lib.Dec.{ltb}
 use lib.IntN.{ℤ, ◌+ℤ◌, ◌-ℤ◌}
 use lib.ListN.{length}
 use lib.Signed.{le_z, ◌≤ℤ◌}
 use mir.Syntax.{w16, w32, w64}
-use mir.Val.{to_z, of_z}
+use mir.Val.{SFits, to_z, of_z}
 use mir.ValLaws.{to_z-of_z}
+use Rattle.convexity.specs.Parts.{SoundPart}
 use Rattle.integers.proofs.Order.{le_z_true, le_z_false}
 use Rattle.model.specs.Content.{Vertex, vertex, Part}
-use Rattle.model.specs.Geometry.{Direction, along, direction, vertex_at, normals, outward_normal}
+use Rattle.model.specs.Geometry.{Direction, along, direction, vertex_at, following, normals, outward_normal}
 use Rattle.model.specs.Lists.{any, largest_z, smallest_z}
-use Rattle.polygons.specs.Flat.{part_of, normal_of}
+use Rattle.polygons.specs.Flat.{part_of, normal_of, coordinate_of}
 use Rattle.polygons.proofs.Flat.{part_length}
-use Rattle.directions.specs.Directions.{separates_moved}
+use Rattle.directions.specs.Directions.{Small, separates_moved}
 use Rattle.directions.proofs.EdgeLaws.{no_normal, some-normal, normal_at, all-beyond, one_before, one_within, own_furthest, refuted, confirmed}
-use Rattle.directions.proofs.Sizes.{less_fits, less_gives}
+use Rattle.directions.proofs.Sizes.{less_gives}
 use Rattle.directions.proofs.edges.edges_separate.Goals as goal
+use Rattle.directions.proofs.edges.edges_separate.Goals.{else-directions-test, then-directions-test+then-loop-i-test+then-i-count}
 
--- ---- the needs
-pub directions-init : goal.directions-init
-directions-init c = (refl, refl, zero-le, below_none _)
+-- ---- what is known of one direction
 
-pub difference-a-requires : goal.difference-a-requires
-difference-a-requires c = (c.next_vertex-m.ensures.1, omega arith, omega arith)
+-- a direction, a move and a number, as the bits of the locals say them
+abbrev bearing : ℤ → ℤ → Direction
+bearing a b = direction (to_z w32 (of_z w32 a)) (to_z w32 (of_z w32 b))
 
-pub difference-b-requires : goal.difference-b-requires
-difference-b-requires c = (omega arith, c.next_vertex-m.ensures.1, omega arith)
+abbrev offset : ℤ → ℤ → Vertex
+offset x y = vertex (to_z w16 (of_z w16 x)) (to_z w16 (of_z w16 y))
 
-pub overflow_sub-limit : goal.overflow_sub-limit
-overflow_sub-limit c = less_fits c.vertex_along.ensures c.move_along.ensures
+abbrev held : ℤ → ℤ
+held z = to_z w64 (of_z w64 z)
+
+-- the normal (a, b) of the edge of P from vertex k to vertex m, how far vertex k and the move e go along it, and the limit that follows
+module _ (P Q : Part) (e : Vertex) (is_sound : SoundPart P) (k m : ℕ) (h : k < length P) (s : 0 < length Q) (a b x y : ℤ) (fa : SFits w32 a) (fb : SFits w32 b)
+    (em : m ≡ following P k) (ea : a ≡ coordinate_of 1 (vertex_at P m) -ℤ coordinate_of 1 (vertex_at P k))
+    (eb : b ≡ coordinate_of 0 (vertex_at P k) -ℤ coordinate_of 0 (vertex_at P m)) (hx : Small (along (bearing a b) (vertex_at P k)) 47 x)
+    (hy : Small (along (bearing a b) e) 47 y) where
+  -- the numbers that are compared: vertex k, the furthest, the way of the move, and the least of q
+  abbrev near : ℤ
+  near = along (bearing a b) (vertex_at P k)
+
+  abbrev far : ℤ
+  far = largest_z (map (along (bearing a b)) P)
+
+  abbrev way : ℤ
+  way = along (bearing a b) e
+
+  abbrev low : ℤ
+  low = smallest_z (map (along (bearing a b)) Q)
+
+  abbrev limit : ℤ
+  limit = held (held x -ℤ held y)
+
+  -- the direction is the edge's normal
+  is_normal : bearing a b ≡ normal_of P k
+  unfolding outward_normal
+  is_normal = (λ i. direction ((to_z-of_z w32 a fa ∙ ea) i) ((to_z-of_z w32 b fb ∙ eb) i)) ∙ normal_at P k m em
+
+  -- so the furthest against the least and the way is the test
+  verdict : (t : Bool) → le_z far (low +ℤ way) ≡ t → separates_moved P Q e (normal_of P k) ≡ t
+  unfolding separates_moved
+  verdict t f = ap (separates_moved P Q e) (sym is_normal) ∙ f
+
+  -- vertex k lies as far as the furthest, since p is sound
+  as_far : far ≡ near
+  as_far = subst (λ (d : Direction). largest_z (map (along d) P) ≡ along d (vertex_at P k)) (sym is_normal) (own_furthest P is_sound k h)
+
+  is_limit : limit ≡ near -ℤ way
+  is_limit = less_gives hx hy
+
+  -- a vertex that lies before the limit refutes it,
+  gives_up : (i : ℕ) (z : ℤ) → i < length Q → z ≡ along (bearing a b) (vertex_at Q i) → le_z limit z ≡ false → separates_moved P Q e (normal_of P k) ≡ false
+  gives_up i z l g f =
+      verdict false
+      (refuted near far way low (one_within (along (bearing a b)) P k h)
+      (ap (λ u. le_z u low) (sym is_limit) ∙ one_before (along (bearing a b)) Q limit i l (le_z_false _ _ (ap (le_z limit) (sym g) ∙ f))))
+
+  -- and where none does it is confirmed
+  separates : ((j : ℕ) → j < length Q → limit ≤ℤ along (bearing a b) (vertex_at Q j)) → separates_moved P Q e (normal_of P k) ≡ true
+  separates f =
+      verdict true (confirmed near far way low as_far (ap (λ u. le_z u low) (sym is_limit) ∙ all-beyond (along (bearing a b)) Q limit s f))
+
+-- one more vertex lies beyond the limit
+further : (d : Direction) (Q : Part) (limit z : ℤ) (i : ℕ) → ((j : ℕ) → j < i → limit ≤ℤ along d (vertex_at Q j)) → z ≡ along d (vertex_at Q i) → le_z limit z ≡ true
+    → (j : ℕ) → j < i + 1 → limit ≤ℤ along d (vertex_at Q j)
+further d Q limit z i f g h = below_more _ i f (le_z_true _ _ (ap (le_z limit) (sym g) ∙ h))
+
+-- ---- the answers
 
 pub loop-i-init : goal.loop-i-init
 loop-i-init c = (omega (arith, c.directions.invariant.1, c.requires.1.corners, part_length c.args.q.now), below_none _)
 
-pub vertex_along-requires-in-loop-i : goal.vertex_along-requires-in-loop-i
-vertex_along-requires-in-loop-i c = omega (arith, c.loop-i.invariant.0, c.directions.invariant.1)
-
 pub loop-i-preserved : goal.loop-i-preserved
-loop-i-preserved c =
-    let second : Part = part_of c.args.q.now in
-    let bearing : Direction = direction (to_z w32 (of_z w32 c.difference-a.result)) (to_z w32 (of_z w32 c.difference-b.result)) in
-    let bound : ℤ = to_z w64 (of_z w64 (to_z w64 (of_z w64 c.vertex_along.result) -ℤ to_z w64 (of_z w64 c.move_along.result))) in
-    let kept : (j : ℕ) → j < c.loop-i.i + 1 → bound ≤ℤ along (bearing) (vertex_at (second) j) = (let bound : ℤ = to_z w64 (of_z w64 (to_z w64 (of_z w64 c.vertex_along.result) -ℤ to_z w64 (of_z w64 c.move_along.result))) in
-    let second : Part = part_of c.args.q.now in
-    let bearing : Direction = direction (to_z w32 (of_z w32 c.difference-a.result)) (to_z w32 (of_z w32 c.difference-b.result)) in
-    let reached : to_z w64 (of_z w64 c.vertex_along-in-loop-i.result) ≡ along (bearing) (vertex_at (second) c.loop-i.i) = to_z-of_z w64 c.vertex_along-in-loop-i.result (sfits_of c.vertex_along-in-loop-i.type_inv) ∙ c.vertex_along-in-loop-i.ensures.value in
-    below_more _ _ c.loop-i.invariant.1 (le_z_true _ _ (ap (le_z (bound)) (sym (reached)) ∙ c.loop-i-test.true))) in
-    (omega arith, kept)
+loop-i-preserved c = (
+  omega arith,
+  further (bearing c.difference-a.result c.difference-b.result) (part_of c.args.q.now) _ _ c.loop-i.i c.loop-i.invariant.1
+      (to_z-of_z w64 c.vertex_along-in-loop-i.result (sfits_of c.vertex_along-in-loop-i.type_inv) ∙ c.vertex_along-in-loop-i.ensures.value)
+      c.loop-i-test.true,
+)
 
 pub directions-preserved : goal.directions-preserved
 directions-preserved c =
-    let second : Part = part_of c.args.q.now in
-    let bearing : Direction = direction (to_z w32 (of_z w32 c.difference-a.result)) (to_z w32 (of_z w32 c.difference-b.result)) in
-    let near : ℤ = (let first : Part = part_of c.args.p.now in
-    let edge : ℕ = c.directions.k in
-    let bearing : Direction = direction (to_z w32 (of_z w32 c.difference-a.result)) (to_z w32 (of_z w32 c.difference-b.result)) in
-    along (bearing) (vertex_at (first) (edge))) in
-    let far : ℤ = (let first : Part = part_of c.args.p.now in
-    let bearing : Direction = direction (to_z w32 (of_z w32 c.difference-a.result)) (to_z w32 (of_z w32 c.difference-b.result)) in
-    largest_z (map (along (bearing)) (first))) in
-    let way : ℤ = (let offset : Vertex = vertex (to_z w16 (of_z w16 c.args.dx)) (to_z w16 (of_z w16 c.args.dy)) in
-    let bearing : Direction = direction (to_z w32 (of_z w32 c.difference-a.result)) (to_z w32 (of_z w32 c.difference-b.result)) in
-    along (bearing) (offset)) in
-    let low : ℤ = (let second : Part = part_of c.args.q.now in
-    let bearing : Direction = direction (to_z w32 (of_z w32 c.difference-a.result)) (to_z w32 (of_z w32 c.difference-b.result)) in
-    smallest_z (map (along (bearing)) (second))) in
-    let near : ℤ = (let first : Part = part_of c.args.p.now in
-    let edge : ℕ = c.directions.k in
-    let bearing : Direction = direction (to_z w32 (of_z w32 c.difference-a.result)) (to_z w32 (of_z w32 c.difference-b.result)) in
-    along (bearing) (vertex_at (first) (edge))) in
-    let far : ℤ = (let first : Part = part_of c.args.p.now in
-    let bearing : Direction = direction (to_z w32 (of_z w32 c.difference-a.result)) (to_z w32 (of_z w32 c.difference-b.result)) in
-    largest_z (map (along (bearing)) (first))) in
-    let within : near ≤ℤ far = (let first : Part = part_of c.args.p.now in
-    let edge : ℕ = c.directions.k in
-    let bearing : Direction = direction (to_z w32 (of_z w32 c.difference-a.result)) (to_z w32 (of_z w32 c.difference-b.result)) in
-    let first : Part = part_of c.args.p.now in
-    let edge : ℕ = c.directions.k in
-    let inside : edge < length (first) = omega (arith, c.directions.invariant.0, c.directions-test.true, part_length c.args.p.now) in
-    one_within (along (bearing)) (first) (edge) (inside)) in
-    let bound : ℤ = to_z w64 (of_z w64 (to_z w64 (of_z w64 c.vertex_along.result) -ℤ to_z w64 (of_z w64 c.move_along.result))) in
-    let near : ℤ = (let first : Part = part_of c.args.p.now in
-    let edge : ℕ = c.directions.k in
-    let bearing : Direction = direction (to_z w32 (of_z w32 c.difference-a.result)) (to_z w32 (of_z w32 c.difference-b.result)) in
-    along (bearing) (vertex_at (first) (edge))) in
-    let way : ℤ = (let offset : Vertex = vertex (to_z w16 (of_z w16 c.args.dx)) (to_z w16 (of_z w16 c.args.dy)) in
-    let bearing : Direction = direction (to_z w32 (of_z w32 c.difference-a.result)) (to_z w32 (of_z w32 c.difference-b.result)) in
-    along (bearing) (offset)) in
-    let bound : ℤ = to_z w64 (of_z w64 (to_z w64 (of_z w64 c.vertex_along.result) -ℤ to_z w64 (of_z w64 c.move_along.result))) in
-    let is_bound : bound ≡ near -ℤ way = less_gives c.vertex_along.ensures c.move_along.ensures in
-    let second : Part = part_of c.args.q.now in
-    let bearing : Direction = direction (to_z w32 (of_z w32 c.difference-a.result)) (to_z w32 (of_z w32 c.difference-b.result)) in
-    let reached : to_z w64 (of_z w64 c.vertex_along-in-loop-i.result) ≡ along (bearing) (vertex_at (second) c.loop-i.i) = to_z-of_z w64 c.vertex_along-in-loop-i.result (sfits_of c.vertex_along-in-loop-i.type_inv) ∙ c.vertex_along-in-loop-i.ensures.value in
-    let first : Part = part_of c.args.p.now in
-    let test : Direction → Bool = (let first : Part = part_of c.args.p.now in
-    let second : Part = part_of c.args.q.now in
-    let offset : Vertex = vertex (to_z w16 (of_z w16 c.args.dx)) (to_z w16 (of_z w16 c.args.dy)) in
-    separates_moved (first) (second) (offset)) in
-    let edge : ℕ = c.directions.k in
-    let far : ℤ = (let first : Part = part_of c.args.p.now in
-    let bearing : Direction = direction (to_z w32 (of_z w32 c.difference-a.result)) (to_z w32 (of_z w32 c.difference-b.result)) in
-    largest_z (map (along (bearing)) (first))) in
-    let way : ℤ = (let offset : Vertex = vertex (to_z w16 (of_z w16 c.args.dx)) (to_z w16 (of_z w16 c.args.dy)) in
-    let bearing : Direction = direction (to_z w32 (of_z w32 c.difference-a.result)) (to_z w32 (of_z w32 c.difference-b.result)) in
-    along (bearing) (offset)) in
-    let low : ℤ = (let second : Part = part_of c.args.q.now in
-    let bearing : Direction = direction (to_z w32 (of_z w32 c.difference-a.result)) (to_z w32 (of_z w32 c.difference-b.result)) in
-    smallest_z (map (along (bearing)) (second))) in
-    let next : le_z (far) (low +ℤ way) ≡ false → (j : ℕ) → j < edge + 1 → test (normal_of (first) j) ≡ false = (λ e. let first : Part = part_of c.args.p.now in
-    let test : Direction → Bool = (let first : Part = part_of c.args.p.now in
-    let second : Part = part_of c.args.q.now in
-    let offset : Vertex = vertex (to_z w16 (of_z w16 c.args.dx)) (to_z w16 (of_z w16 c.args.dy)) in
-    separates_moved (first) (second) (offset)) in
-    let edge : ℕ = c.directions.k in
-    let far : ℤ = (let first : Part = part_of c.args.p.now in
-    let bearing : Direction = direction (to_z w32 (of_z w32 c.difference-a.result)) (to_z w32 (of_z w32 c.difference-b.result)) in
-    largest_z (map (along (bearing)) (first))) in
-    let way : ℤ = (let offset : Vertex = vertex (to_z w16 (of_z w16 c.args.dx)) (to_z w16 (of_z w16 c.args.dy)) in
-    let bearing : Direction = direction (to_z w32 (of_z w32 c.difference-a.result)) (to_z w32 (of_z w32 c.difference-b.result)) in
-    along (bearing) (offset)) in
-    let low : ℤ = (let second : Part = part_of c.args.q.now in
-    let bearing : Direction = direction (to_z w32 (of_z w32 c.difference-a.result)) (to_z w32 (of_z w32 c.difference-b.result)) in
-    smallest_z (map (along (bearing)) (second))) in
-    let verdict : (b : Bool) → le_z (far) (low +ℤ way) ≡ b → test (normal_of (first) (edge)) ≡ b = (λ b e. let test : Direction → Bool = (let first : Part = part_of c.args.p.now in
-    let second : Part = part_of c.args.q.now in
-    let offset : Vertex = vertex (to_z w16 (of_z w16 c.args.dx)) (to_z w16 (of_z w16 c.args.dy)) in
-    separates_moved (first) (second) (offset)) in
-    let first : Part = part_of c.args.p.now in
-    let edge : ℕ = c.directions.k in
-    let bearing : Direction = direction (to_z w32 (of_z w32 c.difference-a.result)) (to_z w32 (of_z w32 c.difference-b.result)) in
-    let is_normal : bearing ≡ normal_of (first) (edge) = (let first : Part = part_of c.args.p.now in
-    let edge : ℕ = c.directions.k in
-    (λ i. direction ((to_z-of_z w32 c.difference-a.result (sfits_of c.difference-a.type_inv) ∙ c.difference-a.ensures) i)
-    ((to_z-of_z w32 c.difference-b.result (sfits_of c.difference-b.type_inv) ∙ c.difference-b.ensures) i))
-    ∙ normal_at (first) (edge) c.next_vertex-m.result c.next_vertex-m.ensures.0) in
-    ap (test) (sym (is_normal)) ∙ e) in
-    below_more _ _ c.directions.invariant.3 (verdict false e)) in
-    (
-  refl,
-  refl,
-  omega (arith, c.directions-test.true, c.directions.invariant.0),
-  next (refuted (near) (far) (way) (low) (within)
-      (ap (λ z. le_z z (low)) (sym (is_bound))
-      ∙ one_before (along (bearing)) (second) (bound) c.loop-i.i (omega (arith, c.loop-i.invariant.0, c.directions.invariant.1, part_length c.args.q.now))
-      (le_z_false _ _ (ap (le_z (bound)) (sym (reached)) ∙ c.loop-i-test.false)))),
-)
+    let n = part_length c.args.p.now in
+    let m = part_length c.args.q.now in
+    let inside : c.directions.k < length (part_of c.args.p.now) = omega (arith, c.directions.invariant.0, c.directions-test.true) in
+    let some : 0 < length (part_of c.args.q.now) = omega (arith, c.requires.1.corners) in
+    let below : c.loop-i.i < length (part_of c.args.q.now) = omega (arith, c.loop-i.invariant.0, c.directions.invariant.1) in (
+      refl,
+      refl,
+      omega (arith, c.directions-test.true, c.directions.invariant.0),
+      below_more _ _ c.directions.invariant.3
+          (gives_up (part_of c.args.p.now) (part_of c.args.q.now) (offset c.args.dx c.args.dy) c.requires.0 c.directions.k c.next_vertex-m.result inside some
+          c.difference-a.result c.difference-b.result c.vertex_along.result c.move_along.result (sfits_of c.difference-a.type_inv) (sfits_of c.difference-b.type_inv)
+          c.next_vertex-m.ensures.0 c.difference-a.ensures c.difference-b.ensures c.vertex_along.ensures c.move_along.ensures
+          c.loop-i.i (held c.vertex_along-in-loop-i.result) below
+          (to_z-of_z w64 c.vertex_along-in-loop-i.result (sfits_of c.vertex_along-in-loop-i.type_inv) ∙ c.vertex_along-in-loop-i.ensures.value)
+          c.loop-i-test.false),
+    )
 
 pub returns : goal.returns
 returns c =
-    let first : Part = part_of c.args.p.now in
-    let second : Part = part_of c.args.q.now in
-    let test : Direction → Bool = (let first : Part = part_of c.args.p.now in
-    let second : Part = part_of c.args.q.now in
-    let offset : Vertex = vertex (to_z w16 (of_z w16 c.args.dx)) (to_z w16 (of_z w16 c.args.dy)) in
-    separates_moved (first) (second) (offset)) in
-    let answer : any (test) (normals (first)) ≡ any (separates_moved (first) (second) (vertex c.args.dx c.args.dy)) (normals (first)) = (let first : Part = part_of c.args.p.now in
-    let second : Part = part_of c.args.q.now in
-    let offset : Vertex = vertex (to_z w16 (of_z w16 c.args.dx)) (to_z w16 (of_z w16 c.args.dy)) in
-    let is_offset : offset ≡ vertex c.args.dx c.args.dy = λ i. vertex (to_z-of_z w16 c.args.dx c.ranges.dx i) (to_z-of_z w16 c.args.dy c.ranges.dy i) in
-    ap (λ (e : Vertex). any (separates_moved (first) (second) e) (normals (first))) (is_offset)) in
-    ⊎_elim (λ w. none (record { before = c; directions-test = w }))
-    (λ w. some (record { before = record { before = record { before = record { before = record { before = record { before = record { before = record { before = record { before = record { before = c; directions-test = w.0 }; next-vertex = w.1 }; difference = w.2 }; difference2 = w.3 }; vertex-along = w.4 }; move-along = w.5 }; loop = w.6 }; vertex-along2 = w.7 }; if1 = w.8 }; if2 = w.9 }))
-    c.directions-test.branch
-    ∙ answer
+    let n = part_length c.args.p.now in
+    let m = part_length c.args.q.now in
+    let P : Part = part_of c.args.p.now in
+    let Q : Part = part_of c.args.q.now in
+    let test : Direction → Bool = separates_moved P Q (offset c.args.dx c.args.dy) in
+    let is_offset : offset c.args.dx c.args.dy ≡ vertex c.args.dx c.args.dy =
+    λ i. vertex (to_z-of_z w16 c.args.dx c.ranges.dx i) (to_z-of_z w16 c.args.dy c.ranges.dy i) in
+    let answer : any test (normals P) ≡ any (separates_moved P Q (vertex c.args.dx c.args.dy)) (normals P) =
+    ap (λ (e : Vertex). any (separates_moved P Q e) (normals P)) is_offset in
+    elim c.directions-test.branch [
+      | else-directions-test w ↦
+          le-ltb c.directions.k (length c.args.p.now / 2) (omega (arith, c.directions.invariant.0, w.directions-test.false))
+          ∙ sym (no_normal test P (λ j h. c.directions.invariant.3 j (omega (arith, c.directions.invariant.0, w.directions-test.false))))
+          ∙ answer
+      | then-directions-test+then-loop-i-test+then-i-count w ↦
+          let inside : c.directions.k < length P = omega (arith, c.directions.invariant.0, w.directions-test.true) in
+          let some : 0 < length Q = omega (arith, c.requires.1.corners) in
+          let all : (j : ℕ) → j < length Q → held (held w.vertex_along.result -ℤ held w.move_along.result) ≤ℤ along (bearing w.difference-a.result w.difference-b.result) (vertex_at Q j) =
+          λ j g.
+          further (bearing w.difference-a.result w.difference-b.result) Q _ _ w.loop-i.i w.loop-i.invariant.1
+          (to_z-of_z w64 w.vertex_along-in-loop-i.result (sfits_of w.vertex_along-in-loop-i.type_inv) ∙ w.vertex_along-in-loop-i.ensures.value)
+          w.loop-i-test.true j (omega (arith, c.directions.invariant.1, w.if-i-count.true)) in
+          lt-ltb c.directions.k (length c.args.p.now / 2) (omega (arith, c.directions.invariant.0, w.directions-test.true))
+          ∙ sym (some-normal test P c.directions.k inside
+          (separates P Q (offset c.args.dx c.args.dy) c.requires.0 c.directions.k w.next_vertex-m.result inside some
+          w.difference-a.result w.difference-b.result w.vertex_along.result w.move_along.result (sfits_of w.difference-a.type_inv) (sfits_of w.difference-b.type_inv)
+          w.next_vertex-m.ensures.0 w.difference-a.ensures w.difference-b.ensures w.vertex_along.ensures w.move_along.ensures all))
+          ∙ answer
+    ]
