@@ -3,7 +3,7 @@ use mir.Syntax.{w16, w64}
 use mir.ValLaws.{to_z-of_z}
 use Rattle.records.specs.Parts.{vertex_from}
 use Rattle.simplicity.proofs.AreaLaws.{det-is}
-use borrow.Author.Rules.{rules, sfits_of}
+use borrow.Author.Rules.{sfits_of}
 use Rattle.simplicity.proofs.area.determinant.Goals as goal
 
 pub returns : goal.returns

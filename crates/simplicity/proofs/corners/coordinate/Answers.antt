@@ -2,7 +2,7 @@ use mathlib.Core.Path.{◌∙◌}
 use mir.Syntax.{w16}
 use mir.ValLaws.{to_z-of_z}
 use Rattle.model.specs.Format.{byte_at}
-use borrow.Author.Rules.{rules, sfits_of}
+use borrow.Author.Rules.{sfits_of}
 use Rattle.simplicity.proofs.corners.coordinate.Goals as goal
 
 pub returns : goal.returns

@@ -4,7 +4,6 @@ use Prim.Native.Nat.{◌-◌}
 use native.Mathlib.Omega.{arith}
 use borrow.Author.Tests.{eq-eqb, ne_eqb}
 use Rattle.simplicity.specs.Corners.{previous_of}
-use borrow.Author.Rules.{rules}
 use Rattle.simplicity.proofs.corners.previous.Goals as goal
 
 pub returns-then-i-eq0 : goal.returns-then-i-eq0

@@ -2,7 +2,6 @@ use mathlib.Core.Bool.{◌&&◌, ◌||◌}
 use mathlib.Core.Path.{◌∙◌, ap₂}
 use Rattle.simplicity.proofs.EdgeLaws.{less_than_lem}
 use Rattle.simplicity.specs.Corners.{apart_from}
-use borrow.Author.Rules.{rules}
 use Rattle.simplicity.proofs.edges.apart.Goals as goal
 
 pub returns : goal.returns

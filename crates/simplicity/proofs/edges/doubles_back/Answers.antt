@@ -4,7 +4,7 @@ use mir.ValLaws.{to_z-of_z}
 use Rattle.integers.proofs.Machine.{cast_fits, cast_gives}
 use Rattle.records.specs.Parts.{vertex_from}
 use Rattle.simplicity.proofs.EdgeLaws.{doubles_is}
-use borrow.Author.Rules.{rules, sfits_of}
+use borrow.Author.Rules.{sfits_of}
 use Rattle.simplicity.proofs.edges.doubles_back.Goals as goal
 
 pub overflow_cast-difference : goal.overflow_cast-difference

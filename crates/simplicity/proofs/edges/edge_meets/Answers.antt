@@ -1,13 +1,10 @@
 use mathlib.Core.Bool.{◌||◌}
-use mathlib.Core.Path.{◌≡◌, ◌∙◌, ap₂}
-use Prim.Native.Nat.{◌≤◌, ◌-◌}
+use mathlib.Core.Path.{◌∙◌, ap₂}
 use native.Mathlib.Omega.{arith}
-use Rattle.model.specs.Lists.{any, below}
 use Rattle.outlines.specs.Outline.{doubles_back}
 use Rattle.records.specs.Parts.{vertex_from}
 use Rattle.records.proofs.Loops.{any_none, any_next, any-end}
 use Rattle.simplicity.specs.Corners.{strikes_from, edge_meets_from}
-use borrow.Author.Rules.{rules}
 use Rattle.simplicity.proofs.edges.edge_meets.Goals as goal
 
 pub loop-j-init : goal.loop-j-init

@@ -1,13 +1,7 @@
-use mathlib.Core.Bool.{◌||◌}
-use mathlib.Core.Path.{◌≡◌, ◌∙◌, ap₂}
+use mathlib.Core.Path.{◌≡◌}
 use Prim.Native.Nat.{◌≤◌, ◌-◌}
-use native.Mathlib.Omega.{arith}
 use Rattle.model.specs.Lists.{any, below}
-use Rattle.outlines.specs.Outline.{doubles_back}
-use Rattle.records.specs.Parts.{vertex_from}
-use Rattle.records.proofs.Loops.{any_none, any_next, any-end}
-use Rattle.simplicity.specs.Corners.{strikes_from, edge_meets_from}
-use borrow.Author.Rules.{rules}
+use Rattle.simplicity.specs.Corners.{strikes_from}
 use Rattle.simplicity.proofs.edges.edge_meets.Given as goal
 
 abbrev pub invariant-loop-j : goal.invariant-loop-j

@@ -1,11 +1,7 @@
-use mathlib.Core.Path.{◌≡◌, ◌∙◌}
+use mathlib.Core.Path.{◌≡◌}
 use Prim.Native.Nat.{◌≤◌, ◌-◌}
-use native.Mathlib.Omega.{arith}
 use Rattle.model.specs.Lists.{any, below}
-use Rattle.records.proofs.Loops.{any_none, any_next, any-end}
 use Rattle.simplicity.specs.Corners.{edge_meets_from}
-use Rattle.simplicity.proofs.EdgeLaws.{edges_same}
-use borrow.Author.Rules.{rules}
 use Rattle.simplicity.proofs.edges.edges_meet.Given as goal
 
 abbrev pub invariant-loop-i : goal.invariant-loop-i

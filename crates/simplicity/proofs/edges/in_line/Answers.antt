@@ -1,7 +1,7 @@
 use mathlib.Core.Path.{◌∙◌, ap}
 use Rattle.outlines.specs.Outline.{is_zero}
 use Rattle.simplicity.proofs.EdgeLaws.{zero_bits}
-use borrow.Author.Rules.{rules, sfits_of}
+use borrow.Author.Rules.{sfits_of}
 use Rattle.simplicity.proofs.edges.in_line.Goals as goal
 
 pub returns : goal.returns

@@ -5,7 +5,7 @@ use mir.Syntax.{w16}
 use mir.Val.{to_z, of_z}
 use mir.ValLaws.{to_z-of_z}
 use Rattle.simplicity.specs.Corners.{coordinate_from, less_from}
-use borrow.Author.Rules.{rules, sfits_of}
+use borrow.Author.Rules.{sfits_of}
 use Rattle.simplicity.proofs.edges.less.Goals as goal
 
 pub returns : goal.returns

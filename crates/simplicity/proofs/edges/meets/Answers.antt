@@ -1,5 +1,4 @@
 use Rattle.simplicity.proofs.EdgeLaws.{meet-is}
-use borrow.Author.Rules.{rules}
 use Rattle.simplicity.proofs.edges.meets.Goals as goal
 
 pub returns : goal.returns

@@ -1,7 +1,6 @@
 use mathlib.Core.Bool.{◌&&◌, ◌||◌}
 use mathlib.Core.Path.{ap₂}
 use Rattle.outlines.specs.Outline.{same_side}
-use borrow.Author.Rules.{rules}
 use Rattle.simplicity.proofs.edges.same_side.Goals as goal
 
 pub returns : goal.returns

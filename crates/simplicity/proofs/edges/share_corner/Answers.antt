@@ -2,7 +2,6 @@ use mathlib.Core.Bool.{◌||◌}
 use mathlib.Core.Path.{ap₂}
 use lib.Dec.{eqb}
 use Rattle.simplicity.specs.Corners.{neighbours}
-use borrow.Author.Rules.{rules}
 use Rattle.simplicity.proofs.edges.share_corner.Goals as goal
 
 pub returns : goal.returns

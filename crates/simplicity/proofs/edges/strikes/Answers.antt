@@ -3,7 +3,6 @@ use mathlib.Core.Path.{◌∙◌, ap, ap₂}
 use Rattle.outlines.specs.Outline.{meet}
 use Rattle.records.specs.Parts.{vertex_from}
 use Rattle.simplicity.specs.Corners.{strikes_from}
-use borrow.Author.Rules.{rules}
 use Rattle.simplicity.proofs.edges.strikes.Goals as goal
 
 pub returns : goal.returns

@@ -1,8 +1,7 @@
-use mathlib.Core.Path.{◌≡◌, refl, ◌∙◌}
-use Prim.Native.Nat.{◌≤◌, ◌-◌}
+use mathlib.Core.Path.{refl, ◌∙◌}
 use native.Mathlib.Omega.{arith}
-use lib.ListN.{length, get_or, length-set}
-use Rattle.simplicity.proofs.PartLaws.{Taken, taken_next, taken-all}
+use lib.ListN.{get_or, length-set}
+use Rattle.simplicity.proofs.PartLaws.{taken_next, taken-all}
 use borrow.Author.Rules.{rules}
 use Rattle.simplicity.proofs.part.as_part.Goals as goal
 

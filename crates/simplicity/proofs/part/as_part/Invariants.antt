@@ -1,9 +1,7 @@
-use mathlib.Core.Path.{◌≡◌, refl, ◌∙◌}
+use mathlib.Core.Path.{◌≡◌}
 use Prim.Native.Nat.{◌≤◌, ◌-◌}
-use native.Mathlib.Omega.{arith}
-use lib.ListN.{length, get_or, length-set}
-use Rattle.simplicity.proofs.PartLaws.{Taken, taken_next, taken-all}
-use borrow.Author.Rules.{rules}
+use lib.ListN.{length, get_or}
+use Rattle.simplicity.proofs.PartLaws.{Taken}
 use Rattle.simplicity.proofs.part.as_part.Given as goal
 
 abbrev pub invariant-loop-k : goal.invariant-loop-k
