@@ -20,8 +20,7 @@ pub loop-k-init : goal.loop-k-init
 loop-k-init c = (zero-le, refl, below_none _)
 
 pub edge_near-requires : goal.edge_near-requires
-edge_near-requires c =
-    (
+edge_near-requires c = (
   (
     omega (arith, c.loop-k.invariant.1, c.loop-k-test.true),
     (rw (to_z-of_z w16 c.args.x c.ranges.x) c.requires.0.0, rw (to_z-of_z w16 c.args.y c.ranges.y) c.requires.0.1),

@@ -19,7 +19,7 @@ use Rattle.distances.proofs.corners.corner_clear.Given as goal
 
 abbrev pub invariant-loop-k : goal.invariant-loop-k
 invariant-loop-k l = (l.k ≤ l.n) × (l.n ≡ length l.q / 2)
-    × ((j : ℕ) → j < l.k → near_edge l.gap (vertex_at (part_of l.q) j) (vertex_at (part_of l.q) (following (part_of l.q) j)) (vertex (to_z w16 l.x) (to_z w16 l.y)) ≡ false)
+    × ((j : ℕ) → j < l.k → near_edge l.gap (vertex_at (part_of l.q) j) (vertex_at (part_of l.q) (following (part_of l.q) j)) (vertex l.x l.y) ≡ false)
 
 abbrev pub decreases-loop-k : goal.decreases-loop-k
 decreases-loop-k l = l.n - l.k

@@ -21,7 +21,7 @@ use Rattle.distances.proofs.DistanceLaws.{corners-all, corner-fails}
 use Rattle.distances.proofs.corners.corners_clear.Given as goal
 
 abbrev pub invariant-loop-i : goal.invariant-loop-i
-invariant-loop-i l = (l.i ≤ l.n) × (l.n ≡ length l.p / 2) × ((j : ℕ) → j < l.i → corner_clear l.gap (part_of l.q) (shifted (to_z w16 l.dx) (to_z w16 l.dy) (vertex_at (part_of l.p) j)) ≡ true)
+invariant-loop-i l = (l.i ≤ l.n) × (l.n ≡ length l.p / 2) × ((j : ℕ) → j < l.i → corner_clear l.gap (part_of l.q) (shifted l.dx l.dy (vertex_at (part_of l.p) j)) ≡ true)
 
 abbrev pub decreases-loop-i : goal.decreases-loop-i
 decreases-loop-i l = l.n - l.i

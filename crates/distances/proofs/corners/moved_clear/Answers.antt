@@ -65,14 +65,13 @@ corner_clear-requires c =
     let up : SFits w16 ((corner).y +ℤ c.args.dy) = (let corner : Vertex = vertex_at (part_of c.args.p.now) c.args.i in
     let corner : Vertex = vertex_at (part_of c.args.p.now) c.args.i in
     let small : Short 4096 (corner).x (corner).y = c.requires.1.0 c.args.i (omega (arith, c.requires.0.0, part_length c.args.p.now)) in
-    moved-fits (corner).y c.args.dy (small).1 c.requires.0.1.1) in
-    (
-  (
-    rw (op_gives (is_x) (is_dx) ◌+ℤ◌ (across)) (moved-size (corner).x c.args.dx (small).0 c.requires.0.1.0),
-    rw (op_gives (is_y) (is_dy) ◌+ℤ◌ (up)) (moved-size (corner).y c.args.dy (small).1 c.requires.0.1.1),
-  ),
-  c.requires.1.1,
-)
+    moved-fits (corner).y c.args.dy (small).1 c.requires.0.1.1) in (
+      (
+        rw (op_gives (is_x) (is_dx) ◌+ℤ◌ (across)) (moved-size (corner).x c.args.dx (small).0 c.requires.0.1.0),
+        rw (op_gives (is_y) (is_dy) ◌+ℤ◌ (up)) (moved-size (corner).y c.args.dy (small).1 c.requires.0.1.1),
+      ),
+      c.requires.1.1,
+    )
 
 pub returns : goal.returns
 returns c =

@@ -35,19 +35,19 @@ returns-then-gap-eq0 c = told-nothing _
 
 pub between-a-requires : goal.between-a-requires
 between-a-requires c =
-    let both : (2 ≤ length c.args.p.now) × (2 ≤ length c.args.q.now) = (numbers c.args.p.now c.requires.0.0, numbers c.args.q.now c.requires.0.1) in
+    let both : (2 ≤ length c.args.p.now) × (2 ≤ length c.args.q.now) = (numbers c.args.p.now c.requires.sound_part.0, numbers c.args.q.now c.requires.sound_part.1) in
     let short : Short 4096 (to_z w16 (of_z w16 c.args.dx)) (to_z w16 (of_z w16 c.args.dy)) = (let is_dx : to_z w16 (of_z w16 c.args.dx) ≡ c.args.dx = to_z-of_z w16 c.args.dx c.ranges.dx in
     let is_dy : to_z w16 (of_z w16 c.args.dy) ≡ c.args.dy = to_z-of_z w16 c.args.dy c.ranges.dy in
-    (rw (is_dx) c.requires.1.0.0, rw (is_dy) c.requires.1.0.1)) in
-    ((both, (omega arith, (short).0)), c.requires.1.1)
+    (rw (is_dx) c.requires.short.0.0, rw (is_dy) c.requires.short.0.1)) in
+    record { in_bounds = (both, (omega arith, (short).0)); compact = c.requires.short.1 }
 
 pub between-b-requires : goal.between-b-requires
 between-b-requires c =
-    let both : (2 ≤ length c.args.p.now) × (2 ≤ length c.args.q.now) = (numbers c.args.p.now c.requires.0.0, numbers c.args.q.now c.requires.0.1) in
+    let both : (2 ≤ length c.args.p.now) × (2 ≤ length c.args.q.now) = (numbers c.args.p.now c.requires.sound_part.0, numbers c.args.q.now c.requires.sound_part.1) in
     let short : Short 4096 (to_z w16 (of_z w16 c.args.dx)) (to_z w16 (of_z w16 c.args.dy)) = (let is_dx : to_z w16 (of_z w16 c.args.dx) ≡ c.args.dx = to_z-of_z w16 c.args.dx c.ranges.dx in
     let is_dy : to_z w16 (of_z w16 c.args.dy) ≡ c.args.dy = to_z-of_z w16 c.args.dy c.ranges.dy in
-    (rw (is_dx) c.requires.1.0.0, rw (is_dy) c.requires.1.0.1)) in
-    ((both, (omega arith, (short).1)), c.requires.1.1)
+    (rw (is_dx) c.requires.short.0.0, rw (is_dy) c.requires.short.0.1)) in
+    record { in_bounds = (both, (omega arith, (short).1)); compact = c.requires.short.1 }
 
 pub overflow_cast-a : goal.overflow_cast-a
 overflow_cast-a c =
@@ -63,7 +63,7 @@ overflow_cast-b c =
 
 pub furthest-i-requires : goal.furthest-i-requires
 furthest-i-requires c =
-    let both : (2 ≤ length c.args.p.now) × (2 ≤ length c.args.q.now) = (numbers c.args.p.now c.requires.0.0, numbers c.args.q.now c.requires.0.1) in
+    let both : (2 ≤ length c.args.p.now) × (2 ≤ length c.args.q.now) = (numbers c.args.p.now c.requires.sound_part.0, numbers c.args.q.now c.requires.sound_part.1) in
     (both).0
 
 pub overflow_cast-a-2 : goal.overflow_cast-a-2
@@ -94,14 +94,14 @@ overflow_sub-b c =
 
 pub furthest-j-requires : goal.furthest-j-requires
 furthest-j-requires c =
-    let both : (2 ≤ length c.args.p.now) × (2 ≤ length c.args.q.now) = (numbers c.args.p.now c.requires.0.0, numbers c.args.q.now c.requires.0.1) in
+    let both : (2 ≤ length c.args.p.now) × (2 ≤ length c.args.q.now) = (numbers c.args.p.now c.requires.sound_part.0, numbers c.args.q.now c.requires.sound_part.1) in
     (both).1
 
 pub apart-requires : goal.apart-requires
 apart-requires c =
     let short : Short 4096 (to_z w16 (of_z w16 c.args.dx)) (to_z w16 (of_z w16 c.args.dy)) = (let is_dx : to_z w16 (of_z w16 c.args.dx) ≡ c.args.dx = to_z-of_z w16 c.args.dx c.ranges.dx in
     let is_dy : to_z w16 (of_z w16 c.args.dy) ≡ c.args.dy = to_z-of_z w16 c.args.dy c.ranges.dy in
-    (rw (is_dx) c.requires.1.0.0, rw (is_dy) c.requires.1.0.1)) in
+    (rw (is_dx) c.requires.short.0.0, rw (is_dy) c.requires.short.0.1)) in
     let i : ℕ = c.furthest-i.result in
     let j : ℕ = c.furthest-j.result in
     let places : (2 * i + 1 < length c.args.p.now) × (2 * j + 1 < length c.args.q.now) = (let first : Part = part_of c.args.p.now in
@@ -131,13 +131,13 @@ apart-requires c =
     (λ k. direction (op_gives {x = pos 0} refl (cast_gives w32 (a_fits) tt) ◌-ℤ◌ (opposite (a) (a_fits)) k) (op_gives {x = pos 0} refl (cast_gives w32 (b_fits) tt) ◌-ℤ◌ (opposite (b) (b_fits)) k))
     c.furthest-j.ensures) in
     (omega (arith, (ahead).inside, part_length c.args.p.now), omega (arith, (back).inside, part_length c.args.q.now))) in
-    ((places, (omega arith, (short).0)), c.requires.1.1)
+    record { i_in_bounds = (places, (omega arith, (short).0)); compact = c.requires.short.1 }
 
 pub apart-requires-2 : goal.apart-requires-2
 apart-requires-2 c =
     let short : Short 4096 (to_z w16 (of_z w16 c.args.dx)) (to_z w16 (of_z w16 c.args.dy)) = (let is_dx : to_z w16 (of_z w16 c.args.dx) ≡ c.args.dx = to_z-of_z w16 c.args.dx c.ranges.dx in
     let is_dy : to_z w16 (of_z w16 c.args.dy) ≡ c.args.dy = to_z-of_z w16 c.args.dy c.ranges.dy in
-    (rw (is_dx) c.requires.1.0.0, rw (is_dy) c.requires.1.0.1)) in
+    (rw (is_dx) c.requires.short.0.0, rw (is_dy) c.requires.short.0.1)) in
     let i : ℕ = c.furthest-i.result in
     let j : ℕ = c.furthest-j.result in
     let places : (2 * i + 1 < length c.args.p.now) × (2 * j + 1 < length c.args.q.now) = (let first : Part = part_of c.args.p.now in
@@ -167,7 +167,7 @@ apart-requires-2 c =
     (λ k. direction (op_gives {x = pos 0} refl (cast_gives w32 (a_fits) tt) ◌-ℤ◌ (opposite (a) (a_fits)) k) (op_gives {x = pos 0} refl (cast_gives w32 (b_fits) tt) ◌-ℤ◌ (opposite (b) (b_fits)) k))
     c.furthest-j.ensures) in
     (omega (arith, (ahead).inside, part_length c.args.p.now), omega (arith, (back).inside, part_length c.args.q.now))) in
-    ((places, (omega arith, (short).1)), c.requires.1.1)
+    record { i_in_bounds = (places, (omega arith, (short).1)); compact = c.requires.short.1 }
 
 pub returns : goal.returns
 returns c =
@@ -229,4 +229,4 @@ returns c =
     to_z-of_z w16 _ (sfits_of c.apart-2.type_inv) ∙ c.apart-2.ensures ∙ (λ k. (vertex_at (second) (j)).y +ℤ is_dy k -ℤ (vertex_at (first) (i)).y)) in
     subst (λ r. Tells r (separated c.args.gap (first) (map (shifted c.args.dx c.args.dy) (second))))
     (sym (c.told.ensures ∙ (λ k. told_by c.args.gap (to_z-of_z w16 (a) (a_fits) k) (to_z-of_z w16 (b) (b_fits) k) (is_x k) (is_y k))))
-    (told-so c.args.gap (first) (second) c.args.dx c.args.dy (a) (b) c.requires.0.0 c.requires.0.1 (i) (j) (ahead) (back))
+    (told-so c.args.gap (first) (second) c.args.dx c.args.dy (a) (b) c.requires.sound_part.0 c.requires.sound_part.1 (i) (j) (ahead) (back))
