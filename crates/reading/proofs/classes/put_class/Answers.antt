@@ -1,5 +1,4 @@
 use Rattle.reading.proofs.ClassLaws.{class-written}
-use borrow.Author.Rules.{rules}
 use Rattle.reading.proofs.classes.put_class.Goals as goal
 
 pub returns : goal.returns

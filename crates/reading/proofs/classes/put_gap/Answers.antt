@@ -2,7 +2,6 @@ use native.Mathlib.Omega.{arith}
 use Rattle.model.proofs.CommonCut.{meant_most}
 use Rattle.reading.proofs.ClassLaws.{gap-written}
 use Rattle.words.proofs.Cases.{at_most_one}
-use borrow.Author.Rules.{rules}
 use Rattle.reading.proofs.classes.put_gap.Goals as goal
 
 pub put-requires : goal.put-requires

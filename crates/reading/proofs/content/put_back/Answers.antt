@@ -2,7 +2,6 @@ use native.Mathlib.Omega.{arith}
 use Rattle.model.proofs.AcceptedKinds.{pieces-most}
 use Rattle.reading.proofs.ContentLaws.{back_written}
 use Rattle.job.proofs.ViewLaws.{six_none, inside, length-list, list_reads}
-use borrow.Author.Rules.{rules}
 use Rattle.reading.proofs.content.put_back.Goals as goal
 
 pub read_trailer-t-requires : goal.read_trailer-t-requires

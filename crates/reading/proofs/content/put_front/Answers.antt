@@ -1,7 +1,6 @@
 use native.Mathlib.Omega.{arith}
 use Rattle.reading.proofs.ContentLaws.{front_written}
 use Rattle.job.proofs.ViewLaws.{six_none, inside, classes-in}
-use borrow.Author.Rules.{rules}
 use Rattle.reading.proofs.content.put_front.Goals as goal
 
 pub read_trailer-t-requires : goal.read_trailer-t-requires

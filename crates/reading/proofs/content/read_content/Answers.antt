@@ -7,7 +7,6 @@ use Rattle.model.specs.Services.{content_numbers}
 use Rattle.model.specs.declared.Written.TheVariants as W
 use Rattle.reading.proofs.ContentLaws.{kinds-some, content-length, content-few, content-fits, content-written}
 use Rattle.job.proofs.ViewLaws.{six_none, inside}
-use borrow.Author.Rules.{rules}
 use Rattle.reading.proofs.content.read_content.Goals as goal
 
 -- Too small an answer is refused, and left as it is.
@@ -17,7 +16,7 @@ returns-then-answer-count c =
     let l = content-length c.args.job.now c.requires.0 in
     let few : length c.args.answer.now / 2 < length (content_numbers (content c.args.job.now)) = omega arith in
     let q = content-few c.args.job.now c.requires.0 c.args.answer.now few in
-    (sym (ap (λ o. o.answer) q), sym (ap (λ o. o.buffer) q))
+    record { value = sym (ap (λ o. o.answer) q); answer_after = sym (ap (λ o. o.buffer) q) }
 
 -- Otherwise the numbers fit, and stand at its front.
 pub returns : goal.returns
@@ -27,7 +26,7 @@ returns c =
     let fit : length (content_numbers (content c.args.job.now)) ≤ length c.args.answer.now / 2 = omega arith in
     let q = content-fits c.args.job.now c.requires.0 c.args.answer.now fit in
     let w = content-written c.args.job.now c.requires.0 _ c.args.answer.now _ _ (omega arith) (omega arith) c.put_front.ensures c.put_back.ensures in
-    (ap W.Count (omega arith) ∙ sym (ap (λ o. o.answer) q), w ∙ sym (ap (λ o. o.buffer) q))
+    record { value = ap W.Count (omega arith) ∙ sym (ap (λ o. o.answer) q); answer_after = w ∙ sym (ap (λ o. o.buffer) q) }
 
 pub read_trailer-t-requires : goal.read_trailer-t-requires
 read_trailer-t-requires c = (inside _ (six_none _ c.requires.0)).least

@@ -1,17 +1,13 @@
-use mathlib.Core.Path.{◌≡◌, ap, ◌∙◌}
-use Prim.Native.Nat.{◌≤◌, ◌-◌}
+use mathlib.Core.Path.{ap, ◌∙◌}
 use native.Mathlib.Omega.{arith}
-use lib.ListN.{length}
-use Rattle.model.specs.Format.{many, read_kind}
+use Rattle.model.specs.Format.{read_kind}
 use Rattle.model.specs.Services.{kind_numbers}
-use Rattle.records.specs.Records.{Reads}
 use Rattle.records.proofs.RecordLaws.{reads_none}
 use Rattle.records.proofs.NextLaws.{kind-begins, kind-ends, parts-read}
 use Rattle.reading.specs.Write.{kinds_numbers}
 use Rattle.writing.specs.Numbers.{with_numbers_at}
 use Rattle.reading.proofs.ListingLaws.{kind-each, kinds-more}
 use Rattle.reading.proofs.WriteLaws.{records_none}
-use borrow.Author.Rules.{rules}
 use Rattle.reading.proofs.listing.put_kinds.Goals as goal
 
 pub loop-t-init : goal.loop-t-init
@@ -34,16 +30,16 @@ byte-requires c = omega (arith, kind-begins c.args.list.now c.args.n _ c.loop-t.
 
 pub put_parts-here-requires : goal.put_parts-here-requires
 put_parts-here-requires c =
-    let l = c.put_bytes.auto.1.1.1.1.0 in
+    let l = c.put_bytes.auto.answer in
     (omega arith, parts-read c.args.list.now c.args.n _ c.loop-t.t c.loop-t.here c.requires.1 c.loop-t-test.true c.loop-t.invariant.1.0 _ c.byte.ensures.0)
 
 pub loop-t-preserved : goal.loop-t-preserved
 loop-t-preserved c =
     let l = c.loop-t.invariant.0.1 in (
-      (omega arith, c.put_parts-here.auto.1.1.1.0 ∙ c.put_bytes.auto.1.1.1.1.0 ∙ l),
+      (omega arith, c.put_parts-here.auto.answer ∙ c.put_bytes.auto.answer ∙ l),
       (
-        kind-ends c.args.list.now c.args.n _ c.loop-t.t c.loop-t.here c.requires.1 c.loop-t-test.true c.loop-t.invariant.1.0 _ c.byte.ensures.0 _ c.put_parts-here.ensures.1,
-        kinds-more c.args.list.now c.args.n _ c.loop-t.t c.loop-t.here c.requires.1 c.loop-t-test.true c.loop-t.invariant.1.0 _ c.args.at _ _ _ _ c.byte.ensures.0 c.loop-t.invariant.1.1 c.put_bytes.ensures c.put_parts-here.ensures.0,
+        kind-ends c.args.list.now c.args.n _ c.loop-t.t c.loop-t.here c.requires.1 c.loop-t-test.true c.loop-t.invariant.1.0 _ c.byte.ensures.0 _ c.put_parts-here.ensures.value,
+        kinds-more c.args.list.now c.args.n _ c.loop-t.t c.loop-t.here c.requires.1 c.loop-t-test.true c.loop-t.invariant.1.0 _ c.args.at _ _ _ _ c.byte.ensures.0 c.loop-t.invariant.1.1 c.put_bytes.ensures c.put_parts-here.ensures.answer_after,
       ),
     )
 

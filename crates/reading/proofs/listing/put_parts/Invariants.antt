@@ -1,16 +1,10 @@
-use mathlib.Core.Path.{◌≡◌, ◌∙◌}
+use mathlib.Core.Path.{◌≡◌}
 use Prim.Native.Nat.{◌≤◌, ◌+◌, ◌-◌}
-use native.Mathlib.Omega.{arith}
 use lib.ListN.{length, drop}
 use Rattle.model.specs.Format.{many, read_part}
-use Rattle.model.specs.Services.{part_numbers}
 use Rattle.records.specs.Records.{Reads}
-use Rattle.records.proofs.NextLaws.{parts-start, parts-end, part-begins, part-next}
 use Rattle.reading.specs.Write.{parts_numbers}
 use Rattle.writing.specs.Numbers.{with_numbers_at}
-use Rattle.reading.proofs.ListingLaws.{part-each, parts_more, parts-done}
-use Rattle.reading.proofs.WriteLaws.{records_none}
-use borrow.Author.Rules.{rules}
 use Rattle.reading.proofs.listing.put_parts.Given as goal
 
 abbrev pub invariant-loop-i : goal.invariant-loop-i
