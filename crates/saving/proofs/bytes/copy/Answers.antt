@@ -1,10 +1,7 @@
-use mathlib.Core.Path.{◌≡◌, ◌∙◌}
-use Prim.Native.Nat.{◌≤◌, ◌-◌}
+use mathlib.Core.Path.{◌∙◌}
 use native.Mathlib.Omega.{arith}
-use lib.ListN.{length, take, drop, length-set}
-use lib.Seq.{sets}
+use lib.ListN.{length-set}
 use Rattle.saving.proofs.CopyLaws.{copy_none, copy_more, copy_all}
-use borrow.Author.Rules.{rules}
 use Rattle.saving.proofs.bytes.copy.Goals as goal
 
 pub loop-k-init : goal.loop-k-init

@@ -1,6 +1,5 @@
 use mathlib.Core.Path.{◌∙◌}
 use Rattle.words.proofs.Place.{with_number-sets}
-use borrow.Author.Rules.{rules}
 use Rattle.saving.proofs.bytes.put_word.Goals as goal
 
 pub returns : goal.returns

@@ -1,13 +1,7 @@
-use mathlib.Core.Path.{◌≡◌, ◌∙◌}
-use Prim.Native.Nat.{◌≤◌, ◌-◌}
+use mathlib.Core.Path.{◌∙◌}
 use native.Mathlib.Omega.{arith}
-use lib.ListN.{length}
-use lib.Seq.{sets}
-use Rattle.model.specs.Saving.{class_list}
-use Rattle.records.specs.Rising.{classes_at_first}
 use Rattle.records.proofs.RisingLaws.{at_most-eight}
 use Rattle.saving.proofs.SavingLaws.{classes-none, classes-more, classes-all}
-use borrow.Author.Rules.{rules}
 use Rattle.saving.proofs.classes.put_classes.Goals as goal
 
 pub places-places-requires : goal.places-places-requires
@@ -26,7 +20,7 @@ pub copy-requires : goal.copy-requires
 copy-requires c = (c.places-places.ensures.inside c.loop-k.k c.loop-k-test.true, omega (arith, c.requires.0.1))
 
 pub loop-k-preserved : goal.loop-k-preserved
-loop-k-preserved c = ((omega arith, c.copy.auto.1.1.1.0 ∙ c.loop-k.invariant.0.1), classes-more c.args.job.now c.places-places.result c.args.at c.loop-k.k _ _ _ (c.places-places.ensures.inside c.loop-k.k c.loop-k-test.true) c.loop-k.invariant.1 c.copy.ensures)
+loop-k-preserved c = ((omega arith, c.copy.auto.answer ∙ c.loop-k.invariant.0.1), classes-more c.args.job.now c.places-places.result c.args.at c.loop-k.k _ _ _ (c.places-places.ensures.inside c.loop-k.k c.loop-k-test.true) c.loop-k.invariant.1 c.copy.ensures)
 
 pub shape_of-answer : goal.shape_of-answer
 shape_of-answer c = c.loop-k.invariant.0.1

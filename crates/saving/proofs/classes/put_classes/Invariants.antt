@@ -1,13 +1,9 @@
-use mathlib.Core.Path.{◌≡◌, ◌∙◌}
+use mathlib.Core.Path.{◌≡◌}
 use Prim.Native.Nat.{◌≤◌, ◌-◌}
-use native.Mathlib.Omega.{arith}
 use lib.ListN.{length}
 use lib.Seq.{sets}
 use Rattle.model.specs.Saving.{class_list}
 use Rattle.records.specs.Rising.{classes_at_first}
-use Rattle.records.proofs.RisingLaws.{at_most-eight}
-use Rattle.saving.proofs.SavingLaws.{classes-none, classes-more, classes-all}
-use borrow.Author.Rules.{rules}
 use Rattle.saving.proofs.classes.put_classes.Given as goal
 
 abbrev pub invariant-loop-k : goal.invariant-loop-k

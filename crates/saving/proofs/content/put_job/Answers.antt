@@ -1,7 +1,6 @@
 use native.Mathlib.Omega.{arith}
 use Rattle.job.proofs.ViewLaws.{six_none, inside, classes-in}
 use Rattle.saving.proofs.SavingLaws.{job-written}
-use borrow.Author.Rules.{rules}
 use Rattle.saving.proofs.content.put_job.Goals as goal
 
 pub read_trailer-t-requires : goal.read_trailer-t-requires

@@ -7,7 +7,6 @@ use Rattle.model.specs.Saving.{written}
 use Rattle.model.specs.declared.Written.TheVariants as W
 use Rattle.job.proofs.ViewLaws.{six_none, inside}
 use Rattle.saving.proofs.SavingLaws.{saved_size, save-short, save-fits}
-use borrow.Author.Rules.{rules}
 use Rattle.saving.proofs.content.save_content.Goals as goal
 
 pub read_trailer-t-requires : goal.read_trailer-t-requires
@@ -19,7 +18,7 @@ returns-then-answer-count c =
     let n = saved_size c.args.job.now (λ i. (c.shared_slice_known-1.given i).fits) c.requires in
     let few : length c.args.answer.now < length (written (content c.args.job.now)) = omega (arith, t.class_count, t.kinds_length) in
     let q = save-short (content c.args.job.now) c.args.answer.now few in
-    (sym (ap (λ o. o.answer) q), sym (ap (λ o. o.buffer) q))
+    record { value = sym (ap (λ o. o.answer) q); answer_after = sym (ap (λ o. o.buffer) q) }
 
 pub put_job-requires : goal.put_job-requires
 put_job-requires c = (c.requires, omega (arith, c.read_trailer-t.ensures.class_count, c.read_trailer-t.ensures.kinds_length))
@@ -33,4 +32,7 @@ returns c =
     let n = saved_size c.args.job.now (λ i. (c.shared_slice_known-1.given i).fits) c.requires in
     let fit : length (written (content c.args.job.now)) ≤ length c.args.answer.now = omega (arith, t.class_count, t.kinds_length) in
     let q = save-fits (content c.args.job.now) c.args.answer.now fit in
-    (ap W.Count (omega (arith, t.class_count, t.kinds_length)) ∙ sym (ap (λ o. o.answer) q), c.put_job.ensures ∙ sym (ap (λ o. o.buffer) q))
+    record {
+      value = ap W.Count (omega (arith, t.class_count, t.kinds_length)) ∙ sym (ap (λ o. o.answer) q);
+      answer_after = c.put_job.ensures ∙ sym (ap (λ o. o.buffer) q);
+    }

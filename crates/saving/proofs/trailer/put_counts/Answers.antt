@@ -1,5 +1,4 @@
 use Rattle.saving.proofs.SavingLaws.{counts-written}
-use borrow.Author.Rules.{rules}
 use Rattle.saving.proofs.trailer.put_counts.Goals as goal
 
 pub returns : goal.returns

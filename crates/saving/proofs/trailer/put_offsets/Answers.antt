@@ -1,5 +1,4 @@
 use Rattle.saving.proofs.SavingLaws.{offsets_written}
-use borrow.Author.Rules.{rules}
 use Rattle.saving.proofs.trailer.put_offsets.Goals as goal
 
 pub returns : goal.returns

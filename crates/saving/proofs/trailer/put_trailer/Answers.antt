@@ -1,5 +1,4 @@
 use Rattle.saving.proofs.SavingLaws.{trailer_written}
-use borrow.Author.Rules.{rules}
 use Rattle.saving.proofs.trailer.put_trailer.Goals as goal
 
 pub returns : goal.returns
