@@ -26,8 +26,8 @@ pub look-seen-requires : goal.look-seen-requires
 look-seen-requires c =
     let first : Part = part_of c.args.p.now in
     let second : Part = part_of c.args.q.now in
-    let short : Short 4096 (to_z w16 (of_z w16 c.args.dx)) (to_z w16 (of_z w16 c.args.dy)) × (Compact (first) × Compact (second)) = ((rw (to_z-of_z w16 c.args.dx c.ranges.dx) c.requires.1.0.0, rw (to_z-of_z w16 c.args.dy c.ranges.dy) c.requires.1.0.1), c.requires.1.1) in
-    (c.requires.0, short)
+    let short : Short 4096 (to_z w16 (of_z w16 c.args.dx)) (to_z w16 (of_z w16 c.args.dy)) × (Compact (first) × Compact (second)) = ((rw (to_z-of_z w16 c.args.dx c.ranges.dx) c.requires.short.0.0, rw (to_z-of_z w16 c.args.dy c.ranges.dy) c.requires.short.0.1), c.requires.short.1) in
+    record { sound_part = c.requires.sound_part; short = short }
 
 pub returns-then-seen-ne-OPEN : goal.returns-then-seen-ne-OPEN
 returns-then-seen-ne-OPEN c =
@@ -35,7 +35,7 @@ returns-then-seen-ne-OPEN c =
     let second : Part = part_of c.args.q.now in
     let first : Part = part_of c.args.p.now in
     let second : Part = part_of c.args.q.now in
-    let corner : (0 < length (first)) × (0 < length (second)) = (omega (arith, c.requires.0.0.corners), omega (arith, c.requires.0.1.corners)) in
+    let corner : (0 < length (first)) × (0 < length (second)) = (omega (arith, c.requires.sound_part.0.corners), omega (arith, c.requires.sound_part.1.corners)) in
     let first : Part = part_of c.args.p.now in
     let second : Part = part_of c.args.q.now in
     let seen : Tells c.look-seen.result (separated c.args.gap (first) (map (shifted c.args.dx c.args.dy) (second))) = (let first : Part = part_of c.args.p.now in
@@ -45,7 +45,7 @@ returns-then-seen-ne-OPEN c =
     beside_seen c.args.gap (first) (second) c.args.dx c.args.dy (corner).0 (corner).1 _ c.if-seen-ne-OPEN.true (seen)
 
 pub edges_separate-requires : goal.edges_separate-requires
-edges_separate-requires c = c.requires.0
+edges_separate-requires c = c.requires.sound_part
 
 pub returns-then-not-edges_separate : goal.returns-then-not-edges_separate
 returns-then-not-edges_separate c =
@@ -53,19 +53,19 @@ returns-then-not-edges_separate c =
     let second : Part = part_of c.args.q.now in
     let first : Part = part_of c.args.p.now in
     let second : Part = part_of c.args.q.now in
-    let corner : (0 < length (first)) × (0 < length (second)) = (omega (arith, c.requires.0.0.corners), omega (arith, c.requires.0.1.corners)) in
+    let corner : (0 < length (first)) × (0 < length (second)) = (omega (arith, c.requires.sound_part.0.corners), omega (arith, c.requires.sound_part.1.corners)) in
     let first : Part = part_of c.args.p.now in
     let second : Part = part_of c.args.q.now in
     let edges : c.edges_separate.result ≡ any (separates_moved (first) (second) (vertex c.args.dx c.args.dy)) (normals (first)) = (let first : Part = part_of c.args.p.now in
     let second : Part = part_of c.args.q.now in
     c.edges_separate.ensures ∙ read₂ w16 c.args.dx c.args.dy c.ranges.dx c.ranges.dy (λ x y. any (separates_moved (first) (second) (vertex x y)) (normals (first)))) in
-    beside_none c.args.gap (first) (second) c.args.dx c.args.dy (corner).0 (corner).1 (sym (edges) ∙ not-true _ c.if-not-edges_separate.true)
+    beside_none c.args.gap (first) (second) c.args.dx c.args.dy (corner).0 (corner).1 (sym (edges) ∙ c.if-not-edges_separate.true)
 
 pub both_clear-requires : goal.both_clear-requires
 both_clear-requires c =
     let first : Part = part_of c.args.p.now in
     let second : Part = part_of c.args.q.now in
-    let short : Short 4096 (to_z w16 (of_z w16 c.args.dx)) (to_z w16 (of_z w16 c.args.dy)) × (Compact (first) × Compact (second)) = ((rw (to_z-of_z w16 c.args.dx c.ranges.dx) c.requires.1.0.0, rw (to_z-of_z w16 c.args.dy c.ranges.dy) c.requires.1.0.1), c.requires.1.1) in
+    let short : Short 4096 (to_z w16 (of_z w16 c.args.dx)) (to_z w16 (of_z w16 c.args.dy)) × (Compact (first) × Compact (second)) = ((rw (to_z-of_z w16 c.args.dx c.ranges.dx) c.requires.short.0.0, rw (to_z-of_z w16 c.args.dy c.ranges.dy) c.requires.short.0.1), c.requires.short.1) in
     short
 
 pub returns-then-both_clear : goal.returns-then-both_clear
@@ -74,7 +74,7 @@ returns-then-both_clear c =
     let second : Part = part_of c.args.q.now in
     let first : Part = part_of c.args.p.now in
     let second : Part = part_of c.args.q.now in
-    let corner : (0 < length (first)) × (0 < length (second)) = (omega (arith, c.requires.0.0.corners), omega (arith, c.requires.0.1.corners)) in
+    let corner : (0 < length (first)) × (0 < length (second)) = (omega (arith, c.requires.sound_part.0.corners), omega (arith, c.requires.sound_part.1.corners)) in
     let first : Part = part_of c.args.p.now in
     let second : Part = part_of c.args.q.now in
     let distances : c.both_clear.result ≡ both_clear c.args.gap (first) (map (shifted c.args.dx c.args.dy) (second)) = (let first : Part = part_of c.args.p.now in
@@ -87,7 +87,7 @@ returns-then-both_clear c =
     let edges : c.edges_separate.result ≡ any (separates_moved (first) (second) (vertex c.args.dx c.args.dy)) (normals (first)) = (let first : Part = part_of c.args.p.now in
     let second : Part = part_of c.args.q.now in
     c.edges_separate.ensures ∙ read₂ w16 c.args.dx c.args.dy c.ranges.dx c.ranges.dy (λ x y. any (separates_moved (first) (second) (vertex x y)) (normals (first)))) in
-    sym (edges) ∙ not-false _ c.if-not-edges_separate.false) in
+    sym (edges) ∙ c.if-not-edges_separate.false) in
     beside_some c.args.gap (first) (second) c.args.dx c.args.dy (corner).0 (corner).1 (separates) true (sym c.if-both_clear.true ∙ distances)
 
 pub returns-else-both_clear : goal.returns-else-both_clear
@@ -96,7 +96,7 @@ returns-else-both_clear c =
     let second : Part = part_of c.args.q.now in
     let first : Part = part_of c.args.p.now in
     let second : Part = part_of c.args.q.now in
-    let corner : (0 < length (first)) × (0 < length (second)) = (omega (arith, c.requires.0.0.corners), omega (arith, c.requires.0.1.corners)) in
+    let corner : (0 < length (first)) × (0 < length (second)) = (omega (arith, c.requires.sound_part.0.corners), omega (arith, c.requires.sound_part.1.corners)) in
     let first : Part = part_of c.args.p.now in
     let second : Part = part_of c.args.q.now in
     let distances : c.both_clear.result ≡ both_clear c.args.gap (first) (map (shifted c.args.dx c.args.dy) (second)) = (let first : Part = part_of c.args.p.now in
@@ -109,5 +109,5 @@ returns-else-both_clear c =
     let edges : c.edges_separate.result ≡ any (separates_moved (first) (second) (vertex c.args.dx c.args.dy)) (normals (first)) = (let first : Part = part_of c.args.p.now in
     let second : Part = part_of c.args.q.now in
     c.edges_separate.ensures ∙ read₂ w16 c.args.dx c.args.dy c.ranges.dx c.ranges.dy (λ x y. any (separates_moved (first) (second) (vertex x y)) (normals (first)))) in
-    sym (edges) ∙ not-false _ c.if-not-edges_separate.false) in
+    sym (edges) ∙ c.if-not-edges_separate.false) in
     beside_some c.args.gap (first) (second) c.args.dx c.args.dy (corner).0 (corner).1 (separates) false (sym c.if-both_clear.false ∙ distances)

@@ -40,7 +40,7 @@ returns-then-not-corners_clear c =
     let second : Part = part_of c.args.q.now in
     c.corners_clear.ensures
     ∙ read₂ w16 c.args.dx c.args.dy c.ranges.dx c.ranges.dy (λ x y. corners_clear c.args.gap (map (shifted x y) (second)) (first))) in
-    both_second c.args.gap (first) (moved) (sym (there) ∙ not-true _ c.if-not-corners_clear.true)
+    both_second c.args.gap (first) (moved) (sym (there) ∙ c.if-not-corners_clear.true)
 
 pub overflow_sub-dx : goal.overflow_sub-dx
 overflow_sub-dx c = opposite_held c.ranges.dx c.requires.0.0
@@ -51,11 +51,10 @@ overflow_sub-dy c = opposite_held c.ranges.dy c.requires.0.1
 pub corners_clear-requires-2 : goal.corners_clear-requires-2
 corners_clear-requires-2 c =
     let is_back_x : to_z w16 (of_z w16 (pos 0 -ℤ to_z w16 (of_z w16 c.args.dx))) ≡ pos 0 -ℤ c.args.dx = opposite_gives c.ranges.dx c.requires.0.0 in
-    let is_back_y : to_z w16 (of_z w16 (pos 0 -ℤ to_z w16 (of_z w16 c.args.dy))) ≡ pos 0 -ℤ c.args.dy = opposite_gives c.ranges.dy c.requires.0.1 in
-    (
-  (rw (is_back_x) (opposite_size c.args.dx c.requires.0.0), rw (is_back_y) (opposite_size c.args.dy c.requires.0.1)),
-  c.requires.1,
-)
+    let is_back_y : to_z w16 (of_z w16 (pos 0 -ℤ to_z w16 (of_z w16 c.args.dy))) ≡ pos 0 -ℤ c.args.dy = opposite_gives c.ranges.dy c.requires.0.1 in (
+      (rw (is_back_x) (opposite_size c.args.dx c.requires.0.0), rw (is_back_y) (opposite_size c.args.dy c.requires.0.1)),
+      c.requires.1,
+    )
 
 pub returns : goal.returns
 returns c =
@@ -79,4 +78,4 @@ returns c =
     c.corners_clear-2.ensures
     ∙ (λ i. corners_clear c.args.gap (map (shifted (is_back_x i) (is_back_y i)) (first)) (second))
     ∙ clear-back c.args.gap (first) (second) c.args.dx c.args.dy) in
-    back ∙ both_first c.args.gap (first) (moved) (sym (there) ∙ not-false _ c.if-not-corners_clear.false)
+    back ∙ both_first c.args.gap (first) (moved) (sym (there) ∙ c.if-not-corners_clear.false)

@@ -17,7 +17,7 @@ use Rattle.geometry.specs.Pieces.{part_in, parts_in, part_conflicts}
 use Rattle.geometry.proofs.pieces.part_conflicts.Given as goal
 
 abbrev pub invariant-loop-m : goal.invariant-loop-m
-invariant-loop-m l = (l.m ≤ l.n) × (any (conflict_at l.gap (part_in l.table l.p l.i) l.table l.q (to_z w16 l.dx) (to_z w16 l.dy)) (below l.m) ≡ false)
+invariant-loop-m l = (l.m ≤ l.n) × (any (conflict_at l.gap (part_in l.table l.p l.i) l.table l.q l.dx l.dy) (below l.m) ≡ false)
 
 abbrev pub decreases-loop-m : goal.decreases-loop-m
 decreases-loop-m l = l.n - l.m
