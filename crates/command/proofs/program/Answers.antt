@@ -9,5 +9,9 @@ use Rattle.command.proofs.program.Goals as goal
 pub returns : goal.returns
 returns c =
     let answered = c.respond in
-    let same = answered.ensures.1.1.1.0 refl refl refl in
-    (answered.ensures.0 ∙ ap length same, (answered.ensures.1.0 ∙ ap (λ (t : List ℕ). t ++ drop answered.result c.args.text.now) same, answered.ensures.1.1.0))
+    let same = answered.ensures.answer_value refl refl refl in
+    record {
+      value = answered.ensures.value ∙ ap length same;
+      text_after = answered.ensures.text_after ∙ ap (λ (t : List ℕ). t ++ drop answered.result c.args.text.now) same;
+      upper_bound = answered.ensures.upper_bound;
+    }

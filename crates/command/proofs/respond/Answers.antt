@@ -11,6 +11,13 @@ returns c =
     let ran = c.run-a in
     let put = c.render in
     let bytes : List ℕ = c.args.bytes.now in
-    let text = text-told bytes shown.result c.args.margin c.args.budget c.args.layout.now c.args.work.now c.args.answer.now _ ran.result shown.ensures ran.ensures.0 ran.ensures.1.1 in
-    let front = text-as _ _ c.args.text.now _ put.result text put.ensures.0 put.ensures.1.0 in
-    (front.0, (front.1, (put.ensures.1.1, (λ m e n. rw (m, e) (prints-program bytes c.args.layout.now c.args.work.now c.args.answer.now n c.requires.0 c.requires.1), (ran.ensures.1.0, ran.ensures.1.1)))))
+    let text = text-told bytes shown.result c.args.margin c.args.budget c.args.layout.now c.args.work.now c.args.answer.now _ ran.result shown.ensures ran.ensures.told ran.ensures.held in
+    let front = text-as _ _ c.args.text.now _ put.result text put.ensures.value put.ensures.dst_after in
+    record {
+      value = front.0;
+      text_after = front.1;
+      upper_bound = put.ensures.upper_bound;
+      answer_value = λ m e n. rw (m, e) (prints-program bytes c.args.layout.now c.args.work.now c.args.answer.now n c.requires.0 c.requires.1);
+      work_after = ran.ensures.cleared;
+      answer_after = ran.ensures.held;
+    }

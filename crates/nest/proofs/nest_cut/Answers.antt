@@ -5,4 +5,4 @@ use borrow.Author.Rules.{rules}
 use Rattle.nest.proofs.nest_cut.Goals as goal
 
 pub returns : goal.returns
-returns c = (c.written_word.ensures ∙ ap written_word c.cut.ensures.0, c.cut.ensures.1)
+returns c = (c.written_word.ensures ∙ ap written_word c.cut.ensures.value, c.cut.ensures.answer_after)

@@ -5,4 +5,4 @@ use borrow.Author.Rules.{rules}
 use Rattle.nest.proofs.nest_read.Goals as goal
 
 pub returns : goal.returns
-returns c = (c.written_word.ensures ∙ ap written_word c.read.ensures.0, c.read.ensures.1)
+returns c = (c.written_word.ensures ∙ ap written_word c.read.ensures.value, c.read.ensures.answer_after)

@@ -5,4 +5,4 @@ use borrow.Author.Rules.{rules}
 use Rattle.nest.proofs.nest_row.Goals as goal
 
 pub returns : goal.returns
-returns c = (c.written_word.ensures ∙ ap written_word c.row.ensures.0, c.row.ensures.1)
+returns c = (c.written_word.ensures ∙ ap written_word c.row.ensures.value, c.row.ensures.row_after)

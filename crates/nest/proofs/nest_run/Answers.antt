@@ -7,4 +7,8 @@ use Rattle.nest.proofs.nest_run.Goals as goal
 pub returns : goal.returns
 returns c =
     let ran = c.run in
-    (c.run_word.ensures ∙ ap run_word ran.ensures.0, (ran.ensures.1.0, ran.ensures.1.1))
+    record {
+      value = c.run_word.ensures ∙ ap run_word ran.ensures.told;
+      work_after = ran.ensures.cleared;
+      answer_after = ran.ensures.held;
+    }

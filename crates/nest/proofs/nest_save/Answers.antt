@@ -5,4 +5,4 @@ use borrow.Author.Rules.{rules}
 use Rattle.nest.proofs.nest_save.Goals as goal
 
 pub returns : goal.returns
-returns c = (c.written_word.ensures ∙ ap written_word c.save.ensures.0, c.save.ensures.1)
+returns c = (c.written_word.ensures ∙ ap written_word c.save.ensures.value, c.save.ensures.answer_after)

@@ -13,11 +13,11 @@ pub returns-then-not-is_candidate : goal.returns-then-not-is_candidate
 unfolding bit_of
 returns-then-not-is_candidate c =
     sym
-    (ap (λ t. t && conflict_between c.args.turned.now c.args.view.step c.args.p c.args.a c.args.q (placed_of c.args.view.rows c.args.m) c.args.gap) (sym c.is_candidate.ensures ∙ not-true _ c.if-not-is_candidate.true))
+    (ap (λ t. t && conflict_between c.args.turned.now c.args.view.step c.args.p c.args.a c.args.q (placed_of c.args.view.rows c.args.m) c.args.gap) (sym c.is_candidate.ensures ∙ c.if-not-is_candidate.true))
 
 pub conflict_between-requires : goal.conflict_between-requires
 conflict_between-requires c =
-    let exists : offered c.args.view c.args.boxes c.args.u c.args.m ≡ true = sym c.is_candidate.ensures ∙ not-false _ c.if-not-is_candidate.false in
+    let exists : offered c.args.view c.args.boxes c.args.u c.args.m ≡ true = sym c.is_candidate.ensures ∙ c.if-not-is_candidate.false in
     (
       (c.requires.first, c.requires.place),
       (c.requires.second, subst (Near c.args.view.step) (sym c.placed_of-c.ensures) (candidate-near c.args.view c.args.boxes c.args.u c.args.m c.requires.bounded (exists))),
@@ -26,7 +26,7 @@ conflict_between-requires c =
 pub returns : goal.returns
 unfolding bit_of
 returns c =
-    let exists : offered c.args.view c.args.boxes c.args.u c.args.m ≡ true = sym c.is_candidate.ensures ∙ not-false _ c.if-not-is_candidate.false in
+    let exists : offered c.args.view c.args.boxes c.args.u c.args.m ≡ true = sym c.is_candidate.ensures ∙ c.if-not-is_candidate.false in
     c.conflict_between.ensures
     ∙ ap (λ d. conflict_between c.args.turned.now c.args.view.step c.args.p c.args.a c.args.q d c.args.gap) c.placed_of-c.ensures
     ∙ sym (ap (λ t. t && conflict_between c.args.turned.now c.args.view.step c.args.p c.args.a c.args.q (placed_of c.args.view.rows c.args.m) c.args.gap) (exists))

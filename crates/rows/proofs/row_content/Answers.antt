@@ -16,7 +16,7 @@ returns-then-kind-view c =
     let v = c.args.view in
     let x = c.requires.viewed in
     let q = row-absent (problem_of s v) c.args.kind c.args.number c.args.other c.args.row.now (kind-absent s v x c.args.kind c.args.number c.args.other c.if-kind-view.true) in
-    (sym (ap (λ o. o.answer) q), sym (ap (λ o. o.buffer) q))
+    record { value = sym (ap (λ o. o.answer) q); row_after = sym (ap (λ o. o.buffer) q) }
 
 pub is_candidate-requires : goal.is_candidate-requires
 is_candidate-requires c =
@@ -32,8 +32,8 @@ returns-then-not-is_candidate c =
     let x = c.requires.viewed in
     let h = kinds-exist s v x c.args.kind c.args.other c.if-kind-view.false in
     let q = row-absent (problem_of s v) c.args.kind c.args.number c.args.other c.args.row.now
-    (candidate-absent (problem_of s v) c.args.kind c.args.number c.args.other (sym (offered-is s v c.args.boxes x c.requires.boxes c.args.kind h.0 c.args.number) ∙ sym c.is_candidate.ensures ∙ not-true _ c.if-not-is_candidate.true)) in
-    (sym (ap (λ o. o.answer) q), sym (ap (λ o. o.buffer) q))
+    (candidate-absent (problem_of s v) c.args.kind c.args.number c.args.other (sym (offered-is s v c.args.boxes x c.requires.boxes c.args.kind h.0 c.args.number) ∙ sym c.is_candidate.ensures ∙ c.if-not-is_candidate.true)) in
+    record { value = sym (ap (λ o. o.answer) q); row_after = sym (ap (λ o. o.buffer) q) }
 
 pub overflow_mul-n : goal.overflow_mul-n
 overflow_mul-n c = omega (arith, few-dots c.args.job.now c.args.view c.requires.viewed)
@@ -51,14 +51,14 @@ returns-then-row-n c =
       kind = h.0;
       other = h.1;
       candidate =
-          sym (offered-is s v c.args.boxes c.requires.viewed c.requires.boxes c.args.kind h.0 c.args.number) ∙ sym c.is_candidate.ensures ∙ not-false _ c.if-not-is_candidate.false;
+          sym (offered-is s v c.args.boxes c.requires.viewed c.requires.boxes c.args.kind h.0 c.args.number) ∙ sym c.is_candidate.ensures ∙ c.if-not-is_candidate.false;
     }) in
     let s = c.args.job.now in
     let v = c.args.view in
     let x = c.requires.viewed in
     let q = row-short (problem_of s v) c.args.kind c.args.number c.args.other c.args.row.now (all-exist s v.margin c.args.kind c.args.number c.args.other (asked))
     (rw (word_count s v x) at c.if-row-n.true) in
-    (sym (ap (λ o. o.answer) q), sym (ap (λ o. o.buffer) q))
+    record { value = sym (ap (λ o. o.answer) q); row_after = sym (ap (λ o. o.buffer) q) }
 
 pub fill_for-requires : goal.fill_for-requires
 fill_for-requires c =
@@ -70,7 +70,7 @@ fill_for-requires c =
       kind = h.0;
       other = h.1;
       candidate =
-          sym (offered-is s v c.args.boxes c.requires.viewed c.requires.boxes c.args.kind h.0 c.args.number) ∙ sym c.is_candidate.ensures ∙ not-false _ c.if-not-is_candidate.false;
+          sym (offered-is s v c.args.boxes c.requires.viewed c.requires.boxes c.args.kind h.0 c.args.number) ∙ sym c.is_candidate.ensures ∙ c.if-not-is_candidate.false;
     }) in
     let s = c.args.job.now in
     let v = c.args.view in
@@ -90,11 +90,14 @@ returns c =
       kind = h.0;
       other = h.1;
       candidate =
-          sym (offered-is s v c.args.boxes c.requires.viewed c.requires.boxes c.args.kind h.0 c.args.number) ∙ sym c.is_candidate.ensures ∙ not-false _ c.if-not-is_candidate.false;
+          sym (offered-is s v c.args.boxes c.requires.viewed c.requires.boxes c.args.kind h.0 c.args.number) ∙ sym c.is_candidate.ensures ∙ c.if-not-is_candidate.false;
     }) in
     let s = c.args.job.now in
     let v = c.args.view in
     let x = c.requires.viewed in
     let q = row_written (problem_of s v) c.args.kind c.args.number c.args.other c.args.row.now (all-exist s v.margin c.args.kind c.args.number c.args.other (asked))
     (rw (word_count s v x) at c.if-row-n.false) in
-    (ap W.Count (word_count s v x) ∙ sym (ap (λ o. o.answer) q), c.fill_for.ensures ∙ sym (ap (λ o. o.buffer) q))
+    record {
+      value = ap W.Count (word_count s v x) ∙ sym (ap (λ o. o.answer) q);
+      row_after = c.fill_for.ensures ∙ sym (ap (λ o. o.buffer) q);
+    }

@@ -10,7 +10,7 @@ pub trim-requires : goal.trim-requires
 trim-requires c = c.requires
 
 pub shrink-requires : goal.shrink-requires
-shrink-requires c = (c.requires.0.0, c.requires.0.1, omega (arith, c.trim.auto.1.1.1.1.0, c.requires.1.0))
+shrink-requires c = (c.requires.plan_of.0, c.requires.plan_of.1, omega (arith, c.trim.auto.1.1.1.1.0, c.requires.plan_in_bounds.0))
 
 pub returns : goal.returns
-returns c = record { trimmed = c.trim.ensures; shrunk = rw (c.requires.0.0.types, c.requires.0.0.words) at c.shrink.ensures }
+returns c = record { trimmed = c.trim.ensures; shrunk = rw (c.requires.plan_of.0.types, c.requires.plan_of.0.words) at c.shrink.ensures }

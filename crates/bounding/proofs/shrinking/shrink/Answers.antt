@@ -26,7 +26,7 @@ pub loop-left-smaller : goal.loop-left-smaller
 loop-left-smaller c = omega (arith, c.loop-left-test.true)
 
 pub loop-left-preserved : goal.loop-left-preserved
-loop-left-preserved c = shrunk-more _ _ _ c.loop-left.left _ c.loop-left.invariant c.loop-left-test.true (c.is_clear.ensures (not-false c.is_clear.result c.if-not-is_clear.false))
+loop-left-preserved c = shrunk-more _ _ _ c.loop-left.left _ c.loop-left.invariant c.loop-left-test.true (c.is_clear.ensures c.if-not-is_clear.false)
 
 pub returns : goal.returns
 returns c = c.loop-left.invariant

@@ -31,102 +31,102 @@ use Rattle.bounding.proofs.trimming.trim_next.Goals as goal
 
 pub overflow_mul-i : goal.overflow_mul-i
 overflow_mul-i c =
-    let few : ((0 < c.args.plan.types) × (c.args.i / c.args.plan.types < 12)) × ((c.args.i % c.args.plan.types < 8) × (c.args.i ≤ 96)) = (let kinds_is : c.args.plan.types ≡ kind_count (content c.args.job.now).kinds = c.requires.0.0.types in
-    let level : c.args.i / c.args.plan.types < piece_count (content c.args.job.now).kinds = (let kinds_is : c.args.plan.types ≡ kind_count (content c.args.job.now).kinds = c.requires.0.0.types in
-    rw (kinds_is) (set-level (planned c.args.job.now c.args.plan) c.args.i c.requires.0.2)) in
-    let kind : c.args.i % c.args.plan.types < kind_count (content c.args.job.now).kinds = (let kinds_is : c.args.plan.types ≡ kind_count (content c.args.job.now).kinds = c.requires.0.0.types in
-    rw (kinds_is) (set-kind (planned c.args.job.now c.args.plan) c.args.i c.requires.0.2)) in
-    let k = kinds-few c.args.job.now c.args.plan c.requires.0.0 in
-    let p = few-pieces c.args.job.now c.requires.0.0.accepted in (
-      (rw (kinds_is) (some-kind (planned c.args.job.now c.args.plan) c.args.i c.requires.0.2), omega (arith, level, p)),
-      (omega (arith, kind, k), omega (arith, c.requires.0.2, mul-le-mul p k)),
+    let few : ((0 < c.args.plan.types) × (c.args.i / c.args.plan.types < 12)) × ((c.args.i % c.args.plan.types < 8) × (c.args.i ≤ 96)) = (let kinds_is : c.args.plan.types ≡ kind_count (content c.args.job.now).kinds = c.requires.plan_of.0.types in
+    let level : c.args.i / c.args.plan.types < piece_count (content c.args.job.now).kinds = (let kinds_is : c.args.plan.types ≡ kind_count (content c.args.job.now).kinds = c.requires.plan_of.0.types in
+    rw (kinds_is) (set-level (planned c.args.job.now c.args.plan) c.args.i c.requires.plan_of.2)) in
+    let kind : c.args.i % c.args.plan.types < kind_count (content c.args.job.now).kinds = (let kinds_is : c.args.plan.types ≡ kind_count (content c.args.job.now).kinds = c.requires.plan_of.0.types in
+    rw (kinds_is) (set-kind (planned c.args.job.now c.args.plan) c.args.i c.requires.plan_of.2)) in
+    let k = kinds-few c.args.job.now c.args.plan c.requires.plan_of.0 in
+    let p = few-pieces c.args.job.now c.requires.plan_of.0.accepted in (
+      (rw (kinds_is) (some-kind (planned c.args.job.now c.args.plan) c.args.i c.requires.plan_of.2), omega (arith, level, p)),
+      (omega (arith, kind, k), omega (arith, c.requires.plan_of.2, mul-le-mul p k)),
     )) in
     omega (arith, few)
 
 pub overflow_add-i : goal.overflow_add-i
 overflow_add-i c =
-    let few : ((0 < c.args.plan.types) × (c.args.i / c.args.plan.types < 12)) × ((c.args.i % c.args.plan.types < 8) × (c.args.i ≤ 96)) = (let kinds_is : c.args.plan.types ≡ kind_count (content c.args.job.now).kinds = c.requires.0.0.types in
-    let level : c.args.i / c.args.plan.types < piece_count (content c.args.job.now).kinds = (let kinds_is : c.args.plan.types ≡ kind_count (content c.args.job.now).kinds = c.requires.0.0.types in
-    rw (kinds_is) (set-level (planned c.args.job.now c.args.plan) c.args.i c.requires.0.2)) in
-    let kind : c.args.i % c.args.plan.types < kind_count (content c.args.job.now).kinds = (let kinds_is : c.args.plan.types ≡ kind_count (content c.args.job.now).kinds = c.requires.0.0.types in
-    rw (kinds_is) (set-kind (planned c.args.job.now c.args.plan) c.args.i c.requires.0.2)) in
-    let k = kinds-few c.args.job.now c.args.plan c.requires.0.0 in
-    let p = few-pieces c.args.job.now c.requires.0.0.accepted in (
-      (rw (kinds_is) (some-kind (planned c.args.job.now c.args.plan) c.args.i c.requires.0.2), omega (arith, level, p)),
-      (omega (arith, kind, k), omega (arith, c.requires.0.2, mul-le-mul p k)),
+    let few : ((0 < c.args.plan.types) × (c.args.i / c.args.plan.types < 12)) × ((c.args.i % c.args.plan.types < 8) × (c.args.i ≤ 96)) = (let kinds_is : c.args.plan.types ≡ kind_count (content c.args.job.now).kinds = c.requires.plan_of.0.types in
+    let level : c.args.i / c.args.plan.types < piece_count (content c.args.job.now).kinds = (let kinds_is : c.args.plan.types ≡ kind_count (content c.args.job.now).kinds = c.requires.plan_of.0.types in
+    rw (kinds_is) (set-level (planned c.args.job.now c.args.plan) c.args.i c.requires.plan_of.2)) in
+    let kind : c.args.i % c.args.plan.types < kind_count (content c.args.job.now).kinds = (let kinds_is : c.args.plan.types ≡ kind_count (content c.args.job.now).kinds = c.requires.plan_of.0.types in
+    rw (kinds_is) (set-kind (planned c.args.job.now c.args.plan) c.args.i c.requires.plan_of.2)) in
+    let k = kinds-few c.args.job.now c.args.plan c.requires.plan_of.0 in
+    let p = few-pieces c.args.job.now c.requires.plan_of.0.accepted in (
+      (rw (kinds_is) (some-kind (planned c.args.job.now c.args.plan) c.args.i c.requires.plan_of.2), omega (arith, level, p)),
+      (omega (arith, kind, k), omega (arith, c.requires.plan_of.2, mul-le-mul p k)),
     )) in
     omega (arith, few)
 
 pub bounds-copies-i : goal.bounds-copies-i
 bounds-copies-i c =
-    let few : ((0 < c.args.plan.types) × (c.args.i / c.args.plan.types < 12)) × ((c.args.i % c.args.plan.types < 8) × (c.args.i ≤ 96)) = (let kinds_is : c.args.plan.types ≡ kind_count (content c.args.job.now).kinds = c.requires.0.0.types in
-    let level : c.args.i / c.args.plan.types < piece_count (content c.args.job.now).kinds = (let kinds_is : c.args.plan.types ≡ kind_count (content c.args.job.now).kinds = c.requires.0.0.types in
-    rw (kinds_is) (set-level (planned c.args.job.now c.args.plan) c.args.i c.requires.0.2)) in
-    let kind : c.args.i % c.args.plan.types < kind_count (content c.args.job.now).kinds = (let kinds_is : c.args.plan.types ≡ kind_count (content c.args.job.now).kinds = c.requires.0.0.types in
-    rw (kinds_is) (set-kind (planned c.args.job.now c.args.plan) c.args.i c.requires.0.2)) in
-    let k = kinds-few c.args.job.now c.args.plan c.requires.0.0 in
-    let p = few-pieces c.args.job.now c.requires.0.0.accepted in (
-      (rw (kinds_is) (some-kind (planned c.args.job.now c.args.plan) c.args.i c.requires.0.2), omega (arith, level, p)),
-      (omega (arith, kind, k), omega (arith, c.requires.0.2, mul-le-mul p k)),
+    let few : ((0 < c.args.plan.types) × (c.args.i / c.args.plan.types < 12)) × ((c.args.i % c.args.plan.types < 8) × (c.args.i ≤ 96)) = (let kinds_is : c.args.plan.types ≡ kind_count (content c.args.job.now).kinds = c.requires.plan_of.0.types in
+    let level : c.args.i / c.args.plan.types < piece_count (content c.args.job.now).kinds = (let kinds_is : c.args.plan.types ≡ kind_count (content c.args.job.now).kinds = c.requires.plan_of.0.types in
+    rw (kinds_is) (set-level (planned c.args.job.now c.args.plan) c.args.i c.requires.plan_of.2)) in
+    let kind : c.args.i % c.args.plan.types < kind_count (content c.args.job.now).kinds = (let kinds_is : c.args.plan.types ≡ kind_count (content c.args.job.now).kinds = c.requires.plan_of.0.types in
+    rw (kinds_is) (set-kind (planned c.args.job.now c.args.plan) c.args.i c.requires.plan_of.2)) in
+    let k = kinds-few c.args.job.now c.args.plan c.requires.plan_of.0 in
+    let p = few-pieces c.args.job.now c.requires.plan_of.0.accepted in (
+      (rw (kinds_is) (some-kind (planned c.args.job.now c.args.plan) c.args.i c.requires.plan_of.2), omega (arith, level, p)),
+      (omega (arith, kind, k), omega (arith, c.requires.plan_of.2, mul-le-mul p k)),
     )) in
     omega (arith, few)
 
 pub overflow_mul-i-then-copies-i-gt0 : goal.overflow_mul-i-then-copies-i-gt0
 overflow_mul-i-then-copies-i-gt0 c =
-    let few : ((0 < c.args.plan.types) × (c.args.i / c.args.plan.types < 12)) × ((c.args.i % c.args.plan.types < 8) × (c.args.i ≤ 96)) = (let kinds_is : c.args.plan.types ≡ kind_count (content c.args.job.now).kinds = c.requires.0.0.types in
-    let level : c.args.i / c.args.plan.types < piece_count (content c.args.job.now).kinds = (let kinds_is : c.args.plan.types ≡ kind_count (content c.args.job.now).kinds = c.requires.0.0.types in
-    rw (kinds_is) (set-level (planned c.args.job.now c.args.plan) c.args.i c.requires.0.2)) in
-    let kind : c.args.i % c.args.plan.types < kind_count (content c.args.job.now).kinds = (let kinds_is : c.args.plan.types ≡ kind_count (content c.args.job.now).kinds = c.requires.0.0.types in
-    rw (kinds_is) (set-kind (planned c.args.job.now c.args.plan) c.args.i c.requires.0.2)) in
-    let k = kinds-few c.args.job.now c.args.plan c.requires.0.0 in
-    let p = few-pieces c.args.job.now c.requires.0.0.accepted in (
-      (rw (kinds_is) (some-kind (planned c.args.job.now c.args.plan) c.args.i c.requires.0.2), omega (arith, level, p)),
-      (omega (arith, kind, k), omega (arith, c.requires.0.2, mul-le-mul p k)),
+    let few : ((0 < c.args.plan.types) × (c.args.i / c.args.plan.types < 12)) × ((c.args.i % c.args.plan.types < 8) × (c.args.i ≤ 96)) = (let kinds_is : c.args.plan.types ≡ kind_count (content c.args.job.now).kinds = c.requires.plan_of.0.types in
+    let level : c.args.i / c.args.plan.types < piece_count (content c.args.job.now).kinds = (let kinds_is : c.args.plan.types ≡ kind_count (content c.args.job.now).kinds = c.requires.plan_of.0.types in
+    rw (kinds_is) (set-level (planned c.args.job.now c.args.plan) c.args.i c.requires.plan_of.2)) in
+    let kind : c.args.i % c.args.plan.types < kind_count (content c.args.job.now).kinds = (let kinds_is : c.args.plan.types ≡ kind_count (content c.args.job.now).kinds = c.requires.plan_of.0.types in
+    rw (kinds_is) (set-kind (planned c.args.job.now c.args.plan) c.args.i c.requires.plan_of.2)) in
+    let k = kinds-few c.args.job.now c.args.plan c.requires.plan_of.0 in
+    let p = few-pieces c.args.job.now c.requires.plan_of.0.accepted in (
+      (rw (kinds_is) (some-kind (planned c.args.job.now c.args.plan) c.args.i c.requires.plan_of.2), omega (arith, level, p)),
+      (omega (arith, kind, k), omega (arith, c.requires.plan_of.2, mul-le-mul p k)),
     )) in
-    omega (arith, mul-le-mul (few).1.1 (words-few c.args.job.now c.args.plan c.requires.0.0))
+    omega (arith, mul-le-mul (few).1.1 (words-few c.args.job.now c.args.plan c.requires.plan_of.0))
 
 pub trim_set-requires : goal.trim_set-requires
 trim_set-requires c =
-    let kinds_is : c.args.plan.types ≡ kind_count (content c.args.job.now).kinds = c.requires.0.0.types in
-    let told : get_or c.args.plan.copies (c.args.i / c.args.plan.types * 8 + c.args.i % c.args.plan.types) 0 ≡ copies_left (c.args.i % kind_count (content c.args.job.now).kinds) (pieces_from (content c.args.job.now).kinds (c.args.i / kind_count (content c.args.job.now).kinds)) = (let kinds_is : c.args.plan.types ≡ kind_count (content c.args.job.now).kinds = c.requires.0.0.types in
-    let level : c.args.i / c.args.plan.types < piece_count (content c.args.job.now).kinds = (let kinds_is : c.args.plan.types ≡ kind_count (content c.args.job.now).kinds = c.requires.0.0.types in
-    rw (kinds_is) (set-level (planned c.args.job.now c.args.plan) c.args.i c.requires.0.2)) in
-    let few : ((0 < c.args.plan.types) × (c.args.i / c.args.plan.types < 12)) × ((c.args.i % c.args.plan.types < 8) × (c.args.i ≤ 96)) = (let kinds_is : c.args.plan.types ≡ kind_count (content c.args.job.now).kinds = c.requires.0.0.types in
-    let level : c.args.i / c.args.plan.types < piece_count (content c.args.job.now).kinds = (let kinds_is : c.args.plan.types ≡ kind_count (content c.args.job.now).kinds = c.requires.0.0.types in
-    rw (kinds_is) (set-level (planned c.args.job.now c.args.plan) c.args.i c.requires.0.2)) in
-    let kind : c.args.i % c.args.plan.types < kind_count (content c.args.job.now).kinds = (let kinds_is : c.args.plan.types ≡ kind_count (content c.args.job.now).kinds = c.requires.0.0.types in
-    rw (kinds_is) (set-kind (planned c.args.job.now c.args.plan) c.args.i c.requires.0.2)) in
-    let k = kinds-few c.args.job.now c.args.plan c.requires.0.0 in
-    let p = few-pieces c.args.job.now c.requires.0.0.accepted in (
-      (rw (kinds_is) (some-kind (planned c.args.job.now c.args.plan) c.args.i c.requires.0.2), omega (arith, level, p)),
-      (omega (arith, kind, k), omega (arith, c.requires.0.2, mul-le-mul p k)),
+    let kinds_is : c.args.plan.types ≡ kind_count (content c.args.job.now).kinds = c.requires.plan_of.0.types in
+    let told : get_or c.args.plan.copies (c.args.i / c.args.plan.types * 8 + c.args.i % c.args.plan.types) 0 ≡ copies_left (c.args.i % kind_count (content c.args.job.now).kinds) (pieces_from (content c.args.job.now).kinds (c.args.i / kind_count (content c.args.job.now).kinds)) = (let kinds_is : c.args.plan.types ≡ kind_count (content c.args.job.now).kinds = c.requires.plan_of.0.types in
+    let level : c.args.i / c.args.plan.types < piece_count (content c.args.job.now).kinds = (let kinds_is : c.args.plan.types ≡ kind_count (content c.args.job.now).kinds = c.requires.plan_of.0.types in
+    rw (kinds_is) (set-level (planned c.args.job.now c.args.plan) c.args.i c.requires.plan_of.2)) in
+    let few : ((0 < c.args.plan.types) × (c.args.i / c.args.plan.types < 12)) × ((c.args.i % c.args.plan.types < 8) × (c.args.i ≤ 96)) = (let kinds_is : c.args.plan.types ≡ kind_count (content c.args.job.now).kinds = c.requires.plan_of.0.types in
+    let level : c.args.i / c.args.plan.types < piece_count (content c.args.job.now).kinds = (let kinds_is : c.args.plan.types ≡ kind_count (content c.args.job.now).kinds = c.requires.plan_of.0.types in
+    rw (kinds_is) (set-level (planned c.args.job.now c.args.plan) c.args.i c.requires.plan_of.2)) in
+    let kind : c.args.i % c.args.plan.types < kind_count (content c.args.job.now).kinds = (let kinds_is : c.args.plan.types ≡ kind_count (content c.args.job.now).kinds = c.requires.plan_of.0.types in
+    rw (kinds_is) (set-kind (planned c.args.job.now c.args.plan) c.args.i c.requires.plan_of.2)) in
+    let k = kinds-few c.args.job.now c.args.plan c.requires.plan_of.0 in
+    let p = few-pieces c.args.job.now c.requires.plan_of.0.accepted in (
+      (rw (kinds_is) (some-kind (planned c.args.job.now c.args.plan) c.args.i c.requires.plan_of.2), omega (arith, level, p)),
+      (omega (arith, kind, k), omega (arith, c.requires.plan_of.2, mul-le-mul p k)),
     )) in
-    c.requires.0.0.copies (c.args.i / c.args.plan.types) (c.args.i % c.args.plan.types) (level) (few).1.0
+    c.requires.plan_of.0.copies (c.args.i / c.args.plan.types) (c.args.i % c.args.plan.types) (level) (few).1.0
     ∙ ap (λ (n : ℕ). copies_left (c.args.i % n) (pieces_from (content c.args.job.now).kinds (c.args.i / n))) (kinds_is)) in
     let p : 0 < get_or c.args.plan.copies (c.args.i / c.args.plan.types * 8 + c.args.i % c.args.plan.types) 0 = c.if-copies-i-gt0.true in
-    (c.requires.0.0, rw (kinds_is, c.requires.0.0.words) (c.requires.1.1 (omega (arith, told))))
+    (c.requires.plan_of.0, rw (kinds_is, c.requires.plan_of.0.words) (c.requires.trimmable (omega (arith, told))))
 
 pub returns-then-copies-i-gt0 : goal.returns-then-copies-i-gt0
 returns-then-copies-i-gt0 c =
-    let kinds_is : c.args.plan.types ≡ kind_count (content c.args.job.now).kinds = c.requires.0.0.types in
-    set-trimmed (planned c.args.job.now c.args.plan) c.args.i c.requires.0.2 c.args.bound c.args.span c.requires.0.1 c.args.work.now _ _ _ (kinds_is) c.requires.0.0.words c.trim_set.ensures
+    let kinds_is : c.args.plan.types ≡ kind_count (content c.args.job.now).kinds = c.requires.plan_of.0.types in
+    set-trimmed (planned c.args.job.now c.args.plan) c.args.i c.requires.plan_of.2 c.args.bound c.args.span c.requires.plan_of.1 c.args.work.now _ _ _ (kinds_is) c.requires.plan_of.0.words c.trim_set.ensures
 
 pub returns-else-copies-i-gt0 : goal.returns-else-copies-i-gt0
 returns-else-copies-i-gt0 c =
-    let told : get_or c.args.plan.copies (c.args.i / c.args.plan.types * 8 + c.args.i % c.args.plan.types) 0 ≡ copies_left (c.args.i % kind_count (content c.args.job.now).kinds) (pieces_from (content c.args.job.now).kinds (c.args.i / kind_count (content c.args.job.now).kinds)) = (let kinds_is : c.args.plan.types ≡ kind_count (content c.args.job.now).kinds = c.requires.0.0.types in
-    let level : c.args.i / c.args.plan.types < piece_count (content c.args.job.now).kinds = (let kinds_is : c.args.plan.types ≡ kind_count (content c.args.job.now).kinds = c.requires.0.0.types in
-    rw (kinds_is) (set-level (planned c.args.job.now c.args.plan) c.args.i c.requires.0.2)) in
-    let few : ((0 < c.args.plan.types) × (c.args.i / c.args.plan.types < 12)) × ((c.args.i % c.args.plan.types < 8) × (c.args.i ≤ 96)) = (let kinds_is : c.args.plan.types ≡ kind_count (content c.args.job.now).kinds = c.requires.0.0.types in
-    let level : c.args.i / c.args.plan.types < piece_count (content c.args.job.now).kinds = (let kinds_is : c.args.plan.types ≡ kind_count (content c.args.job.now).kinds = c.requires.0.0.types in
-    rw (kinds_is) (set-level (planned c.args.job.now c.args.plan) c.args.i c.requires.0.2)) in
-    let kind : c.args.i % c.args.plan.types < kind_count (content c.args.job.now).kinds = (let kinds_is : c.args.plan.types ≡ kind_count (content c.args.job.now).kinds = c.requires.0.0.types in
-    rw (kinds_is) (set-kind (planned c.args.job.now c.args.plan) c.args.i c.requires.0.2)) in
-    let k = kinds-few c.args.job.now c.args.plan c.requires.0.0 in
-    let p = few-pieces c.args.job.now c.requires.0.0.accepted in (
-      (rw (kinds_is) (some-kind (planned c.args.job.now c.args.plan) c.args.i c.requires.0.2), omega (arith, level, p)),
-      (omega (arith, kind, k), omega (arith, c.requires.0.2, mul-le-mul p k)),
+    let told : get_or c.args.plan.copies (c.args.i / c.args.plan.types * 8 + c.args.i % c.args.plan.types) 0 ≡ copies_left (c.args.i % kind_count (content c.args.job.now).kinds) (pieces_from (content c.args.job.now).kinds (c.args.i / kind_count (content c.args.job.now).kinds)) = (let kinds_is : c.args.plan.types ≡ kind_count (content c.args.job.now).kinds = c.requires.plan_of.0.types in
+    let level : c.args.i / c.args.plan.types < piece_count (content c.args.job.now).kinds = (let kinds_is : c.args.plan.types ≡ kind_count (content c.args.job.now).kinds = c.requires.plan_of.0.types in
+    rw (kinds_is) (set-level (planned c.args.job.now c.args.plan) c.args.i c.requires.plan_of.2)) in
+    let few : ((0 < c.args.plan.types) × (c.args.i / c.args.plan.types < 12)) × ((c.args.i % c.args.plan.types < 8) × (c.args.i ≤ 96)) = (let kinds_is : c.args.plan.types ≡ kind_count (content c.args.job.now).kinds = c.requires.plan_of.0.types in
+    let level : c.args.i / c.args.plan.types < piece_count (content c.args.job.now).kinds = (let kinds_is : c.args.plan.types ≡ kind_count (content c.args.job.now).kinds = c.requires.plan_of.0.types in
+    rw (kinds_is) (set-level (planned c.args.job.now c.args.plan) c.args.i c.requires.plan_of.2)) in
+    let kind : c.args.i % c.args.plan.types < kind_count (content c.args.job.now).kinds = (let kinds_is : c.args.plan.types ≡ kind_count (content c.args.job.now).kinds = c.requires.plan_of.0.types in
+    rw (kinds_is) (set-kind (planned c.args.job.now c.args.plan) c.args.i c.requires.plan_of.2)) in
+    let k = kinds-few c.args.job.now c.args.plan c.requires.plan_of.0 in
+    let p = few-pieces c.args.job.now c.requires.plan_of.0.accepted in (
+      (rw (kinds_is) (some-kind (planned c.args.job.now c.args.plan) c.args.i c.requires.plan_of.2), omega (arith, level, p)),
+      (omega (arith, kind, k), omega (arith, c.requires.plan_of.2, mul-le-mul p k)),
     )) in
-    c.requires.0.0.copies (c.args.i / c.args.plan.types) (c.args.i % c.args.plan.types) (level) (few).1.0
+    c.requires.plan_of.0.copies (c.args.i / c.args.plan.types) (c.args.i % c.args.plan.types) (level) (few).1.0
     ∙ ap (λ (n : ℕ). copies_left (c.args.i % n) (pieces_from (content c.args.job.now).kinds (c.args.i / n))) (kinds_is)) in
     let p : get_or c.args.plan.copies (c.args.i / c.args.plan.types * 8 + c.args.i % c.args.plan.types) 0 ≤ 0 = c.if-copies-i-gt0.false in
-    set-skipped (planned c.args.job.now c.args.plan) c.args.i c.requires.0.2 _ _ _ (omega (arith, told))
+    set-skipped (planned c.args.job.now c.args.plan) c.args.i c.requires.plan_of.2 _ _ _ (omega (arith, told))

@@ -30,12 +30,12 @@ returns-then-not-passes c =
     let x = c.requires.viewed in
     let s = c.args.job.now in
     let v = c.args.view in
-    not_passed (problem_of s v) c.args.layout.now v.pieces x.view.pieces c.if-numbers-wanted.false (sym c.passes.ensures ∙ not-true _ c.if-not-passes.true)
+    not_passed (problem_of s v) c.args.layout.now v.pieces x.view.pieces c.if-numbers-wanted.false (sym c.passes.ensures ∙ c.if-not-passes.true)
 
 pub length_of-requires : goal.length_of-requires
 length_of-requires c =
     let passing : passes (problem_of c.args.job.now c.args.view) (entries_in c.args.layout.now c.args.view.pieces) ≡ true = (let j = problem_of c.args.job.now c.args.view in
-    ap (passes j) (layout_is j c.args.layout.now c.args.view.pieces c.requires.viewed.view.pieces) ∙ sym c.passes.ensures ∙ not-false _ c.if-not-passes.false) in
+    ap (passes j) (layout_is j c.args.layout.now c.args.view.pieces c.requires.viewed.view.pieces) ∙ sym c.passes.ensures ∙ c.if-not-passes.false) in
     let x = c.requires.viewed in
     let s = c.args.job.now in
     let v = c.args.view in
@@ -47,7 +47,7 @@ length_of-requires c =
 pub returns : goal.returns
 returns c =
     let passing : passes (problem_of c.args.job.now c.args.view) (entries_in c.args.layout.now c.args.view.pieces) ≡ true = (let j = problem_of c.args.job.now c.args.view in
-    ap (passes j) (layout_is j c.args.layout.now c.args.view.pieces c.requires.viewed.view.pieces) ∙ sym c.passes.ensures ∙ not-false _ c.if-not-passes.false) in
+    ap (passes j) (layout_is j c.args.layout.now c.args.view.pieces c.requires.viewed.view.pieces) ∙ sym c.passes.ensures ∙ c.if-not-passes.false) in
     let x = c.requires.viewed in
     let s = c.args.job.now in
     let v = c.args.view in

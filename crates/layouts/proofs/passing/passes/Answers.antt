@@ -44,7 +44,7 @@ returns-then-not-stated c =
     (ap₂ ◌&&◌ (c.entries_in_order.ensures ∙ order_is (problem_of s v) v.rows layout n x.view.rows) (c.demand_met.ensures ∙ demand-is s v x layout n))
     (c.all_admitted.ensures ∙ all-admitted-is s v x c.args.boxes c.requires.0.boxes (entries_in layout n))) in
     let j = problem_of c.args.job.now c.args.view in
-    misstated j (entries_in c.args.layout.now c.args.n) (sym (tests) ∙ not-true _ c.if-not-stated.true)
+    misstated j (entries_in c.args.layout.now c.args.n) (sym (tests) ∙ c.if-not-stated.true)
     ∙ ap (passes j) (layout_is j c.args.layout.now c.args.n c.requires.1.count)
 
 pub all_apart-requires : goal.all_apart-requires
@@ -65,7 +65,7 @@ all_apart-requires c =
       record {
         few = omega (arith, few-pieces s x.accepted, c.requires.1.count);
         whole = c.requires.1.whole;
-        each = λ i l. entries_at (is_entry (problem_of s v)) c.args.layout.now c.args.n i (stated-entries (problem_of s v) (entries_in c.args.layout.now c.args.n) (sym (tests) ∙ not-false _ c.if-not-stated.false)) l;
+        each = λ i l. entries_at (is_entry (problem_of s v)) c.args.layout.now c.args.n i (stated-entries (problem_of s v) (entries_in c.args.layout.now c.args.n) (sym (tests) ∙ c.if-not-stated.false)) l;
       },
     )
 
@@ -81,5 +81,5 @@ returns c =
     (ap₂ ◌&&◌ (c.entries_in_order.ensures ∙ order_is (problem_of s v) v.rows layout n x.view.rows) (c.demand_met.ensures ∙ demand-is s v x layout n))
     (c.all_admitted.ensures ∙ all-admitted-is s v x c.args.boxes c.requires.0.boxes (entries_in layout n))) in
     let j = problem_of c.args.job.now c.args.view in
-    passes-if_apart j (entries_in c.args.layout.now c.args.n) _ (sym (tests) ∙ not-false _ c.if-not-stated.false) c.all_apart.ensures
+    passes-if_apart j (entries_in c.args.layout.now c.args.n) _ (sym (tests) ∙ c.if-not-stated.false) c.all_apart.ensures
     ∙ ap (passes j) (layout_is j c.args.layout.now c.args.n c.requires.1.count)

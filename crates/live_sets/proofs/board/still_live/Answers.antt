@@ -10,10 +10,14 @@ pub returns-then-t-u : goal.returns-then-t-u
 returns-then-t-u c = stays-not_above (planned c.args.job.now c.args.plan) c.args.t c.args.n c.args.u c.args.m c.if-t-u.true
 
 pub placed_of-place-requires : goal.placed_of-place-requires
-placed_of-place-requires c = some-row c.args.job.now c.args.plan c.requires.0.0.0
+placed_of-place-requires c = some-row c.args.job.now c.args.plan c.requires.plan_of.0.0
 
 pub in_conflict-requires : goal.in_conflict-requires
-in_conflict-requires c = (c.requires.0.0, (c.requires.1, (c.requires.0.1, c.placed_of-place.ensures)))
+in_conflict-requires c = record {
+      plan_of = c.requires.plan_of.0;
+      n_value = c.requires.n_value;
+      from_value = (c.requires.plan_of.1, c.placed_of-place.ensures);
+    }
 
 pub returns : goal.returns
 returns c =

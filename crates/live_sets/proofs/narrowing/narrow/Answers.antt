@@ -12,29 +12,26 @@ use borrow.Author.Rules.{rules}
 use Rattle.live_sets.proofs.narrowing.narrow.Goals as goal
 
 pub loop-k-init : goal.loop-k-init
-loop-k-init c = ((omega arith, refl, omega (arith, c.requires.1.fits, c.well_formed.1.1.1.1.1.1.1.1.1.0.0)), (λ i. (c.slice_known-1.given i).fits), filled-begin _ _ _)
+loop-k-init c = ((omega arith, refl, omega (arith, c.requires.narrowable.fits, c.well_formed.1.1.1.1.1.1.1.1.1.0.0)), (λ i. (c.slice_known-1.given i).fits), filled-begin _ _ _)
 
 pub overflow_add-from : goal.overflow_add-from
-overflow_add-from c = omega (arith, c.requires.1.behind, c.loop-k.invariant.0)
+overflow_add-from c = omega (arith, c.requires.narrowable.behind, c.loop-k.invariant.0)
 
 pub overflow_mul-from : goal.overflow_mul-from
-overflow_mul-from c = omega (arith, c.requires.1.behind, c.loop-k.invariant.0)
+overflow_mul-from c = omega (arith, c.requires.narrowable.behind, c.loop-k.invariant.0)
 
 pub get_u64-w-requires : goal.get_u64-w-requires
-get_u64-w-requires c = omega (arith, c.requires.1.behind, c.requires.1.fits, c.loop-k.invariant.0)
+get_u64-w-requires c = omega (arith, c.requires.narrowable.behind, c.requires.narrowable.fits, c.loop-k.invariant.0)
 
 pub overflow_mul-k : goal.overflow_mul-k
-overflow_mul-k c = omega (arith, c.requires.1.few, c.loop-k.invariant.0)
+overflow_mul-k c = omega (arith, c.requires.narrowable.few, c.loop-k.invariant.0)
 
 pub narrow_word-kept-requires : goal.narrow_word-kept-requires
-narrow_word-kept-requires c =
-    (
-  c.requires.0,
-  (
-    (c.requires.1.placed, omega (arith, c.requires.1.within, c.loop-k.invariant.0)),
-    word_admitted (planned c.args.job.now c.args.plan) c.args.t c.args.n c.args.u c.args.from c.args.to c.args.words c.args.work.now c.loop-k.work c.requires.1 c.loop-k.k c.loop-k-test.true c.loop-k.invariant.2 c.get_u64-w.result c.get_u64-w.ensures c.loop-k.invariant.1,
-  ),
-)
+narrow_word-kept-requires c = record {
+      known = c.requires.known;
+      n_value = (c.requires.narrowable.placed, omega (arith, c.requires.narrowable.within, c.loop-k.invariant.0));
+      bits_admitted = word_admitted (planned c.args.job.now c.args.plan) c.args.t c.args.n c.args.u c.args.from c.args.to c.args.words c.args.work.now c.loop-k.work c.requires.narrowable c.loop-k.k c.loop-k-test.true c.loop-k.invariant.2 c.get_u64-w.result c.get_u64-w.ensures c.loop-k.invariant.1;
+    }
 
 pub overflow_add-to : goal.overflow_add-to
 overflow_add-to c = omega (arith, c.loop-k.invariant.0)
@@ -43,10 +40,10 @@ pub overflow_mul-to : goal.overflow_mul-to
 overflow_mul-to c = omega (arith, c.loop-k.invariant.0)
 
 pub put_u64-requires : goal.put_u64-requires
-put_u64-requires c = omega (arith, c.requires.1.fits, c.loop-k.invariant.0)
+put_u64-requires c = omega (arith, c.requires.narrowable.fits, c.loop-k.invariant.0)
 
 pub overflow_add-k : goal.overflow_add-k
-overflow_add-k c = omega (arith, c.requires.1.few)
+overflow_add-k c = omega (arith, c.requires.narrowable.few)
 
 pub loop-k-preserved : goal.loop-k-preserved
 loop-k-preserved c =
@@ -54,7 +51,7 @@ loop-k-preserved c =
   (omega arith, c.put_u64.auto.0 ∙ c.loop-k.invariant.0.1, c.loop-k.invariant.0.2),
   (λ i. (c.slice_known-in-loop-k-1.given i).fits),
   subst (Filled c.args.to (c.loop-k.k + 1) (λ m. member c.args.work.now (c.args.from * 64 + m) && stays (planned c.args.job.now c.args.plan) c.args.t c.args.n c.args.u m) c.args.work.now) (sym c.put_u64.ensures)
-      (word_narrowed (planned c.args.job.now c.args.plan) c.args.t c.args.n c.args.u c.args.from c.args.to c.args.words c.args.work.now c.loop-k.work c.requires.1 c.loop-k.k c.loop-k-test.true c.loop-k.invariant.2 c.get_u64-w.result c.get_u64-w.ensures c.narrow_word-kept.result c.narrow_word-kept.ensures (search rules) c.loop-k.invariant.0.1),
+      (word_narrowed (planned c.args.job.now c.args.plan) c.args.t c.args.n c.args.u c.args.from c.args.to c.args.words c.args.work.now c.loop-k.work c.requires.narrowable c.loop-k.k c.loop-k-test.true c.loop-k.invariant.2 c.get_u64-w.result c.get_u64-w.ensures c.narrow_word-kept.result c.narrow_word-kept.ensures (search rules) c.loop-k.invariant.0.1),
 )
 
 pub shape_of-work : goal.shape_of-work

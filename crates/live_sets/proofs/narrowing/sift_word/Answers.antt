@@ -27,7 +27,10 @@ still_live-stay-requires c =
     let e : c.lowest_bit-b.result ≡ f.0 = c.lowest_bit-b.ensures.0 ∙ f.1 in
     (omega (arith, f.2, e), subst (λ (b : ℕ). test_bit c.loop-left.left b ≡ true) (sym e) f.4)) in
     let bit = low in
-    (c.requires.0, (c.requires.1.0.0, c.requires.1.1 c.lowest_bit-b.result ((c.loop-left.invariant.1 c.lowest_bit-b.result).1 bit.1)))
+    record {
+      plan_of = c.requires.plan_of;
+      n_value = (c.requires.n_value.0, c.requires.bits_admitted c.lowest_bit-b.result ((c.loop-left.invariant.1 c.lowest_bit-b.result).1 bit.1));
+    }
 
 pub loop-left-smaller : goal.loop-left-smaller
 loop-left-smaller c =

@@ -10,17 +10,16 @@ use borrow.Author.Rules.{rules}
 use Rattle.lookahead.proofs.settling.make_set.Goals as goal
 
 pub overflow_sub-level : goal.overflow_sub-level
-overflow_sub-level c = omega (arith, c.requires.1.0.later)
+overflow_sub-level c = omega (arith, c.requires.placeable.later)
 
 pub set_start-from-requires : goal.set_start-from-requires
-set_start-from-requires c = (c.requires.0.plan, omega (arith, c.requires.1.0.within), c.requires.1.1.0.0)
+set_start-from-requires c = (c.requires.known.plan, omega (arith, c.requires.placeable.within), c.requires.u_bound.0)
 
 pub narrow-requires : goal.narrow-requires
-narrow-requires c =
-    (
-  (c.requires.0, c.requires.1.1.1.placed),
-  rw c.requires.1.1.1.number (set-narrowable (planned c.args.job.now c.args.plan) c.args.numbers c.args.level c.args.state.bound c.args.state.span c.args.u c.args.to c.set_start-from.result c.args.state.span _ c.args.work.now c.requires.1.0 c.requires.1.1.0.0 c.requires.1.1.0.1 refl c.requires.1.1.0.2 c.set_start-from.ensures c.requires.1.1.1.kind (few_words c.args.job.now c.requires.0.plan.accepted)),
-)
+narrow-requires c = record {
+      known = (c.requires.known, c.requires.latest.placed);
+      narrowable = rw c.requires.latest.number (set-narrowable (planned c.args.job.now c.args.plan) c.args.numbers c.args.level c.args.state.bound c.args.state.span c.args.u c.args.to c.set_start-from.result c.args.state.span _ c.args.work.now c.requires.placeable c.requires.u_bound.0 c.requires.u_bound.1 refl c.requires.u_bound.2 c.set_start-from.ensures c.requires.latest.kind (few_words c.args.job.now c.requires.known.plan.accepted));
+    }
 
 pub returns : goal.returns
-returns c = made_next (planned c.args.job.now c.args.plan) c.args.numbers c.args.level c.args.state.bound c.args.state.span c.args.u c.args.to c.set_start-from.result c.args.state.span _ c.args.work.now c.requires.1.0 c.requires.1.1.0.0 c.requires.1.1.0.1 refl c.requires.1.1.0.2 c.set_start-from.ensures c.requires.1.1.1.kind _ (rw c.requires.1.1.1.number at c.narrow.ensures)
+returns c = made_next (planned c.args.job.now c.args.plan) c.args.numbers c.args.level c.args.state.bound c.args.state.span c.args.u c.args.to c.set_start-from.result c.args.state.span _ c.args.work.now c.requires.placeable c.requires.u_bound.0 c.requires.u_bound.1 refl c.requires.u_bound.2 c.set_start-from.ensures c.requires.latest.kind _ (rw c.requires.latest.number at c.narrow.ensures)

@@ -14,12 +14,12 @@ use Rattle.nofit.proofs.patterns.fill_next.Goals as goal
 
 pub pair_of-x-requires : goal.pair_of-x-requires
 pair_of-x-requires c =
-    let f = c.requires.0.0 in
-    ((held-few c.args.job.now c.args.view f.viewed c.args.nofit f.measures).0, omega (arith, c.requires.0.1, f.measures.few))
+    let f = c.requires.fillable.0 in
+    ((held-few c.args.job.now c.args.view f.viewed c.args.nofit f.measures).0, omega (arith, c.requires.fillable.1, f.measures.few))
 
 pub is_turned-requires : goal.is_turned-requires
 is_turned-requires c =
-    let f = c.requires.0.0 in
+    let f = c.requires.fillable.0 in
     let o = c.pair_of-x.ensures in
     (bounded c.args.job.now c.args.view f.viewed, (omega (arith, o.ordered, o.exists, f.measures.kinds, f.viewed.view.kinds), o.turn))
 
@@ -29,8 +29,8 @@ returns-then-is_turned c =
     let w = c.args.nofit in
     let i = c.args.i in
     let bits = c.args.bits.now in (
-      parities-kept w i _ _ bits _ c.fill_pair.ensures c.requires.1.0,
-      string-filled (content s) w c.requires.0.0.measures.kinds i c.pair_of-x.result c.pair_of-x.ensures bits c.requires.1.1 _ c.fill_pair.ensures,
+      parities-kept w i _ _ bits _ c.fill_pair.ensures c.requires.parities_of.0,
+      string-filled (content s) w c.requires.fillable.0.measures.kinds i c.pair_of-x.result c.pair_of-x.ensures bits c.requires.parities_of.1 _ c.fill_pair.ensures,
     )
 
 pub returns-else-is_turned : goal.returns-else-is_turned
@@ -38,12 +38,12 @@ returns-else-is_turned c =
     let s = c.args.job.now in
     let w = c.args.nofit in
     let i = c.args.i in
-    let f = c.requires.0.0 in
+    let f = c.requires.fillable.0 in
     let x = c.pair_of-x.result in
     let o = c.pair_of-x.ensures in
     let k : x.kind < kind_count (content s).kinds = omega (arith, o.ordered, o.exists, f.measures.kinds) in
     let m = (kind-in s c.args.view f.viewed x.kind k).rotations in (
-      c.requires.1.0,
-      string-skipped (content s) w f.measures.kinds i x o c.args.bits.now c.requires.1.1
+      c.requires.parities_of.0,
+      string-skipped (content s) w f.measures.kinds i x o c.args.bits.now c.requires.parities_of.1
           (λ h. not_both h (ap (λ mask. test_bit mask x.turn) (sym m) ∙ sym c.is_turned.ensures ∙ c.if-is_turned.false)),
     )

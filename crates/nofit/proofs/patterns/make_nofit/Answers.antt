@@ -10,30 +10,29 @@ use Rattle.nofit.proofs.patterns.make_nofit.Goals as goal
 
 pub fill_parities-requires : goal.fill_parities-requires
 fill_parities-requires c =
-    let m = c.requires.1.0 in
-    ((some-rows c.args.job.now c.args.nofit m, m.small.0), omega (arith, c.requires.1.1))
+    let m = c.requires.measures_of.0 in
+    ((some-rows c.args.job.now c.args.nofit m, m.small.0), omega (arith, c.requires.measures_of.1))
 
 pub loop-i-init : goal.loop-i-init
 loop-i-init c = (omega arith, search rules, c.fill_parities.ensures, strings-none (content c.args.job.now) c.args.nofit _)
 
 pub fill_next-requires : goal.fill_next-requires
-fill_next-requires c =
-    (
-  (
+fill_next-requires c = record {
+      fillable = (
     record {
-      viewed = c.requires.0.0;
-      turned = c.requires.0.1;
-      boxes = c.requires.0.2;
-      measures = c.requires.1.0;
-      fits = omega (arith, c.requires.1.1, c.loop-i.invariant.1);
+      viewed = c.requires.viewed.0;
+      turned = c.requires.viewed.1;
+      boxes = c.requires.viewed.2;
+      measures = c.requires.measures_of.0;
+      fits = omega (arith, c.requires.measures_of.1, c.loop-i.invariant.1);
     },
     omega arith,
-  ),
-  (c.loop-i.invariant.2, c.loop-i.invariant.3),
-)
+  );
+      parities_of = (c.loop-i.invariant.2, c.loop-i.invariant.3);
+    }
 
 pub overflow_add-i : goal.overflow_add-i
-overflow_add-i c = omega (arith, (held-few c.args.job.now c.args.view c.requires.0.0 c.args.nofit c.requires.1.0).1)
+overflow_add-i c = omega (arith, (held-few c.args.job.now c.args.view c.requires.viewed.0 c.args.nofit c.requires.measures_of.0).1)
 
 pub loop-i-preserved : goal.loop-i-preserved
 loop-i-preserved c = (omega arith, search rules, c.fill_next.ensures.0, c.fill_next.ensures.1)
@@ -42,8 +41,8 @@ pub returns : goal.returns
 returns c =
     let n : c.loop-i.i ≡ c.args.nofit.held = omega arith in
     record {
-      measures = c.requires.1.0;
-      fits = omega (arith, c.requires.1.1, c.loop-i.invariant.1);
+      measures = c.requires.measures_of.0;
+      fits = omega (arith, c.requires.measures_of.1, c.loop-i.invariant.1);
       columns = c.loop-i.invariant.2;
       strings = subst (λ m. StringsOf (content c.args.job.now) c.args.nofit m c.loop-i.bits) n c.loop-i.invariant.3;
     }

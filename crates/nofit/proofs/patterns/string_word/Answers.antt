@@ -32,7 +32,10 @@ turn_word-v-requires c =
       stands = subst (Standing c.args.turned.now) (sym q) (c.requires.1.1.turnable.stands c.loop-k.k h);
       box = c.box_at.ensures ∙ c.requires.1.1.boxes c.loop-k.k h ∙ ap (λ (p : Piece). extents_of (concat (parts_in c.args.turned.now p))) (sym q);
     }) in
-    (((c.requires.0.0, omega arith), (c.requires.1.0, other)), (omega arith, c.requires.0.1))
+    record {
+      ready = ((c.requires.0.0, omega arith), (c.requires.1.0, other));
+      le_word = (omega arith, c.requires.0.1);
+    }
 
 pub loop-k-preserved : goal.loop-k-preserved
 loop-k-preserved c =

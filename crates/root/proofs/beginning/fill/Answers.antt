@@ -10,10 +10,10 @@ use borrow.Author.Rules.{rules}
 use Rattle.root.proofs.beginning.fill.Goals as goal
 
 pub loop-k-init : goal.loop-k-init
-loop-k-init c = (omega arith, (refl, omega (arith, c.requires.1.fits, c.well_formed.1.1.1.1.0.0)), filled-begin _ _ _)
+loop-k-init c = (omega arith, (refl, omega (arith, c.requires.fillable.fits, c.well_formed.1.1.1.1.0.0)), filled-begin _ _ _)
 
 pub fill_word-w-requires : goal.fill_word-w-requires
-fill_word-w-requires c = (c.requires.0, (c.requires.1.kind, omega arith))
+fill_word-w-requires c = record { viewed = c.requires.viewed; u_bound = (c.requires.fillable.kind, omega arith) }
 
 pub loop-k-preserved : goal.loop-k-preserved
 loop-k-preserved c =

@@ -12,20 +12,23 @@ use Rattle.root.proofs.FirstMembers.{filled-all, trimmable, filled-trimmed}
 use Rattle.root.proofs.beginning.fill_below.Goals as goal
 
 pub fill-requires : goal.fill-requires
-fill-requires c = ((c.requires.0.0.0, c.requires.0.0.1), record { kind = c.requires.1.kind; few = c.requires.1.few; fits = c.requires.1.fits })
+fill-requires c = record {
+      viewed = (c.requires.viewed.0.0, c.requires.viewed.0.1);
+      fillable = record { kind = c.requires.fillable.kind; few = c.requires.fillable.few; fits = c.requires.fillable.fits };
+    }
 
 pub trim_set-requires : goal.trim_set-requires
 trim_set-requires c =
-    let filled : Filled c.args.to c.args.plan.words (is_candidate (planned c.args.job.now c.args.plan) c.args.u) c.args.work.now c.fill.new.1.1.1.1.0 = subst (λ (m : ℕ). Filled c.args.to c.args.plan.words (is_candidate (under m (content c.args.job.now)) c.args.u) c.args.work.now c.fill.new.1.1.1.1.0) (sym c.requires.0.1) c.fill.ensures in
+    let filled : Filled c.args.to c.args.plan.words (is_candidate (planned c.args.job.now c.args.plan) c.args.u) c.args.work.now c.fill.new.1.1.1.1.0 = subst (λ (m : ℕ). Filled c.args.to c.args.plan.words (is_candidate (under m (content c.args.job.now)) c.args.u) c.args.work.now c.fill.new.1.1.1.1.0) (sym c.requires.viewed.1) c.fill.ensures in
     let k : length c.fill.new.1.1.1.1.0 ≡ length c.args.work.now = c.fill.auto.1.1.1.1.0 in
-    (c.requires.0.0.2, trimmable _ c.args.bound c.args.u c.args.to c.args.plan.words _ _ (filled) c.requires.1.few (omega (arith, k, c.requires.1.fits)))
+    (c.requires.viewed.0.2, trimmable _ c.args.bound c.args.u c.args.to c.args.plan.words _ _ (filled) c.requires.fillable.few (omega (arith, k, c.requires.fillable.fits)))
 
 pub shape_of-work-then-bound-view : goal.shape_of-work-then-bound-view
 shape_of-work-then-bound-view c = c.trim_set.auto.1.1.1.1.0 ∙ c.fill.auto.1.1.1.1.0
 
 pub returns-then-bound-view : goal.returns-then-bound-view
 returns-then-bound-view c =
-    let filled : Filled c.args.to c.args.plan.words (is_candidate (planned c.args.job.now c.args.plan) c.args.u) c.args.work.now c.fill.new.1.1.1.1.0 = subst (λ (m : ℕ). Filled c.args.to c.args.plan.words (is_candidate (under m (content c.args.job.now)) c.args.u) c.args.work.now c.fill.new.1.1.1.1.0) (sym c.requires.0.1) c.fill.ensures in
+    let filled : Filled c.args.to c.args.plan.words (is_candidate (planned c.args.job.now c.args.plan) c.args.u) c.args.work.now c.fill.new.1.1.1.1.0 = subst (λ (m : ℕ). Filled c.args.to c.args.plan.words (is_candidate (under m (content c.args.job.now)) c.args.u) c.args.work.now c.fill.new.1.1.1.1.0) (sym c.requires.viewed.1) c.fill.ensures in
     filled-trimmed _ c.args.bound c.args.u c.args.to c.args.plan.words _ _ (filled) _ c.trim_set.ensures
 
 pub shape_of-work-else-bound-view : goal.shape_of-work-else-bound-view
@@ -33,5 +36,5 @@ shape_of-work-else-bound-view c = c.fill.auto.1.1.1.1.0
 
 pub returns-else-bound-view : goal.returns-else-bound-view
 returns-else-bound-view c =
-    let filled : Filled c.args.to c.args.plan.words (is_candidate (planned c.args.job.now c.args.plan) c.args.u) c.args.work.now c.fill.new.1.1.1.1.0 = subst (λ (m : ℕ). Filled c.args.to c.args.plan.words (is_candidate (under m (content c.args.job.now)) c.args.u) c.args.work.now c.fill.new.1.1.1.1.0) (sym c.requires.0.1) c.fill.ensures in
-    filled-all _ c.args.bound c.args.u c.args.to c.args.plan.words _ _ (filled) (omega (arith, c.if-bound-view.false, c.requires.0.0.0.view.len))
+    let filled : Filled c.args.to c.args.plan.words (is_candidate (planned c.args.job.now c.args.plan) c.args.u) c.args.work.now c.fill.new.1.1.1.1.0 = subst (λ (m : ℕ). Filled c.args.to c.args.plan.words (is_candidate (under m (content c.args.job.now)) c.args.u) c.args.work.now c.fill.new.1.1.1.1.0) (sym c.requires.viewed.1) c.fill.ensures in
+    filled-all _ c.args.bound c.args.u c.args.to c.args.plan.words _ _ (filled) (omega (arith, c.if-bound-view.false, c.requires.viewed.0.0.view.len))

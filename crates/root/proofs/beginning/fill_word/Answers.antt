@@ -15,12 +15,12 @@ pub loop-b-init : goal.loop-b-init
 loop-b-init c = (omega arith, omega arith, sym (bits_where-none _))
 
 pub is_candidate-requires : goal.is_candidate-requires
-is_candidate-requires c = (bounded c.args.job.now c.args.view c.requires.0.0, rw c.requires.0.0.view.kinds c.requires.1.0)
+is_candidate-requires c = (bounded c.args.job.now c.args.view c.requires.viewed.0, rw c.requires.viewed.0.view.kinds c.requires.u_bound.0)
 
 pub loop-b-preserved : goal.loop-b-preserved
 loop-b-preserved c =
     let candidate_is : offered c.args.view c.args.boxes c.args.u (c.args.first + c.loop-b.b)
-    ≡ is_candidate (problem_of c.args.job.now c.args.view) c.args.u (c.args.first + c.loop-b.b) = offered-is c.args.job.now c.args.view c.args.boxes c.requires.0.0 c.requires.0.1 c.args.u c.requires.1.0 (c.args.first + c.loop-b.b) in
+    ≡ is_candidate (problem_of c.args.job.now c.args.view) c.args.u (c.args.first + c.loop-b.b) = offered-is c.args.job.now c.args.view c.args.boxes c.requires.viewed.0 c.requires.viewed.1 c.args.u c.requires.u_bound.0 (c.args.first + c.loop-b.b) in
     let e : c.loop-b.b % 64 ≡ c.loop-b.b = mod-eq_of_lt (omega arith) in
     let p : ℕ → _ = λ i. is_candidate (problem_of c.args.job.now c.args.view) c.args.u (c.args.first + i) in
     let q : c.assign_bit-r.result ≡ bits_where (c.loop-b.b + 1) p =

@@ -21,46 +21,49 @@ use Rattle.root.proofs.Rooted.{begin_back, begin_deep, begin_walks}
 use Rattle.root.proofs.walking.walk.Goals as goal
 
 pub make_plan-plan-requires : goal.make_plan-plan-requires
-make_plan-plan-requires c = (c.requires.0.viewed, c.requires.0.boxes)
+make_plan-plan-requires c = (c.requires.prepared.viewed, c.requires.prepared.boxes)
 
 pub settle_first-requires : goal.settle_first-requires
 settle_first-requires c =
-    let room : RoomFor (planned c.args.job.now c.make_plan-plan.result) c.args.work.now c.args.answer.now = subst (λ (m : ℕ). RoomFor (under m (content c.args.job.now)) c.args.work.now c.args.answer.now) (sym c.make_plan-plan.ensures.1) c.requires.1.0 in
-    (((c.requires.0.viewed, c.requires.0.boxes, c.make_plan-plan.ensures.0), c.make_plan-plan.ensures.1), (room).work-fits)
+    let room : RoomFor (planned c.args.job.now c.make_plan-plan.result) c.args.work.now c.args.answer.now = subst (λ (m : ℕ). RoomFor (under m (content c.args.job.now)) c.args.work.now c.args.answer.now) (sym c.make_plan-plan.ensures.1) c.requires.room_for.0 in
+    record {
+      viewed = ((c.requires.prepared.viewed, c.requires.prepared.boxes, c.make_plan-plan.ensures.0), c.make_plan-plan.ensures.1);
+      plan_in_bounds = (room).work-fits;
+    }
 
 pub shape_of-work-then-not-settle_first : goal.shape_of-work-then-not-settle_first
 shape_of-work-then-not-settle_first c = c.settle_first.auto.1.1.1.1.1.0
 
 pub returns-then-not-settle_first : goal.returns-then-not-settle_first
 returns-then-not-settle_first c =
-    let some_piece : 0 < piece_count (content c.args.job.now).kinds = (accepted-sensible c.args.job.now c.args.view.margin c.requires.0.viewed.accepted).pieced in
-    let room : RoomFor (planned c.args.job.now c.make_plan-plan.result) c.args.work.now c.args.answer.now = subst (λ (m : ℕ). RoomFor (under m (content c.args.job.now)) c.args.work.now c.args.answer.now) (sym c.make_plan-plan.ensures.1) c.requires.1.0 in
-    let begun : Begun (planned c.args.job.now c.make_plan-plan.result) c.args.bound c.args.found c.args.answer.now = subst (λ (m : ℕ). Begun (under m (content c.args.job.now)) c.args.bound c.args.found c.args.answer.now) (sym c.make_plan-plan.ensures.1) c.requires.1.1 in
+    let some_piece : 0 < piece_count (content c.args.job.now).kinds = (accepted-sensible c.args.job.now c.args.view.margin c.requires.prepared.viewed.accepted).pieced in
+    let room : RoomFor (planned c.args.job.now c.make_plan-plan.result) c.args.work.now c.args.answer.now = subst (λ (m : ℕ). RoomFor (under m (content c.args.job.now)) c.args.work.now c.args.answer.now) (sym c.make_plan-plan.ensures.1) c.requires.room_for.0 in
+    let begun : Begun (planned c.args.job.now c.make_plan-plan.result) c.args.bound c.args.found c.args.answer.now = subst (λ (m : ℕ). Begun (under m (content c.args.job.now)) c.args.bound c.args.found c.args.answer.now) (sym c.make_plan-plan.ensures.1) c.requires.room_for.1 in
     let as_viewed : {work out work' out' : List ℕ} {st : Progress}
     → Walked (planned c.args.job.now c.make_plan-plan.result) (held_of (planned c.args.job.now c.make_plan-plan.result) c.args.found c.args.answer.now) c.args.budget work out work' out' st
     → Walked (problem_of c.args.job.now c.args.view) (held_of (problem_of c.args.job.now c.args.view) c.args.found c.args.answer.now) c.args.budget work out work' out' st = λ {work} {out} {work'} {out'} {st} w. subst (λ (m : ℕ). Walked (under m (content c.args.job.now)) (held_of (under m (content c.args.job.now)) c.args.found c.args.answer.now) c.args.budget work out work' out' st) c.make_plan-plan.ensures.1 w in
     as_viewed
-    (begin_back _ c.args.budget c.args.bound _ c.args.found _ _ _ (some_piece) (begun) c.make_plan-plan.ensures.0.words refl (room) _ c.settle_first.result c.settle_first.ensures c.begin.result c.begin.ensures (not-true c.settle_first.result c.if-not-settle_first.true))
+    (begin_back _ c.args.budget c.args.bound _ c.args.found _ _ _ (some_piece) (begun) c.make_plan-plan.ensures.0.words refl (room) _ c.settle_first.result c.settle_first.ensures c.begin.result c.begin.ensures c.if-not-settle_first.true)
 
 pub shrink-requires : goal.shrink-requires
 shrink-requires c =
-    let room : RoomFor (planned c.args.job.now c.make_plan-plan.result) c.args.work.now c.args.answer.now = subst (λ (m : ℕ). RoomFor (under m (content c.args.job.now)) c.args.work.now c.args.answer.now) (sym c.make_plan-plan.ensures.1) c.requires.1.0 in
+    let room : RoomFor (planned c.args.job.now c.make_plan-plan.result) c.args.work.now c.args.answer.now = subst (λ (m : ℕ). RoomFor (under m (content c.args.job.now)) c.args.work.now c.args.answer.now) (sym c.make_plan-plan.ensures.1) c.requires.room_for.0 in
     let k : length c.settle_first.new.1.1.1.1.1.0 ≡ length c.args.work.now = c.settle_first.auto.1.1.1.1.1.0 in
     (c.make_plan-plan.ensures.0, omega (arith, c.make_plan-plan.ensures.0.words), omega (arith, k, (room).work-fits))
 
 pub nofit_of-nofit-requires : goal.nofit_of-nofit-requires
-nofit_of-nofit-requires c = (c.requires.0.viewed, c.requires.0.boxes)
+nofit_of-nofit-requires c = (c.requires.prepared.viewed, c.requires.prepared.boxes)
 
 pub walk_with_table-requires : goal.walk_with_table-requires
 walk_with_table-requires c =
-    let some_piece : 0 < piece_count (content c.args.job.now).kinds = (accepted-sensible c.args.job.now c.args.view.margin c.requires.0.viewed.accepted).pieced in
-    let room : RoomFor (planned c.args.job.now c.make_plan-plan.result) c.args.work.now c.args.answer.now = subst (λ (m : ℕ). RoomFor (under m (content c.args.job.now)) c.args.work.now c.args.answer.now) (sym c.make_plan-plan.ensures.1) c.requires.1.0 in
-    let begun : Begun (planned c.args.job.now c.make_plan-plan.result) c.args.bound c.args.found c.args.answer.now = subst (λ (m : ℕ). Begun (under m (content c.args.job.now)) c.args.bound c.args.found c.args.answer.now) (sym c.make_plan-plan.ensures.1) c.requires.1.1 in
+    let some_piece : 0 < piece_count (content c.args.job.now).kinds = (accepted-sensible c.args.job.now c.args.view.margin c.requires.prepared.viewed.accepted).pieced in
+    let room : RoomFor (planned c.args.job.now c.make_plan-plan.result) c.args.work.now c.args.answer.now = subst (λ (m : ℕ). RoomFor (under m (content c.args.job.now)) c.args.work.now c.args.answer.now) (sym c.make_plan-plan.ensures.1) c.requires.room_for.0 in
+    let begun : Begun (planned c.args.job.now c.make_plan-plan.result) c.args.bound c.args.found c.args.answer.now = subst (λ (m : ℕ). Begun (under m (content c.args.job.now)) c.args.bound c.args.found c.args.answer.now) (sym c.make_plan-plan.ensures.1) c.requires.room_for.1 in
     let shrunk : Shrunk (kind_count (content c.args.job.now).kinds) c.make_plan-plan.result.words c.make_plan-plan.result.words c.settle_first.new.1.1.1.1.1.0 c.shrink.result = rw (← c.make_plan-plan.ensures.0.types) c.shrink.ensures in
-    (
-  (record { viewed = c.requires.0.viewed; table = c.requires.0.turned; boxed = c.requires.0.boxes; plan = c.make_plan-plan.ensures.0; measures = c.nofit_of-nofit.ensures.0 }, omega (arith, c.nofit_of-nofit.ensures.1, c.nofit_of-nofit.ensures.0.small, c.room_for.ensures)),
-  begin_deep _ c.args.budget c.args.bound _ c.args.found _ _ _ (some_piece) (begun) c.make_plan-plan.ensures.0.words refl (room) _ c.settle_first.result c.settle_first.ensures (demanded c.args.job.now c.requires.0.viewed.accepted) (not-false c.settle_first.result c.if-not-settle_first.false) c.shrink.result (shrunk) c.begin-start.result c.begin-start.ensures c.settle_first.auto.1.1.1.1.1.0,
-)
+    record {
+      computed = (record { viewed = c.requires.prepared.viewed; table = c.requires.prepared.turned; boxed = c.requires.prepared.boxes; plan = c.make_plan-plan.ensures.0; measures = c.nofit_of-nofit.ensures.0 }, omega (arith, c.nofit_of-nofit.ensures.1, c.nofit_of-nofit.ensures.0.small, c.room_for.ensures));
+      ready = begin_deep _ c.args.budget c.args.bound _ c.args.found _ _ _ (some_piece) (begun) c.make_plan-plan.ensures.0.words refl (room) _ c.settle_first.result c.settle_first.ensures (demanded c.args.job.now c.requires.prepared.viewed.accepted) c.if-not-settle_first.false c.shrink.result (shrunk) c.begin-start.result c.begin-start.ensures c.settle_first.auto.1.1.1.1.1.0;
+    }
 
 pub shape_of-work : goal.shape_of-work
 shape_of-work c = c.walk_with_table.auto.1.1.1.1.1.1.0 ∙ c.settle_first.auto.1.1.1.1.1.0
@@ -70,12 +73,12 @@ shape_of-answer c = c.walk_with_table.auto.1.1.1.1.1.1.1.0
 
 pub returns : goal.returns
 returns c =
-    let some_piece : 0 < piece_count (content c.args.job.now).kinds = (accepted-sensible c.args.job.now c.args.view.margin c.requires.0.viewed.accepted).pieced in
-    let room : RoomFor (planned c.args.job.now c.make_plan-plan.result) c.args.work.now c.args.answer.now = subst (λ (m : ℕ). RoomFor (under m (content c.args.job.now)) c.args.work.now c.args.answer.now) (sym c.make_plan-plan.ensures.1) c.requires.1.0 in
-    let begun : Begun (planned c.args.job.now c.make_plan-plan.result) c.args.bound c.args.found c.args.answer.now = subst (λ (m : ℕ). Begun (under m (content c.args.job.now)) c.args.bound c.args.found c.args.answer.now) (sym c.make_plan-plan.ensures.1) c.requires.1.1 in
+    let some_piece : 0 < piece_count (content c.args.job.now).kinds = (accepted-sensible c.args.job.now c.args.view.margin c.requires.prepared.viewed.accepted).pieced in
+    let room : RoomFor (planned c.args.job.now c.make_plan-plan.result) c.args.work.now c.args.answer.now = subst (λ (m : ℕ). RoomFor (under m (content c.args.job.now)) c.args.work.now c.args.answer.now) (sym c.make_plan-plan.ensures.1) c.requires.room_for.0 in
+    let begun : Begun (planned c.args.job.now c.make_plan-plan.result) c.args.bound c.args.found c.args.answer.now = subst (λ (m : ℕ). Begun (under m (content c.args.job.now)) c.args.bound c.args.found c.args.answer.now) (sym c.make_plan-plan.ensures.1) c.requires.room_for.1 in
     let as_viewed : {work out work' out' : List ℕ} {st : Progress}
     → Walked (planned c.args.job.now c.make_plan-plan.result) (held_of (planned c.args.job.now c.make_plan-plan.result) c.args.found c.args.answer.now) c.args.budget work out work' out' st
     → Walked (problem_of c.args.job.now c.args.view) (held_of (problem_of c.args.job.now c.args.view) c.args.found c.args.answer.now) c.args.budget work out work' out' st = λ {work} {out} {work'} {out'} {st} w. subst (λ (m : ℕ). Walked (under m (content c.args.job.now)) (held_of (under m (content c.args.job.now)) c.args.found c.args.answer.now) c.args.budget work out work' out' st) c.make_plan-plan.ensures.1 w in
     let shrunk : Shrunk (kind_count (content c.args.job.now).kinds) c.make_plan-plan.result.words c.make_plan-plan.result.words c.settle_first.new.1.1.1.1.1.0 c.shrink.result = rw (← c.make_plan-plan.ensures.0.types) c.shrink.ensures in
     as_viewed
-    (begin_walks _ c.args.budget c.args.bound _ c.args.found _ _ _ (some_piece) (begun) c.make_plan-plan.ensures.0.words refl (room) _ c.settle_first.result c.settle_first.ensures (demanded c.args.job.now c.requires.0.viewed.accepted) (not-false c.settle_first.result c.if-not-settle_first.false) c.shrink.result (shrunk) c.begin-start.result c.begin-start.ensures _ _ c.walk_with_table.result c.walk_with_table.ensures)
+    (begin_walks _ c.args.budget c.args.bound _ c.args.found _ _ _ (some_piece) (begun) c.make_plan-plan.ensures.0.words refl (room) _ c.settle_first.result c.settle_first.ensures (demanded c.args.job.now c.requires.prepared.viewed.accepted) c.if-not-settle_first.false c.shrink.result (shrunk) c.begin-start.result c.begin-start.ensures _ _ c.walk_with_table.result c.walk_with_table.ensures)

@@ -12,39 +12,42 @@ use Rattle.search.proofs.Running.{run-refuses, run-unfit, run-goes}
 use Rattle.search.proofs.run.run.Goals as goal
 
 pub returns-then-refusal-ne0 : goal.returns-then-refusal-ne0
-returns-then-refusal-ne0 c = run-refuses _ _ _ _ _ _ _ c.open_under-opened.ensures.0 c.if-refusal-ne0.true
+returns-then-refusal-ne0 c = run-refuses _ _ _ _ _ _ _ c.open_under-opened.ensures.refusal_value c.if-refusal-ne0.true
 
 pub turn_all-requires : goal.turn_all-requires
 turn_all-requires c =
-    let viewed : Viewed c.args.job.now c.open_under-opened.result.view = (c.open_under-opened.ensures.1 c.if-refusal-ne0.false).0 in
+    let viewed : Viewed c.args.job.now c.open_under-opened.result.view = (c.open_under-opened.ensures.viewed c.if-refusal-ne0.false).0 in
     (viewed, refl)
 
 pub boxes_of-boxes-requires : goal.boxes_of-boxes-requires
 boxes_of-boxes-requires c =
-    let viewed : Viewed c.args.job.now c.open_under-opened.result.view = (c.open_under-opened.ensures.1 c.if-refusal-ne0.false).0 in
+    let viewed : Viewed c.args.job.now c.open_under-opened.result.view = (c.open_under-opened.ensures.viewed c.if-refusal-ne0.false).0 in
     (viewed, c.turn_all.ensures)
 
 pub given_layout-given-requires : goal.given_layout-given-requires
 given_layout-given-requires c =
-    let viewed : Viewed c.args.job.now c.open_under-opened.result.view = (c.open_under-opened.ensures.1 c.if-refusal-ne0.false).0 in
+    let viewed : Viewed c.args.job.now c.open_under-opened.result.view = (c.open_under-opened.ensures.viewed c.if-refusal-ne0.false).0 in
     record { viewed = viewed; turned = c.turn_all.ensures; boxes = c.boxes_of-boxes.ensures }
 
 pub returns-then-unfit-ne0 : goal.returns-then-unfit-ne0
 returns-then-unfit-ne0 c =
-    let accepted : refusal_under c.args.margin c.args.job.now ≡ 0 = sym c.open_under-opened.ensures.0 ∙ c.if-refusal-ne0.false in
-    let given_by : GivenBy (under c.args.margin (content c.args.job.now)) c.args.layout.now c.given_layout-given.result = (let margin_is : c.open_under-opened.result.view.margin ≡ c.args.margin = (c.open_under-opened.ensures.1 c.if-refusal-ne0.false).1 in
+    let accepted : refusal_under c.args.margin c.args.job.now ≡ 0 = sym c.open_under-opened.ensures.refusal_value ∙ c.if-refusal-ne0.false in
+    let given_by : GivenBy (under c.args.margin (content c.args.job.now)) c.args.layout.now c.given_layout-given.result = (let margin_is : c.open_under-opened.result.view.margin ≡ c.args.margin = (c.open_under-opened.ensures.viewed c.if-refusal-ne0.false).1 in
     subst (λ (m : ℕ). GivenBy (under m (content c.args.job.now)) c.args.layout.now c.given_layout-given.result) (margin_is) c.given_layout-given.ensures) in
     run-unfit _ _ _ _ _ _ (accepted) _ (given_by).refused c.if-unfit-ne0.true
 
 pub run_from-requires : goal.run_from-requires
 run_from-requires c =
-    let viewed : Viewed c.args.job.now c.open_under-opened.result.view = (c.open_under-opened.ensures.1 c.if-refusal-ne0.false).0 in
-    (record { viewed = viewed; turned = c.turn_all.ensures; boxes = c.boxes_of-boxes.ensures }, (c.given_layout-given.ensures, c.if-unfit-ne0.false))
+    let viewed : Viewed c.args.job.now c.open_under-opened.result.view = (c.open_under-opened.ensures.viewed c.if-refusal-ne0.false).0 in
+    record {
+      prepared = record { viewed = viewed; turned = c.turn_all.ensures; boxes = c.boxes_of-boxes.ensures };
+      given_by = (c.given_layout-given.ensures, c.if-unfit-ne0.false);
+    }
 
 pub returns : goal.returns
 returns c =
-    let accepted : refusal_under c.args.margin c.args.job.now ≡ 0 = sym c.open_under-opened.ensures.0 ∙ c.if-refusal-ne0.false in
-    let margin_is : c.open_under-opened.result.view.margin ≡ c.args.margin = (c.open_under-opened.ensures.1 c.if-refusal-ne0.false).1 in
-    let given_by : GivenBy (under c.args.margin (content c.args.job.now)) c.args.layout.now c.given_layout-given.result = (let margin_is : c.open_under-opened.result.view.margin ≡ c.args.margin = (c.open_under-opened.ensures.1 c.if-refusal-ne0.false).1 in
+    let accepted : refusal_under c.args.margin c.args.job.now ≡ 0 = sym c.open_under-opened.ensures.refusal_value ∙ c.if-refusal-ne0.false in
+    let margin_is : c.open_under-opened.result.view.margin ≡ c.args.margin = (c.open_under-opened.ensures.viewed c.if-refusal-ne0.false).1 in
+    let given_by : GivenBy (under c.args.margin (content c.args.job.now)) c.args.layout.now c.given_layout-given.result = (let margin_is : c.open_under-opened.result.view.margin ≡ c.args.margin = (c.open_under-opened.ensures.viewed c.if-refusal-ne0.false).1 in
     subst (λ (m : ℕ). GivenBy (under m (content c.args.job.now)) c.args.layout.now c.given_layout-given.result) (margin_is) c.given_layout-given.ensures) in
     run-goes _ _ _ _ _ _ (accepted) _ (margin_is) (not_unfit _ c.args.layout.now c.given_layout-given.result (given_by) c.if-unfit-ne0.false) _ c.run_from.ensures

@@ -21,7 +21,7 @@ use Rattle.search.proofs.Running.{from-few-words, from-few-numbers, from-room, f
 use Rattle.search.proofs.run.run_from.Goals as goal
 
 pub work_words-words-requires : goal.work_words-words-requires
-work_words-words-requires c = c.requires.0.viewed
+work_words-words-requires c = c.requires.prepared.viewed
 
 pub returns-then-lacks_words : goal.returns-then-lacks_words
 returns-then-lacks_words c =
@@ -34,15 +34,15 @@ returns-then-lacks_words c =
 
 pub overflow_mul-view : goal.overflow_mul-view
 overflow_mul-view c =
-    let numbers_are : 4 * c.args.view.pieces ≡ 4 * piece_count (content c.args.job.now).kinds = ap (λ (n : ℕ). 4 * n) c.requires.0.viewed.view.pieces in
-    omega (arith, numbers_are, few-pieces c.args.job.now c.requires.0.viewed.accepted)
+    let numbers_are : 4 * c.args.view.pieces ≡ 4 * piece_count (content c.args.job.now).kinds = ap (λ (n : ℕ). 4 * n) c.requires.prepared.viewed.view.pieces in
+    omega (arith, numbers_are, few-pieces c.args.job.now c.requires.prepared.viewed.accepted)
 
 pub returns-then-lacks_numbers : goal.returns-then-lacks_numbers
 returns-then-lacks_numbers c =
     let problem : Problem = problem_of c.args.job.now c.args.view in
     let begin : Option Layout = (let problem : Problem = problem_of c.args.job.now c.args.view in
     given_layout (problem) c.args.layout.now) in
-    let numbers_are : 4 * c.args.view.pieces ≡ 4 * piece_count (content c.args.job.now).kinds = ap (λ (n : ℕ). 4 * n) c.requires.0.viewed.view.pieces in
+    let numbers_are : 4 * c.args.view.pieces ≡ 4 * piece_count (content c.args.job.now).kinds = ap (λ (n : ℕ). 4 * n) c.requires.prepared.viewed.view.pieces in
     let problem : Problem = problem_of c.args.job.now c.args.view in
     let words_are : c.work_words-words.result ≡ work_words (problem) = c.work_words-words.ensures.0 in
     from-few-numbers (problem) (begin) _ _ _ c.work_words-words.result (words_are) _ (numbers_are) (sym c.lacks_words.ensures ∙ c.if-lacks_words.false) (sym c.lacks_numbers.ensures ∙ c.if-lacks_numbers.true)
@@ -55,14 +55,14 @@ hold-requires c =
     let room : RoomFor (problem) c.args.work.now c.args.answer.now = (let problem : Problem = problem_of c.args.job.now c.args.view in
     let begin : Option Layout = (let problem : Problem = problem_of c.args.job.now c.args.view in
     given_layout (problem) c.args.layout.now) in
-    let numbers_are : 4 * c.args.view.pieces ≡ 4 * piece_count (content c.args.job.now).kinds = ap (λ (n : ℕ). 4 * n) c.requires.0.viewed.view.pieces in
+    let numbers_are : 4 * c.args.view.pieces ≡ 4 * piece_count (content c.args.job.now).kinds = ap (λ (n : ℕ). 4 * n) c.requires.prepared.viewed.view.pieces in
     let problem : Problem = problem_of c.args.job.now c.args.view in
     let words_are : c.work_words-words.result ≡ work_words (problem) = c.work_words-words.ensures.0 in
     from-room (problem) (begin) c.args.budget c.args.work.now c.args.answer.now c.work_words-words.result (words_are) _ (numbers_are) (sym c.lacks_words.ensures ∙ c.if-lacks_words.false) (sym c.lacks_numbers.ensures ∙ c.if-lacks_numbers.false)) in
-    (
-  (c.requires.0.viewed, omega (arith, c.requires.0.viewed.view.pieces, (room).out-fits)),
-  λ f. subst (λ (n : ℕ). n * 8 ≤ length c.args.layout.now) (sym c.requires.0.viewed.view.pieces) (given_whole (problem) c.args.layout.now c.args.given c.requires.1.0 c.requires.1.1 f),
-)
+    record {
+      viewed = (c.requires.prepared.viewed, omega (arith, c.requires.prepared.viewed.view.pieces, (room).out-fits));
+      pieces_in_bounds = λ f. subst (λ (n : ℕ). n * 8 ≤ length c.args.layout.now) (sym c.requires.prepared.viewed.view.pieces) (given_whole (problem) c.args.layout.now c.args.given c.requires.given_by.0 c.requires.given_by.1 f);
+    }
 
 pub walk-st-requires : goal.walk-st-requires
 walk-st-requires c =
@@ -71,18 +71,18 @@ walk-st-requires c =
     let room : RoomFor (problem) c.args.work.now c.args.answer.now = (let problem : Problem = problem_of c.args.job.now c.args.view in
     let begin : Option Layout = (let problem : Problem = problem_of c.args.job.now c.args.view in
     given_layout (problem) c.args.layout.now) in
-    let numbers_are : 4 * c.args.view.pieces ≡ 4 * piece_count (content c.args.job.now).kinds = ap (λ (n : ℕ). 4 * n) c.requires.0.viewed.view.pieces in
+    let numbers_are : 4 * c.args.view.pieces ≡ 4 * piece_count (content c.args.job.now).kinds = ap (λ (n : ℕ). 4 * n) c.requires.prepared.viewed.view.pieces in
     let problem : Problem = problem_of c.args.job.now c.args.view in
     let words_are : c.work_words-words.result ≡ work_words (problem) = c.work_words-words.ensures.0 in
     from-room (problem) (begin) c.args.budget c.args.work.now c.args.answer.now c.work_words-words.result (words_are) _ (numbers_are) (sym c.lacks_words.ensures ∙ c.if-lacks_words.false) (sym c.lacks_numbers.ensures ∙ c.if-lacks_numbers.false)) in
     let begin : Option Layout = (let problem : Problem = problem_of c.args.job.now c.args.view in
     given_layout (problem) c.args.layout.now) in
-    let holds : c.hold.new.1.1.1.1.0 ≡ with_layout (begin) c.args.answer.now = c.hold.ensures ∙ ap (λ (h : Option Layout). with_layout h c.args.answer.now) (c.requires.1.0.held c.requires.1.1) in
+    let holds : c.hold.new.1.1.1.1.0 ≡ with_layout (begin) c.args.answer.now = c.hold.ensures ∙ ap (λ (h : Option Layout). with_layout h c.args.answer.now) (c.requires.given_by.0.held c.requires.given_by.1) in
     let k : length c.hold.new.1.1.1.1.0 ≡ length c.args.answer.now = c.hold.auto.1.1.1.1.0 in (
       record { work-fits = (room).work-fits; out-fits = omega (arith, k, (room).out-fits) },
-      rw (holds) (begins c.args.job.now c.args.view.margin c.requires.0.viewed.accepted c.args.layout.now c.args.answer.now c.args.given c.requires.1.0 c.requires.1.1),
+      rw (holds) (begins c.args.job.now c.args.view.margin c.requires.prepared.viewed.accepted c.args.layout.now c.args.answer.now c.args.given c.requires.given_by.0 c.requires.given_by.1),
     )) in
-    (c.requires.0, ready)
+    record { prepared = c.requires.prepared; room_for = ready }
 
 pub clear-requires : goal.clear-requires
 clear-requires c =
@@ -92,7 +92,7 @@ clear-requires c =
     let room : RoomFor (problem) c.args.work.now c.args.answer.now = (let problem : Problem = problem_of c.args.job.now c.args.view in
     let begin : Option Layout = (let problem : Problem = problem_of c.args.job.now c.args.view in
     given_layout (problem) c.args.layout.now) in
-    let numbers_are : 4 * c.args.view.pieces ≡ 4 * piece_count (content c.args.job.now).kinds = ap (λ (n : ℕ). 4 * n) c.requires.0.viewed.view.pieces in
+    let numbers_are : 4 * c.args.view.pieces ≡ 4 * piece_count (content c.args.job.now).kinds = ap (λ (n : ℕ). 4 * n) c.requires.prepared.viewed.view.pieces in
     let problem : Problem = problem_of c.args.job.now c.args.view in
     let words_are : c.work_words-words.result ≡ work_words (problem) = c.work_words-words.ensures.0 in
     from-room (problem) (begin) c.args.budget c.args.work.now c.args.answer.now c.work_words-words.result (words_are) _ (numbers_are) (sym c.lacks_words.ensures ∙ c.if-lacks_words.false) (sym c.lacks_numbers.ensures ∙ c.if-lacks_numbers.false)) in
@@ -107,10 +107,10 @@ tell-requires c =
     let walked : Walked (problem) (begin) c.args.budget c.args.work.now c.hold.new.1.1.1.1.0 c.walk-st.new.1.1.1.1.1.1.1.0 c.walk-st.new.1.1.1.1.1.1.1.1.0 c.walk-st.result = (let problem : Problem = problem_of c.args.job.now c.args.view in
     let begin : Option Layout = (let problem : Problem = problem_of c.args.job.now c.args.view in
     given_layout (problem) c.args.layout.now) in
-    let holds : c.hold.new.1.1.1.1.0 ≡ with_layout (begin) c.args.answer.now = c.hold.ensures ∙ ap (λ (h : Option Layout). with_layout h c.args.answer.now) (c.requires.1.0.held c.requires.1.1) in
+    let holds : c.hold.new.1.1.1.1.0 ≡ with_layout (begin) c.args.answer.now = c.hold.ensures ∙ ap (λ (h : Option Layout). with_layout h c.args.answer.now) (c.requires.given_by.0.held c.requires.given_by.1) in
     subst (λ (h : Option Layout). Walked (problem) h c.args.budget c.args.work.now c.hold.new.1.1.1.1.0 c.walk-st.new.1.1.1.1.1.1.1.0 c.walk-st.new.1.1.1.1.1.1.1.1.0 c.walk-st.result)
-    (ap (held_of (problem) c.args.given.found) (holds) ∙ held-again c.args.job.now c.args.view.margin c.requires.0.viewed.accepted c.args.layout.now c.args.answer.now c.args.given c.requires.1.0 c.requires.1.1) c.walk-st.ensures) in
-    (left-within _ _ _ _ _ _ _ _ (walked), (c.requires.0.viewed.view.margin, omega (arith, (walked).lowered, short-board c.args.job.now c.requires.0.viewed.accepted)))
+    (ap (held_of (problem) c.args.given.found) (holds) ∙ held-again c.args.job.now c.args.view.margin c.requires.prepared.viewed.accepted c.args.layout.now c.args.answer.now c.args.given c.requires.given_by.0 c.requires.given_by.1) c.walk-st.ensures) in
+    (left-within _ _ _ _ _ _ _ _ (walked), (c.requires.prepared.viewed.view.margin, omega (arith, (walked).lowered, short-board c.args.job.now c.requires.prepared.viewed.accepted)))
 
 pub shape_of-work : goal.shape_of-work
 shape_of-work c = c.clear.auto.0 ∙ c.walk-st.auto.1.1.1.1.1.1.1.0
@@ -123,22 +123,22 @@ returns c =
     let problem : Problem = problem_of c.args.job.now c.args.view in
     let begin : Option Layout = (let problem : Problem = problem_of c.args.job.now c.args.view in
     given_layout (problem) c.args.layout.now) in
-    let numbers_are : 4 * c.args.view.pieces ≡ 4 * piece_count (content c.args.job.now).kinds = ap (λ (n : ℕ). 4 * n) c.requires.0.viewed.view.pieces in
+    let numbers_are : 4 * c.args.view.pieces ≡ 4 * piece_count (content c.args.job.now).kinds = ap (λ (n : ℕ). 4 * n) c.requires.prepared.viewed.view.pieces in
     let problem : Problem = problem_of c.args.job.now c.args.view in
     let words_are : c.work_words-words.result ≡ work_words (problem) = c.work_words-words.ensures.0 in
     let begin : Option Layout = (let problem : Problem = problem_of c.args.job.now c.args.view in
     given_layout (problem) c.args.layout.now) in
-    let holds : c.hold.new.1.1.1.1.0 ≡ with_layout (begin) c.args.answer.now = c.hold.ensures ∙ ap (λ (h : Option Layout). with_layout h c.args.answer.now) (c.requires.1.0.held c.requires.1.1) in
+    let holds : c.hold.new.1.1.1.1.0 ≡ with_layout (begin) c.args.answer.now = c.hold.ensures ∙ ap (λ (h : Option Layout). with_layout h c.args.answer.now) (c.requires.given_by.0.held c.requires.given_by.1) in
     let problem : Problem = problem_of c.args.job.now c.args.view in
     let begin : Option Layout = (let problem : Problem = problem_of c.args.job.now c.args.view in
     given_layout (problem) c.args.layout.now) in
     let walked : Walked (problem) (begin) c.args.budget c.args.work.now c.hold.new.1.1.1.1.0 c.walk-st.new.1.1.1.1.1.1.1.0 c.walk-st.new.1.1.1.1.1.1.1.1.0 c.walk-st.result = (let problem : Problem = problem_of c.args.job.now c.args.view in
     let begin : Option Layout = (let problem : Problem = problem_of c.args.job.now c.args.view in
     given_layout (problem) c.args.layout.now) in
-    let holds : c.hold.new.1.1.1.1.0 ≡ with_layout (begin) c.args.answer.now = c.hold.ensures ∙ ap (λ (h : Option Layout). with_layout h c.args.answer.now) (c.requires.1.0.held c.requires.1.1) in
+    let holds : c.hold.new.1.1.1.1.0 ≡ with_layout (begin) c.args.answer.now = c.hold.ensures ∙ ap (λ (h : Option Layout). with_layout h c.args.answer.now) (c.requires.given_by.0.held c.requires.given_by.1) in
     subst (λ (h : Option Layout). Walked (problem) h c.args.budget c.args.work.now c.hold.new.1.1.1.1.0 c.walk-st.new.1.1.1.1.1.1.1.0 c.walk-st.new.1.1.1.1.1.1.1.1.0 c.walk-st.result)
-    (ap (held_of (problem) c.args.given.found) (holds) ∙ held-again c.args.job.now c.args.view.margin c.requires.0.viewed.accepted c.args.layout.now c.args.answer.now c.args.given c.requires.1.0 c.requires.1.1) c.walk-st.ensures) in
+    (ap (held_of (problem) c.args.given.found) (holds) ∙ held-again c.args.job.now c.args.view.margin c.requires.prepared.viewed.accepted c.args.layout.now c.args.answer.now c.args.given c.requires.given_by.0 c.requires.given_by.1) c.walk-st.ensures) in
     from-done (problem) (begin) _ _ _ c.work_words-words.result (words_are) _ (numbers_are) (sym c.lacks_words.ensures ∙ c.if-lacks_words.false) (sym c.lacks_numbers.ensures ∙ c.if-lacks_numbers.false)
-    (accepted-sensible c.args.job.now c.args.view.margin c.requires.0.viewed.accepted).pieced
-    (begin_entries (problem) (begin) (begin_laid (problem) c.args.layout.now c.args.given c.requires.1.0 c.requires.1.1))
+    (accepted-sensible c.args.job.now c.args.view.margin c.requires.prepared.viewed.accepted).pieced
+    (begin_entries (problem) (begin) (begin_laid (problem) c.args.layout.now c.args.given c.requires.given_by.0 c.requires.given_by.1))
     _ _ _ _ _ c.walk-st.result (holds) (walked) c.tell.ensures c.clear.ensures
