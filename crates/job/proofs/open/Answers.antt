@@ -23,7 +23,10 @@ pub returns-then-unsound : goal.returns-then-unsound
 returns-then-unsound c =
     let s = c.args.job.now in
     record {
-      refusal_value = sym (refusal-seven s true (sym c.first_of_six-first.ensures ∙ c.if-first-ne0.false) (sym c.unsound.ensures ∙ c.if-unsound.true));
+      refusal_value =
+          sym
+          (refusal-seven s true
+          (sym c.first_of_six-first.ensures ∙ c.if-first-ne0.false) (sym c.unsound.ensures ∙ c.if-unsound.true));
       viewed = λ z. absurd (omega arith);
     }
 

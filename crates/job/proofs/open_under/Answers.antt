@@ -18,7 +18,8 @@ pub returns-then-margin-gt63 : goal.returns-then-margin-gt63
 returns-then-margin-gt63 c =
     let accepted = sym c.open-opened.ensures.refusal_value ∙ c.if-refusal-ne0.false in
     record {
-      refusal_value = sym ((refused-13 c.args.job.now c.args.margin).1 (accepted, omega (arith, c.if-margin-gt63.true)));
+      refusal_value =
+          sym ((refused-13 c.args.job.now c.args.margin).1 (accepted, omega (arith, c.if-margin-gt63.true)));
       viewed = λ z. absurd (omega arith);
     }
 
@@ -27,7 +28,8 @@ returns c =
     let o = c.open-opened.ensures in
     let accepted = sym o.refusal_value ∙ c.if-refusal-ne0.false in
     record {
-      refusal_value = sym ((accepted-under c.args.job.now c.args.margin).1 (accepted, omega (arith, c.if-margin-gt63.false)));
+      refusal_value =
+          sym ((accepted-under c.args.job.now c.args.margin).1 (accepted, omega (arith, c.if-margin-gt63.false)));
       viewed =
           λ z. (
             record {

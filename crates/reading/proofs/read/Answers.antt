@@ -10,11 +10,16 @@ returns-then-refusal-ne0 c =
     record { value = ap W.Refused e ∙ sym (ap (λ o. o.answer) q); answer_after = sym (ap (λ o. o.buffer) q) }
 
 pub read_content-requires : goal.read_content-requires
-read_content-requires c = (sym c.open-opened.ensures.refusal_value ∙ c.if-refusal-ne0.false, (c.open-opened.ensures.viewed c.if-refusal-ne0.false).view.pieces)
+read_content-requires c = (
+  sym c.open-opened.ensures.refusal_value ∙ c.if-refusal-ne0.false,
+  (c.open-opened.ensures.viewed c.if-refusal-ne0.false).view.pieces,
+)
 
 pub returns : goal.returns
 returns c =
-    let q = read-accepted c.args.job.now c.args.answer.now (sym c.open-opened.ensures.refusal_value ∙ c.if-refusal-ne0.false) in
+    let q =
+    read-accepted c.args.job.now c.args.answer.now
+    (sym c.open-opened.ensures.refusal_value ∙ c.if-refusal-ne0.false) in
     record {
       value = c.read_content.ensures.value ∙ sym (ap (λ o. o.answer) q);
       answer_after = c.read_content.ensures.answer_after ∙ sym (ap (λ o. o.buffer) q);

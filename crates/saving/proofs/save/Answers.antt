@@ -14,7 +14,9 @@ save_content-requires c = sym c.open-refusal.ensures.refusal_value ∙ c.if-refu
 
 pub returns : goal.returns
 returns c =
-    let q = save-accepted c.args.job.now c.args.answer.now (sym c.open-refusal.ensures.refusal_value ∙ c.if-refusal-ne0.false) in
+    let q =
+    save-accepted c.args.job.now c.args.answer.now
+    (sym c.open-refusal.ensures.refusal_value ∙ c.if-refusal-ne0.false) in
     record {
       value = c.save_content.ensures.value ∙ sym (ap (λ o. o.answer) q);
       answer_after = c.save_content.ensures.answer_after ∙ sym (ap (λ o. o.buffer) q);

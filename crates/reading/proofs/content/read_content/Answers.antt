@@ -26,7 +26,10 @@ returns c =
     let fit : length (content_numbers (content c.args.job.now)) ≤ length c.args.answer.now / 2 = omega arith in
     let q = content-fits c.args.job.now c.requires.0 c.args.answer.now fit in
     let w = content-written c.args.job.now c.requires.0 _ c.args.answer.now _ _ (omega arith) (omega arith) c.put_front.ensures c.put_back.ensures in
-    record { value = ap W.Count (omega arith) ∙ sym (ap (λ o. o.answer) q); answer_after = w ∙ sym (ap (λ o. o.buffer) q) }
+    record {
+      value = ap W.Count (omega arith) ∙ sym (ap (λ o. o.answer) q);
+      answer_after = w ∙ sym (ap (λ o. o.buffer) q);
+    }
 
 pub read_trailer-t-requires : goal.read_trailer-t-requires
 read_trailer-t-requires c = (inside _ (six_none _ c.requires.0)).least

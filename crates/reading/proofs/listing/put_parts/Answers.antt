@@ -56,6 +56,9 @@ shape_of-answer c = c.loop-i.invariant.0.2
 pub returns : goal.returns
 returns c =
     record {
-      answer_after = parts-done c.args.list.now c.args.from c.args.n c.loop-i.i c.args.at _ _ (omega arith) c.loop-i.invariant.1.1;
-      value = parts-end c.args.list.now c.args.from c.args.n c.loop-i.i c.loop-i.here (omega arith) c.loop-i.invariant.0.1 c.loop-i.invariant.1.0;
+      answer_after =
+          parts-done c.args.list.now c.args.from c.args.n c.loop-i.i c.args.at _ _ (omega arith) c.loop-i.invariant.1.1;
+      value =
+          parts-end c.args.list.now c.args.from c.args.n c.loop-i.i c.loop-i.here
+          (omega arith) c.loop-i.invariant.0.1 c.loop-i.invariant.1.0;
     }
