@@ -27,87 +27,74 @@ pub overflow_add-result : goal.overflow_add-result
 overflow_add-result c =
     let half : ℕ = length c.args.p.now / 4 in
     let at : ℕ → ℤ = (λ k. let part : Part = part_of c.args.p.now in
-    coordinate_of c.args.c (vertex_at (part) k)) in
-    let fits : SFits w16 (at 0 +ℤ at (half)) = (let half : ℕ = length c.args.p.now / 4 in
+    coordinate_of c.args.c (vertex_at part k)) in
+    let fits : SFits w16 (at 0 +ℤ at half) = (let at : ℕ → ℤ = (λ k. let part : Part = part_of c.args.p.now in
+    coordinate_of c.args.c (vertex_at part k)) in
     let at : ℕ → ℤ = (λ k. let part : Part = part_of c.args.p.now in
-    coordinate_of c.args.c (vertex_at (part) k)) in
-    let at : ℕ → ℤ = (λ k. let part : Part = part_of c.args.p.now in
-    coordinate_of c.args.c (vertex_at (part) k)) in
+    coordinate_of c.args.c (vertex_at part k)) in
     let first_size : nat_abs (at 0) ≤ 4096 = (let part : Part = part_of c.args.p.now in
     let at : ℕ → ℤ = (λ k. let part : Part = part_of c.args.p.now in
-    coordinate_of c.args.c (vertex_at (part) k)) in
-    let size : (k : ℕ) → k < length (part) → nat_abs (at k) ≤ 4096 = (λ k h. let part : Part = part_of c.args.p.now in
-    coordinate-small c.args.c 4096 (vertex_at (part) k) (c.requires.1 k h)) in
+    coordinate_of c.args.c (vertex_at part k)) in
+    let size : (k : ℕ) → k < length part → nat_abs (at k) ≤ 4096 = (λ k h. let part : Part = part_of c.args.p.now in
+    coordinate-small c.args.c 4096 (vertex_at part k) (c.requires.1 k h)) in
     size 0 (omega (arith, c.requires.0.0, part_length c.args.p.now))) in
-    let half : ℕ = length c.args.p.now / 4 in
     let at : ℕ → ℤ = (λ k. let part : Part = part_of c.args.p.now in
-    coordinate_of c.args.c (vertex_at (part) k)) in
-    let half_size : nat_abs (at (half)) ≤ 4096 = (let half : ℕ = length c.args.p.now / 4 in
-    let part : Part = part_of c.args.p.now in
+    coordinate_of c.args.c (vertex_at part k)) in
+    let half_size : nat_abs (at half) ≤ 4096 = (let part : Part = part_of c.args.p.now in
     let at : ℕ → ℤ = (λ k. let part : Part = part_of c.args.p.now in
-    coordinate_of c.args.c (vertex_at (part) k)) in
-    let size : (k : ℕ) → k < length (part) → nat_abs (at k) ≤ 4096 = (λ k h. let part : Part = part_of c.args.p.now in
-    coordinate-small c.args.c 4096 (vertex_at (part) k) (c.requires.1 k h)) in
-    size (half) (omega (arith, c.requires.0.0, part_length c.args.p.now))) in
-    moved-fits (at 0) (at (half)) (first_size) (half_size)) in
+    coordinate_of c.args.c (vertex_at part k)) in
+    let size : (k : ℕ) → k < length part → nat_abs (at k) ≤ 4096 = (λ k h. let part : Part = part_of c.args.p.now in
+    coordinate-small c.args.c 4096 (vertex_at part k) (c.requires.1 k h)) in
+    size half (omega (arith, c.requires.0.0, part_length c.args.p.now))) in
+    moved-fits (at 0) (at half) first_size half_size) in
     let part : Part = part_of c.args.p.now in
-    let is_first : to_z w16 (of_z w16 c.coordinate.result) ≡ coordinate_of c.args.c (vertex_at (part) 0) = to_z-of_z w16 _ (sfits_of c.coordinate.type_inv) ∙ c.coordinate.ensures in
-    let part : Part = part_of c.args.p.now in
-    let half : ℕ = length c.args.p.now / 4 in
-    let is_half : to_z w16 (of_z w16 c.coordinate-2.result) ≡ coordinate_of c.args.c (vertex_at (part) (half)) = to_z-of_z w16 _ (sfits_of c.coordinate-2.type_inv) ∙ c.coordinate-2.ensures in
-    op_fits (is_first) (is_half) ◌+ℤ◌ (fits)
+    let is_first : to_z w16 (of_z w16 c.coordinate.result) ≡ coordinate_of c.args.c (vertex_at part 0) = to_z-of_z w16 _ (sfits_of c.coordinate.type_inv) ∙ c.coordinate.ensures in
+    let is_half : to_z w16 (of_z w16 c.coordinate-2.result) ≡ coordinate_of c.args.c (vertex_at part half) = to_z-of_z w16 _ (sfits_of c.coordinate-2.type_inv) ∙ c.coordinate-2.ensures in
+    op_fits is_first is_half ◌+ℤ◌ fits
 
 pub returns : goal.returns
 returns c =
     let half : ℕ = length c.args.p.now / 4 in
     let at : ℕ → ℤ = (λ k. let part : Part = part_of c.args.p.now in
-    coordinate_of c.args.c (vertex_at (part) k)) in
+    coordinate_of c.args.c (vertex_at part k)) in
     let at : ℕ → ℤ = (λ k. let part : Part = part_of c.args.p.now in
-    coordinate_of c.args.c (vertex_at (part) k)) in
+    coordinate_of c.args.c (vertex_at part k)) in
     let first_size : nat_abs (at 0) ≤ 4096 = (let part : Part = part_of c.args.p.now in
     let at : ℕ → ℤ = (λ k. let part : Part = part_of c.args.p.now in
-    coordinate_of c.args.c (vertex_at (part) k)) in
-    let size : (k : ℕ) → k < length (part) → nat_abs (at k) ≤ 4096 = (λ k h. let part : Part = part_of c.args.p.now in
-    coordinate-small c.args.c 4096 (vertex_at (part) k) (c.requires.1 k h)) in
+    coordinate_of c.args.c (vertex_at part k)) in
+    let size : (k : ℕ) → k < length part → nat_abs (at k) ≤ 4096 = (λ k h. let part : Part = part_of c.args.p.now in
+    coordinate-small c.args.c 4096 (vertex_at part k) (c.requires.1 k h)) in
     size 0 (omega (arith, c.requires.0.0, part_length c.args.p.now))) in
-    let half : ℕ = length c.args.p.now / 4 in
     let at : ℕ → ℤ = (λ k. let part : Part = part_of c.args.p.now in
-    coordinate_of c.args.c (vertex_at (part) k)) in
-    let half_size : nat_abs (at (half)) ≤ 4096 = (let half : ℕ = length c.args.p.now / 4 in
-    let part : Part = part_of c.args.p.now in
+    coordinate_of c.args.c (vertex_at part k)) in
+    let half_size : nat_abs (at half) ≤ 4096 = (let part : Part = part_of c.args.p.now in
     let at : ℕ → ℤ = (λ k. let part : Part = part_of c.args.p.now in
-    coordinate_of c.args.c (vertex_at (part) k)) in
-    let size : (k : ℕ) → k < length (part) → nat_abs (at k) ≤ 4096 = (λ k h. let part : Part = part_of c.args.p.now in
-    coordinate-small c.args.c 4096 (vertex_at (part) k) (c.requires.1 k h)) in
-    size (half) (omega (arith, c.requires.0.0, part_length c.args.p.now))) in
-    let half : ℕ = length c.args.p.now / 4 in
+    coordinate_of c.args.c (vertex_at part k)) in
+    let size : (k : ℕ) → k < length part → nat_abs (at k) ≤ 4096 = (λ k h. let part : Part = part_of c.args.p.now in
+    coordinate-small c.args.c 4096 (vertex_at part k) (c.requires.1 k h)) in
+    size half (omega (arith, c.requires.0.0, part_length c.args.p.now))) in
     let at : ℕ → ℤ = (λ k. let part : Part = part_of c.args.p.now in
-    coordinate_of c.args.c (vertex_at (part) k)) in
-    let fits : SFits w16 (at 0 +ℤ at (half)) = (let half : ℕ = length c.args.p.now / 4 in
+    coordinate_of c.args.c (vertex_at part k)) in
+    let fits : SFits w16 (at 0 +ℤ at half) = (let at : ℕ → ℤ = (λ k. let part : Part = part_of c.args.p.now in
+    coordinate_of c.args.c (vertex_at part k)) in
     let at : ℕ → ℤ = (λ k. let part : Part = part_of c.args.p.now in
-    coordinate_of c.args.c (vertex_at (part) k)) in
-    let at : ℕ → ℤ = (λ k. let part : Part = part_of c.args.p.now in
-    coordinate_of c.args.c (vertex_at (part) k)) in
+    coordinate_of c.args.c (vertex_at part k)) in
     let first_size : nat_abs (at 0) ≤ 4096 = (let part : Part = part_of c.args.p.now in
     let at : ℕ → ℤ = (λ k. let part : Part = part_of c.args.p.now in
-    coordinate_of c.args.c (vertex_at (part) k)) in
-    let size : (k : ℕ) → k < length (part) → nat_abs (at k) ≤ 4096 = (λ k h. let part : Part = part_of c.args.p.now in
-    coordinate-small c.args.c 4096 (vertex_at (part) k) (c.requires.1 k h)) in
+    coordinate_of c.args.c (vertex_at part k)) in
+    let size : (k : ℕ) → k < length part → nat_abs (at k) ≤ 4096 = (λ k h. let part : Part = part_of c.args.p.now in
+    coordinate-small c.args.c 4096 (vertex_at part k) (c.requires.1 k h)) in
     size 0 (omega (arith, c.requires.0.0, part_length c.args.p.now))) in
-    let half : ℕ = length c.args.p.now / 4 in
     let at : ℕ → ℤ = (λ k. let part : Part = part_of c.args.p.now in
-    coordinate_of c.args.c (vertex_at (part) k)) in
-    let half_size : nat_abs (at (half)) ≤ 4096 = (let half : ℕ = length c.args.p.now / 4 in
-    let part : Part = part_of c.args.p.now in
+    coordinate_of c.args.c (vertex_at part k)) in
+    let half_size : nat_abs (at half) ≤ 4096 = (let part : Part = part_of c.args.p.now in
     let at : ℕ → ℤ = (λ k. let part : Part = part_of c.args.p.now in
-    coordinate_of c.args.c (vertex_at (part) k)) in
-    let size : (k : ℕ) → k < length (part) → nat_abs (at k) ≤ 4096 = (λ k h. let part : Part = part_of c.args.p.now in
-    coordinate-small c.args.c 4096 (vertex_at (part) k) (c.requires.1 k h)) in
-    size (half) (omega (arith, c.requires.0.0, part_length c.args.p.now))) in
-    moved-fits (at 0) (at (half)) (first_size) (half_size)) in
+    coordinate_of c.args.c (vertex_at part k)) in
+    let size : (k : ℕ) → k < length part → nat_abs (at k) ≤ 4096 = (λ k h. let part : Part = part_of c.args.p.now in
+    coordinate-small c.args.c 4096 (vertex_at part k) (c.requires.1 k h)) in
+    size half (omega (arith, c.requires.0.0, part_length c.args.p.now))) in
+    moved-fits (at 0) (at half) first_size half_size) in
     let part : Part = part_of c.args.p.now in
-    let is_first : to_z w16 (of_z w16 c.coordinate.result) ≡ coordinate_of c.args.c (vertex_at (part) 0) = to_z-of_z w16 _ (sfits_of c.coordinate.type_inv) ∙ c.coordinate.ensures in
-    let part : Part = part_of c.args.p.now in
-    let half : ℕ = length c.args.p.now / 4 in
-    let is_half : to_z w16 (of_z w16 c.coordinate-2.result) ≡ coordinate_of c.args.c (vertex_at (part) (half)) = to_z-of_z w16 _ (sfits_of c.coordinate-2.type_inv) ∙ c.coordinate-2.ensures in
-    rw (op_gives (is_first) (is_half) ◌+ℤ◌ (fits)) (moved-size (at 0) (at (half)) (first_size) (half_size))
+    let is_first : to_z w16 (of_z w16 c.coordinate.result) ≡ coordinate_of c.args.c (vertex_at part 0) = to_z-of_z w16 _ (sfits_of c.coordinate.type_inv) ∙ c.coordinate.ensures in
+    let is_half : to_z w16 (of_z w16 c.coordinate-2.result) ≡ coordinate_of c.args.c (vertex_at part half) = to_z-of_z w16 _ (sfits_of c.coordinate-2.type_inv) ∙ c.coordinate-2.ensures in
+    rw (op_gives is_first is_half ◌+ℤ◌ fits) (moved-size (at 0) (at half) first_size half_size)

@@ -19,28 +19,26 @@ pub returns-then-gap-eq0 : goal.returns-then-gap-eq0
 returns-then-gap-eq0 c =
     let first : Part = part_of c.args.p.now in
     let moved : Part = (let second : Part = part_of c.args.q.now in
-    map (shifted c.args.dx c.args.dy) (second)) in
-    both_none c.args.gap (first) (moved) c.if-gap-eq0.true
+    map (shifted c.args.dx c.args.dy) second) in
+    both_none c.args.gap first moved c.if-gap-eq0.true
 
 pub corners_clear-requires : goal.corners_clear-requires
 corners_clear-requires c =
     let is_dx : to_z w16 (of_z w16 c.args.dx) ≡ c.args.dx = to_z-of_z w16 c.args.dx c.ranges.dx in
     let is_dy : to_z w16 (of_z w16 c.args.dy) ≡ c.args.dy = to_z-of_z w16 c.args.dy c.ranges.dy in
-    ((rw (is_dx) c.requires.0.0, rw (is_dy) c.requires.0.1), (c.requires.1.1, c.requires.1.0))
+    ((rw is_dx c.requires.0.0, rw is_dy c.requires.0.1), (c.requires.1.1, c.requires.1.0))
 
 pub returns-then-not-corners_clear : goal.returns-then-not-corners_clear
 returns-then-not-corners_clear c =
     let first : Part = part_of c.args.p.now in
     let moved : Part = (let second : Part = part_of c.args.q.now in
-    map (shifted c.args.dx c.args.dy) (second)) in
-    let first : Part = part_of c.args.p.now in
+    map (shifted c.args.dx c.args.dy) second) in
     let moved : Part = (let second : Part = part_of c.args.q.now in
-    map (shifted c.args.dx c.args.dy) (second)) in
-    let there : c.corners_clear.result ≡ corners_clear c.args.gap (moved) (first) = (let first : Part = part_of c.args.p.now in
-    let second : Part = part_of c.args.q.now in
+    map (shifted c.args.dx c.args.dy) second) in
+    let there : c.corners_clear.result ≡ corners_clear c.args.gap moved first = (let second : Part = part_of c.args.q.now in
     c.corners_clear.ensures
-    ∙ read₂ w16 c.args.dx c.args.dy c.ranges.dx c.ranges.dy (λ x y. corners_clear c.args.gap (map (shifted x y) (second)) (first))) in
-    both_second c.args.gap (first) (moved) (sym (there) ∙ c.if-not-corners_clear.true)
+    ∙ read₂ w16 c.args.dx c.args.dy c.ranges.dx c.ranges.dy (λ x y. corners_clear c.args.gap (map (shifted x y) second) first)) in
+    both_second c.args.gap first moved (sym there ∙ c.if-not-corners_clear.true)
 
 pub overflow_sub-dx : goal.overflow_sub-dx
 overflow_sub-dx c = opposite_held c.ranges.dx c.requires.0.0
@@ -52,7 +50,7 @@ pub corners_clear-requires-2 : goal.corners_clear-requires-2
 corners_clear-requires-2 c =
     let is_back_x : to_z w16 (of_z w16 (pos 0 -ℤ to_z w16 (of_z w16 c.args.dx))) ≡ pos 0 -ℤ c.args.dx = opposite_gives c.ranges.dx c.requires.0.0 in
     let is_back_y : to_z w16 (of_z w16 (pos 0 -ℤ to_z w16 (of_z w16 c.args.dy))) ≡ pos 0 -ℤ c.args.dy = opposite_gives c.ranges.dy c.requires.0.1 in (
-      (rw (is_back_x) (opposite_size c.args.dx c.requires.0.0), rw (is_back_y) (opposite_size c.args.dy c.requires.0.1)),
+      (rw is_back_x (opposite_size c.args.dx c.requires.0.0), rw is_back_y (opposite_size c.args.dy c.requires.0.1)),
       c.requires.1,
     )
 
@@ -60,22 +58,18 @@ pub returns : goal.returns
 returns c =
     let first : Part = part_of c.args.p.now in
     let moved : Part = (let second : Part = part_of c.args.q.now in
-    map (shifted c.args.dx c.args.dy) (second)) in
-    let first : Part = part_of c.args.p.now in
+    map (shifted c.args.dx c.args.dy) second) in
     let moved : Part = (let second : Part = part_of c.args.q.now in
-    map (shifted c.args.dx c.args.dy) (second)) in
-    let there : c.corners_clear.result ≡ corners_clear c.args.gap (moved) (first) = (let first : Part = part_of c.args.p.now in
-    let second : Part = part_of c.args.q.now in
+    map (shifted c.args.dx c.args.dy) second) in
+    let there : c.corners_clear.result ≡ corners_clear c.args.gap moved first = (let second : Part = part_of c.args.q.now in
     c.corners_clear.ensures
-    ∙ read₂ w16 c.args.dx c.args.dy c.ranges.dx c.ranges.dy (λ x y. corners_clear c.args.gap (map (shifted x y) (second)) (first))) in
-    let first : Part = part_of c.args.p.now in
+    ∙ read₂ w16 c.args.dx c.args.dy c.ranges.dx c.ranges.dy (λ x y. corners_clear c.args.gap (map (shifted x y) second) first)) in
     let moved : Part = (let second : Part = part_of c.args.q.now in
-    map (shifted c.args.dx c.args.dy) (second)) in
-    let back : c.corners_clear-2.result ≡ corners_clear c.args.gap (first) (moved) = (let first : Part = part_of c.args.p.now in
-    let second : Part = part_of c.args.q.now in
+    map (shifted c.args.dx c.args.dy) second) in
+    let back : c.corners_clear-2.result ≡ corners_clear c.args.gap first moved = (let second : Part = part_of c.args.q.now in
     let is_back_x : to_z w16 (of_z w16 (pos 0 -ℤ to_z w16 (of_z w16 c.args.dx))) ≡ pos 0 -ℤ c.args.dx = opposite_gives c.ranges.dx c.requires.0.0 in
     let is_back_y : to_z w16 (of_z w16 (pos 0 -ℤ to_z w16 (of_z w16 c.args.dy))) ≡ pos 0 -ℤ c.args.dy = opposite_gives c.ranges.dy c.requires.0.1 in
     c.corners_clear-2.ensures
-    ∙ (λ i. corners_clear c.args.gap (map (shifted (is_back_x i) (is_back_y i)) (first)) (second))
-    ∙ clear-back c.args.gap (first) (second) c.args.dx c.args.dy) in
-    back ∙ both_first c.args.gap (first) (moved) (sym (there) ∙ c.if-not-corners_clear.false)
+    ∙ (λ i. corners_clear c.args.gap (map (shifted (is_back_x i) (is_back_y i)) first) second)
+    ∙ clear-back c.args.gap first second c.args.dx c.args.dy) in
+    back ∙ both_first c.args.gap first moved (sym there ∙ c.if-not-corners_clear.false)

@@ -25,17 +25,11 @@ pub returns-then-first-ne-OPEN : goal.returns-then-first-ne-OPEN
 returns-then-first-ne-OPEN c =
     let first : Part = part_of c.args.p.now in
     let second : Part = part_of c.args.q.now in
-    let first : Part = part_of c.args.p.now in
-    let second : Part = part_of c.args.q.now in
-    let corner : (0 < length (first)) × (0 < length (second)) = (omega (arith, c.requires.sound_part.0.corners), omega (arith, c.requires.sound_part.1.corners)) in
-    let first : Part = part_of c.args.p.now in
-    let second : Part = part_of c.args.q.now in
-    let forth : Beside c.args.gap (first) (second) c.args.dx c.args.dy c.beside-first.result = (let first : Part = part_of c.args.p.now in
-    let second : Part = part_of c.args.q.now in
-    let is_dx : to_z w16 (of_z w16 c.args.dx) ≡ c.args.dx = to_z-of_z w16 c.args.dx c.ranges.dx in
+    let corner : (0 < length first) × (0 < length second) = (omega (arith, c.requires.sound_part.0.corners), omega (arith, c.requires.sound_part.1.corners)) in
+    let forth : Beside c.args.gap first second c.args.dx c.args.dy c.beside-first.result = (let is_dx : to_z w16 (of_z w16 c.args.dx) ≡ c.args.dx = to_z-of_z w16 c.args.dx c.ranges.dx in
     let is_dy : to_z w16 (of_z w16 c.args.dy) ≡ c.args.dy = to_z-of_z w16 c.args.dy c.ranges.dy in
-    subst (λ (X : Type 0). X) (λ i. Beside c.args.gap (first) (second) (is_dx i) (is_dy i) c.beside-first.result) c.beside-first.ensures) in
-    first_says c.args.gap (first) (second) c.args.dx c.args.dy (corner).0 (corner).1 _ (forth) c.if-first-ne-OPEN.true
+    subst (λ (X : Type 0). X) (λ i. Beside c.args.gap first second (is_dx i) (is_dy i) c.beside-first.result) c.beside-first.ensures) in
+    first_says c.args.gap first second c.args.dx c.args.dy corner.0 corner.1 _ forth c.if-first-ne-OPEN.true
 
 pub overflow_sub-dx : goal.overflow_sub-dx
 overflow_sub-dx c = opposite_held c.ranges.dx c.requires.short.0.0
@@ -57,21 +51,11 @@ pub returns : goal.returns
 returns c =
     let first : Part = part_of c.args.p.now in
     let second : Part = part_of c.args.q.now in
-    let first : Part = part_of c.args.p.now in
-    let second : Part = part_of c.args.q.now in
-    let corner : (0 < length (first)) × (0 < length (second)) = (omega (arith, c.requires.sound_part.0.corners), omega (arith, c.requires.sound_part.1.corners)) in
-    let first : Part = part_of c.args.p.now in
-    let second : Part = part_of c.args.q.now in
-    let forth : Beside c.args.gap (first) (second) c.args.dx c.args.dy c.beside-first.result = (let first : Part = part_of c.args.p.now in
-    let second : Part = part_of c.args.q.now in
-    let is_dx : to_z w16 (of_z w16 c.args.dx) ≡ c.args.dx = to_z-of_z w16 c.args.dx c.ranges.dx in
+    let corner : (0 < length first) × (0 < length second) = (omega (arith, c.requires.sound_part.0.corners), omega (arith, c.requires.sound_part.1.corners)) in
+    let forth : Beside c.args.gap first second c.args.dx c.args.dy c.beside-first.result = (let is_dx : to_z w16 (of_z w16 c.args.dx) ≡ c.args.dx = to_z-of_z w16 c.args.dx c.ranges.dx in
     let is_dy : to_z w16 (of_z w16 c.args.dy) ≡ c.args.dy = to_z-of_z w16 c.args.dy c.ranges.dy in
-    subst (λ (X : Type 0). X) (λ i. Beside c.args.gap (first) (second) (is_dx i) (is_dy i) c.beside-first.result) c.beside-first.ensures) in
-    let first : Part = part_of c.args.p.now in
-    let second : Part = part_of c.args.q.now in
-    let back : Beside c.args.gap (second) (first) (pos 0 -ℤ c.args.dx) (pos 0 -ℤ c.args.dy) c.beside.result = (let first : Part = part_of c.args.p.now in
-    let second : Part = part_of c.args.q.now in
-    let is_back_x : to_z w16 (of_z w16 (pos 0 -ℤ to_z w16 (of_z w16 c.args.dx))) ≡ pos 0 -ℤ c.args.dx = opposite_gives c.ranges.dx c.requires.short.0.0 in
+    subst (λ (X : Type 0). X) (λ i. Beside c.args.gap first second (is_dx i) (is_dy i) c.beside-first.result) c.beside-first.ensures) in
+    let back : Beside c.args.gap second first (pos 0 -ℤ c.args.dx) (pos 0 -ℤ c.args.dy) c.beside.result = (let is_back_x : to_z w16 (of_z w16 (pos 0 -ℤ to_z w16 (of_z w16 c.args.dx))) ≡ pos 0 -ℤ c.args.dx = opposite_gives c.ranges.dx c.requires.short.0.0 in
     let is_back_y : to_z w16 (of_z w16 (pos 0 -ℤ to_z w16 (of_z w16 c.args.dy))) ≡ pos 0 -ℤ c.args.dy = opposite_gives c.ranges.dy c.requires.short.0.1 in
-    subst (λ (X : Type 0). X) (λ i. Beside c.args.gap (second) (first) (is_back_x i) (is_back_y i) c.beside.result) c.beside.ensures) in
-    second-says c.args.gap (first) (second) c.args.dx c.args.dy (corner).0 (corner).1 _ _ (forth) c.if-first-ne-OPEN.false (back)
+    subst (λ (X : Type 0). X) (λ i. Beside c.args.gap second first (is_back_x i) (is_back_y i) c.beside.result) c.beside.ensures) in
+    second-says c.args.gap first second c.args.dx c.args.dy corner.0 corner.1 _ _ forth c.if-first-ne-OPEN.false back

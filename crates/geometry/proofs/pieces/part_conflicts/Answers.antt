@@ -37,7 +37,6 @@ loop-m-preserved c = (omega arith, none_more _ c.loop-m.m c.loop-m.invariant.1 (
 pub returns : goal.returns
 returns c =
     let test : ℤ → ℤ → ℕ → Bool = λ dx dy. conflict_at c.args.gap (part_in c.args.table.now c.args.p c.args.i) c.args.table.now c.args.q dx dy in
-    let test : ℤ → ℤ → ℕ → Bool = λ dx dy. conflict_at c.args.gap (part_in c.args.table.now c.args.p c.args.i) c.args.table.now c.args.q dx dy in
     let answer : (b : Bool) → any (test (to_z w16 (of_z w16 c.args.dx)) (to_z w16 (of_z w16 c.args.dy))) (below c.args.q.count) ≡ b
     → b ≡ part_conflicts c.args.gap (part_in c.args.table.now c.args.p c.args.i) (map (map (shifted c.args.dx c.args.dy)) (parts_in c.args.table.now c.args.q)) = (λ b h. let test : ℤ → ℤ → ℕ → Bool = λ dx dy. conflict_at c.args.gap (part_in c.args.table.now c.args.p c.args.i) c.args.table.now c.args.q dx dy in
     sym h

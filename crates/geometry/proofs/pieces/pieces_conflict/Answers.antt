@@ -38,7 +38,6 @@ loop-i-preserved c = (omega arith, none_more _ c.loop-i.i c.loop-i.invariant.1 (
 pub returns : goal.returns
 returns c =
     let test : ℤ → ℤ → ℕ → Bool = λ dx dy. λ m. part_conflicts c.args.gap (part_in c.args.table.now c.args.p m) (map (map (shifted dx dy)) (parts_in c.args.table.now c.args.q)) in
-    let test : ℤ → ℤ → ℕ → Bool = λ dx dy. λ m. part_conflicts c.args.gap (part_in c.args.table.now c.args.p m) (map (map (shifted dx dy)) (parts_in c.args.table.now c.args.q)) in
     let answer : (b : Bool) → any (test (to_z w16 (of_z w16 c.args.dx)) (to_z w16 (of_z w16 c.args.dy))) (below c.args.p.count) ≡ b
     → b ≡ pieces_conflict c.args.gap (parts_in c.args.table.now c.args.p) (map (map (shifted c.args.dx c.args.dy)) (parts_in c.args.table.now c.args.q)) = (λ b h. let test : ℤ → ℤ → ℕ → Bool = λ dx dy. λ m. part_conflicts c.args.gap (part_in c.args.table.now c.args.p m) (map (map (shifted dx dy)) (parts_in c.args.table.now c.args.q)) in
     sym h
