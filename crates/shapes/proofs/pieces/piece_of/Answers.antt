@@ -34,8 +34,7 @@ pub loop-i-preserved : goal.loop-i-preserved
 loop-i-preserved c =
     let here : PartAt c.args.job.now
     (get_or c.args.view.part_at (c.args.kind * 6 + c.loop-i.i) 0)
-    (get_or (kind_at (content c.args.job.now).kinds c.args.kind).parts c.loop-i.i []) = part_in_lem c.args.job.now c.args.view c.requires.0 c.args.kind c.requires.1 c.loop-i.i (omega arith) in
-    (
+    (get_or (kind_at (content c.args.job.now).kinds c.args.kind).parts c.loop-i.i []) = part_in_lem c.args.job.now c.args.view c.requires.0 c.args.kind c.requires.1 c.loop-i.i (omega arith) in (
       omega arith,
       c.loop-i.invariant.1,
       simp length-set c.loop-i.invariant.2,

@@ -20,7 +20,7 @@ pub loop-kind-preserved : goal.loop-kind-preserved
 loop-kind-preserved c =
     let s = c.args.job.now in
     let v = c.args.view in
-    let h : c.loop-kind.kind < kind_count (content s).kinds = rw c.requires.0.view.kinds c c.loop-kind-test.true in (
+    let h : c.loop-kind.kind < kind_count (content s).kinds = rw c.requires.0.view.kinds at c.loop-kind-test.true in (
       omega arith,
       search rules,
       kinds-more s c.loop-kind.turned _ c.loop-kind.kind (λ t l. (kind-in s v c.requires.0 t (omega arith)).few_parts)

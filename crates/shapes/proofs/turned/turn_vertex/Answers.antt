@@ -8,13 +8,12 @@ use Rattle.shapes.proofs.TurnLaws.{byte_small, vertex-as_is}
 use Rattle.shapes.proofs.turned.turn_vertex.Goals as goal
 
 pub put_rotated-requires : goal.put_rotated-requires
-put_rotated-requires c =
-    (
-      search rules,
-      search rules,
-      byte_small _ _ (c.shared_slice_known-1.given _) (sfits_of c.signed_byte-x.type_inv) c.signed_byte-x.ensures,
-      byte_small _ _ (c.shared_slice_known-1.given _) (sfits_of c.signed_byte-y.type_inv) c.signed_byte-y.ensures,
-    )
+put_rotated-requires c = (
+  search rules,
+  search rules,
+  byte_small _ _ (c.shared_slice_known-1.given _) (sfits_of c.signed_byte-x.type_inv) c.signed_byte-x.ensures,
+  byte_small _ _ (c.shared_slice_known-1.given _) (sfits_of c.signed_byte-y.type_inv) c.signed_byte-y.ensures,
+)
 
 pub returns : goal.returns
 unfolding byte_at
