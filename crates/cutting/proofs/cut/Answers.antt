@@ -1,42 +1,51 @@
-use mathlib.Core.Bool.{false}
+use mathlib.Core.Bool.{Bool, false}
+use mathlib.Core.List.{List}
 use mathlib.Core.Path.{◌≡◌, ◌∙◌, sym}
-use Prim.Native.Nat.{◌/◌, ◌≤◌}
+use Prim.Native.Nat.{ℕ, ◌/◌, ◌≤◌}
 use native.Mathlib.Omega.{arith}
 use lib.ListN.{length}
 use Rattle.outlines.specs.Outline.{cause14}
 use Rattle.cutting.proofs.ServiceLaws.{unfit_told, short-told, few_bytes, few-corners, is_cut, cut-told}
-use borrow.Author.Rules.{rules}
 use Rattle.cutting.proofs.cut.Goals as goal
 
+-- An outline that is not refused has no cause for 14, and three to eight corners.
+fit_corners : (s : List ℕ) (r : Bool) → r ≡ cause14 s → r ≡ false
+    → (cause14 s ≡ false) × ((3 ≤ length s / 2) × (length s / 2 ≤ 8))
+fit_corners s r e f = let fit = sym e ∙ f in (fit, few-corners s fit)
+
 pub returns-then-unfit : goal.returns-then-unfit
-returns-then-unfit c = unfit_told c.args.outline.now c.args.answer.now (sym c.unfit.ensures ∙ c.if-unfit.true)
+returns-then-unfit c =
+    let r = unfit_told c.args.outline.now c.args.answer.now (sym c.unfit.ensures ∙ c.if-unfit.true) in
+    record { value = r.0; answer_after = r.1 }
 
 pub returns-then-answer-lt36 : goal.returns-then-answer-lt36
 returns-then-answer-lt36 c =
-    let fit : cause14 c.args.outline.now ≡ false = sym c.unfit.ensures ∙ c.if-unfit.false in
-    short-told c.args.outline.now c.args.answer.now (fit) (omega (arith, c.if-answer-lt36.true))
+    let f = fit_corners c.args.outline.now _ c.unfit.ensures c.if-unfit.false in
+    let r = short-told c.args.outline.now c.args.answer.now f.0 (omega (arith, c.if-answer-lt36.true)) in
+    record { value = r.0; answer_after = r.1 }
 
 pub as_part-part-requires : goal.as_part-part-requires
 as_part-part-requires c =
-    let fit : cause14 c.args.outline.now ≡ false = sym c.unfit.ensures ∙ c.if-unfit.false in
-    few_bytes c.args.outline.now (fit)
+    few_bytes c.args.outline.now (fit_corners c.args.outline.now _ c.unfit.ensures c.if-unfit.false).0
 
 pub cut_off-count-requires : goal.cut_off-count-requires
 cut_off-count-requires c =
-    let fit : cause14 c.args.outline.now ≡ false = sym c.unfit.ensures ∙ c.if-unfit.false in
-    let corners : (3 ≤ length c.args.outline.now / 2) × (length c.args.outline.now / 2 ≤ 8) = (let fit : cause14 c.args.outline.now ≡ false = sym c.unfit.ensures ∙ c.if-unfit.false in
-    few-corners c.args.outline.now (fit)) in
-    ((omega (arith, corners), omega (arith, corners, c.if-answer-lt36.false)), is_cut c.args.outline.now c.args.answer.now (fit) _ c.as_part-part.ensures)
+    let f = fit_corners c.args.outline.now _ c.unfit.ensures c.if-unfit.false in
+    record {
+      in_bounds = (omega (arith, f.1), omega (arith, f.1, c.if-answer-lt36.false));
+      n_value = is_cut c.args.outline.now c.args.answer.now f.0 _ c.as_part-part.ensures;
+    }
 
 pub overflow_cast-result : goal.overflow_cast-result
 overflow_cast-result c =
-    let corners : (3 ≤ length c.args.outline.now / 2) × (length c.args.outline.now / 2 ≤ 8) = (let fit : cause14 c.args.outline.now ≡ false = sym c.unfit.ensures ∙ c.if-unfit.false in
-    few-corners c.args.outline.now (fit)) in
-    record { fits = omega (arith, c.cut_off-count.ensures.0.1, corners) }
+    let f = fit_corners c.args.outline.now _ c.unfit.ensures c.if-unfit.false in
+    record { fits = omega (arith, c.cut_off-count.ensures.value.1, f.1) }
 
 pub returns : goal.returns
 returns c =
-    let fit : cause14 c.args.outline.now ≡ false = sym c.unfit.ensures ∙ c.if-unfit.false in
-    let corners : (3 ≤ length c.args.outline.now / 2) × (length c.args.outline.now / 2 ≤ 8) = (let fit : cause14 c.args.outline.now ≡ false = sym c.unfit.ensures ∙ c.if-unfit.false in
-    few-corners c.args.outline.now (fit)) in
-    cut-told c.args.outline.now c.args.answer.now (fit) _ c.as_part-part.ensures (omega (arith, c.if-answer-lt36.false)) _ _ c.cut_off-count.ensures.0.0 (omega (arith, c.cut_off-count.ensures.0.1, corners)) c.cut_off-count.ensures.1
+    let f = fit_corners c.args.outline.now _ c.unfit.ensures c.if-unfit.false in
+    let r =
+    cut-told c.args.outline.now c.args.answer.now f.0 _ c.as_part-part.ensures
+    (omega (arith, c.if-answer-lt36.false)) _ _ c.cut_off-count.ensures.value.0
+    (omega (arith, c.cut_off-count.ensures.value.1, f.1)) c.cut_off-count.ensures.answer_after in
+    record { value = r.0; answer_after = r.1 }

@@ -1,11 +1,8 @@
-use mathlib.Core.Bool.{false}
-use mathlib.Core.Path.{◌≡◌, ◌∙◌, sym}
-use Prim.Native.Nat.{ℕ, ◌-◌, ◌≤◌, ◌<◌}
+use mathlib.Core.Path.{◌∙◌, sym}
 use native.Mathlib.Omega.{arith}
 use Rattle.records.specs.Parts.{part_from}
 use Rattle.cutting.specs.Choice.{goes_at}
 use Rattle.cutting.proofs.ChoiceLaws.{one_more, first-is, first-not}
-use borrow.Author.Rules.{rules}
 use Rattle.cutting.proofs.ears.first.Goals as goal
 
 pub loop-i-init : goal.loop-i-init

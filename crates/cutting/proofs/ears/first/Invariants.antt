@@ -1,11 +1,8 @@
 use mathlib.Core.Bool.{false}
-use mathlib.Core.Path.{◌≡◌, ◌∙◌, sym}
+use mathlib.Core.Path.{◌≡◌}
 use Prim.Native.Nat.{ℕ, ◌-◌, ◌≤◌, ◌<◌}
-use native.Mathlib.Omega.{arith}
 use Rattle.records.specs.Parts.{part_from}
 use Rattle.cutting.specs.Choice.{goes_at}
-use Rattle.cutting.proofs.ChoiceLaws.{one_more, first-is, first-not}
-use borrow.Author.Rules.{rules}
 use Rattle.cutting.proofs.ears.first.Given as goal
 
 abbrev pub invariant-loop-i : goal.invariant-loop-i

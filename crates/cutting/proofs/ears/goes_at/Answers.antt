@@ -1,7 +1,6 @@
 use mathlib.Core.Path.{◌∙◌, sym, ap}
 use Rattle.records.specs.Parts.{part_from}
 use Rattle.cutting.specs.Choice.{goes_at}
-use borrow.Author.Rules.{rules}
 use Rattle.cutting.proofs.ears.goes_at.Goals as goal
 
 pub returns-then-ears : goal.returns-then-ears

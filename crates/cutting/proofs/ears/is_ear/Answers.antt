@@ -1,12 +1,9 @@
 use mathlib.Core.Bool.{◌&&◌}
-use mathlib.Core.Path.{◌≡◌, ◌∙◌, ap₂}
-use Prim.Native.Nat.{◌≤◌, ◌-◌}
+use mathlib.Core.Path.{◌∙◌, ap₂}
 use native.Mathlib.Omega.{arith}
-use Rattle.model.specs.Lists.{all, below}
 use Rattle.records.proofs.Loops.{all_none, all-next, all_end}
 use Rattle.cutting.specs.Choice.{is_spared}
 use Rattle.cutting.proofs.ChoiceLaws.{ear_is}
-use borrow.Author.Rules.{rules}
 use Rattle.cutting.proofs.ears.is_ear.Goals as goal
 
 pub loop-k-init : goal.loop-k-init

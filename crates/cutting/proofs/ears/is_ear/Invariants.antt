@@ -1,12 +1,7 @@
-use mathlib.Core.Bool.{◌&&◌}
-use mathlib.Core.Path.{◌≡◌, ◌∙◌, ap₂}
+use mathlib.Core.Path.{◌≡◌}
 use Prim.Native.Nat.{◌≤◌, ◌-◌}
-use native.Mathlib.Omega.{arith}
 use Rattle.model.specs.Lists.{all, below}
-use Rattle.records.proofs.Loops.{all_none, all-next, all_end}
 use Rattle.cutting.specs.Choice.{is_spared}
-use Rattle.cutting.proofs.ChoiceLaws.{ear_is}
-use borrow.Author.Rules.{rules}
 use Rattle.cutting.proofs.ears.is_ear.Given as goal
 
 abbrev pub invariant-loop-k : goal.invariant-loop-k

@@ -1,7 +1,6 @@
 use mathlib.Core.Path.{◌∙◌}
 use native.Mathlib.Omega.{arith}
 use Rattle.cutting.proofs.ChoiceLaws.{line-is}
-use borrow.Author.Rules.{rules}
 use Rattle.cutting.proofs.ears.is_in_line.Goals as goal
 
 pub in_line-requires : goal.in_line-requires

@@ -2,7 +2,6 @@ use mathlib.Core.Bool.{not, ◌||◌}
 use mathlib.Core.Path.{ap}
 use lib.Dec.{eqb}
 use Rattle.cutting.specs.Choice.{is_spared}
-use borrow.Author.Rules.{rules}
 use Rattle.cutting.proofs.ears.is_spared.Goals as goal
 
 pub returns : goal.returns

@@ -4,7 +4,6 @@ use Prim.Native.Nat.{◌+◌}
 use native.Mathlib.Omega.{arith}
 use borrow.Author.Tests.{lt-ltb, le-ltb}
 use Rattle.cutting.specs.Choice.{source_of}
-use borrow.Author.Rules.{rules}
 use Rattle.cutting.proofs.rest.source.Goals as goal
 
 pub returns-then-k-i : goal.returns-then-k-i

@@ -1,8 +1,8 @@
-use mathlib.Core.Path.{◌≡◌, ◌∙◌, ap}
-use Prim.Native.Nat.{◌+◌, ◌*◌, ◌-◌, ◌≤◌}
+use mathlib.Core.Path.{◌∙◌, ap}
+use Prim.Native.Nat.{◌+◌}
 use native.Mathlib.Omega.{arith}
-use lib.ListN.{length, get_or, length-set}
-use Rattle.simplicity.proofs.PartLaws.{Taken, taken_next}
+use lib.ListN.{get_or, length-set}
+use Rattle.simplicity.proofs.PartLaws.{taken_next}
 use Rattle.cutting.specs.Choice.{source_of}
 use Rattle.cutting.proofs.RestLaws.{rest-is}
 use borrow.Author.Rules.{rules}

@@ -1,11 +1,8 @@
-use mathlib.Core.Path.{◌≡◌, ◌∙◌, ap}
+use mathlib.Core.Path.{◌≡◌}
 use Prim.Native.Nat.{◌+◌, ◌*◌, ◌-◌, ◌≤◌}
-use native.Mathlib.Omega.{arith}
-use lib.ListN.{length, get_or, length-set}
-use Rattle.simplicity.proofs.PartLaws.{Taken, taken_next}
+use lib.ListN.{length, get_or}
+use Rattle.simplicity.proofs.PartLaws.{Taken}
 use Rattle.cutting.specs.Choice.{source_of}
-use Rattle.cutting.proofs.RestLaws.{rest-is}
-use borrow.Author.Rules.{rules}
 use Rattle.cutting.proofs.rest.without.Given as goal
 
 abbrev pub invariant-loop-k : goal.invariant-loop-k

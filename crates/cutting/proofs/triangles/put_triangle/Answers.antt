@@ -1,5 +1,4 @@
 use Rattle.cutting.proofs.TriangleLaws.{triangle-written}
-use borrow.Author.Rules.{rules}
 use Rattle.cutting.proofs.triangles.put_triangle.Goals as goal
 
 pub returns : goal.returns

@@ -20,7 +20,8 @@ overflow_add-area c =
     let added : to_z w64 (of_z w64 c.determinant-area.result) ≡ edge_area c.args.part.now c.args.n c.loop-k.k =
     to_z-of_z w64 _ (sfits_of c.determinant-area.type_inv) ∙ c.determinant-area.ensures
     ∙ ap (λ q. det (vertex_from c.args.part.now c.loop-k.k) (vertex_from c.args.part.now q)) c.next.ensures.0 in
-    more_fits c.args.part.now c.type_inv.part c.args.n c.loop-k.k (omega (arith, c.requires, c.loop-k-test.true)) _ _ c.loop-k.invariant.1 added
+    more_fits c.args.part.now c.type_inv.part c.args.n c.loop-k.k (omega (arith, c.requires, c.loop-k-test.true)) _ _
+    c.loop-k.invariant.1 added
 
 pub loop-k-preserved : goal.loop-k-preserved
 unfolding edge_area
@@ -29,9 +30,11 @@ loop-k-preserved c =
     to_z-of_z w64 _ (sfits_of c.determinant-area.type_inv) ∙ c.determinant-area.ensures
     ∙ ap (λ q. det (vertex_from c.args.part.now c.loop-k.k) (vertex_from c.args.part.now q)) c.next.ensures.0 in (
       omega arith,
-      more_is c.args.part.now c.type_inv.part c.args.n c.loop-k.k (omega (arith, c.requires, c.loop-k-test.true)) _ _ c.loop-k.invariant.1 added,
+      more_is c.args.part.now c.type_inv.part c.args.n c.loop-k.k (omega (arith, c.requires, c.loop-k-test.true)) _ _
+          c.loop-k.invariant.1 added,
     )
 
 pub returns : goal.returns
 returns c =
-    c.loop-k.invariant.1 ∙ ap (sum_below (edge_area c.args.part.now c.args.n)) (omega arith) ∙ area_is c.args.part.now c.args.n
+    c.loop-k.invariant.1 ∙ ap (sum_below (edge_area c.args.part.now c.args.n)) (omega arith)
+    ∙ area_is c.args.part.now c.args.n
