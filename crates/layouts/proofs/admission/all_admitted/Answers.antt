@@ -15,12 +15,11 @@ pub is_admitted-ok-requires : goal.is_admitted-ok-requires
 is_admitted-ok-requires c = c.requires.0.0
 
 pub loop-i-preserved : goal.loop-i-preserved
-loop-i-preserved c =
-    (
-      omega arith,
-      all-entries_next (admitted_by c.args.view c.args.boxes) c.args.layout.now c.loop-i.i _ _ c.loop-i.invariant.1
-          (c.is_admitted-ok.ensures ∙ ap (admitted_by c.args.view c.args.boxes) c.entry_at.ensures.same),
-    )
+loop-i-preserved c = (
+  omega arith,
+  all-entries_next (admitted_by c.args.view c.args.boxes) c.args.layout.now c.loop-i.i _ _ c.loop-i.invariant.1
+      (c.is_admitted-ok.ensures ∙ ap (admitted_by c.args.view c.args.boxes) c.entry_at.ensures.same),
+)
 
 pub returns : goal.returns
 returns c =

@@ -35,8 +35,7 @@ conflict_between-requires c =
     let x = c.requires.0.0 in
     let s = c.args.job.now in
     let v = c.args.view in
-    let t = c.args.turned.now in
-    (
+    let t = c.args.turned.now in (
       (piece_turnable s t c.args.e.kind c.piece_of-p.result c.requires.0.1 c.piece_of-p.ensures (of_kind s v x (as_entry c.args.e) c.requires.1.0), subst (Near v.step) (sym c.place_of.ensures) (near s v x (as_entry c.args.e) c.requires.1.0)),
       (piece_turnable s t c.args.f.kind c.piece_of-q.result c.requires.0.1 c.piece_of-q.ensures (of_kind s v x (as_entry c.args.f) c.requires.1.1), subst (Near v.step) (sym c.place_of-2.ensures) (near s v x (as_entry c.args.f) c.requires.1.1)),
     )

@@ -11,11 +11,10 @@ pub loop-i-init : goal.loop-i-init
 loop-i-init c = ((omega arith, omega arith), copies-none _ _)
 
 pub loop-i-preserved : goal.loop-i-preserved
-loop-i-preserved c =
-    (
-      (omega arith, omega arith),
-      copies-next _ _ c.loop-i.i _ _ _ c.loop-i.invariant.1 (ap (λ (e : Entry). e.kind) c.entry_at-e.ensures.same) c.once-count.ensures.0,
-    )
+loop-i-preserved c = (
+  (omega arith, omega arith),
+  copies-next _ _ c.loop-i.i _ _ _ c.loop-i.invariant.1 (ap (λ (e : Entry). e.kind) c.entry_at-e.ensures.same) c.once-count.ensures.0,
+)
 
 pub returns : goal.returns
 returns c =

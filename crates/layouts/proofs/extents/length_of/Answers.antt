@@ -13,20 +13,18 @@ pub loop-i-init : goal.loop-i-init
 loop-i-init c = ((omega arith, omega arith), largest-none _ _)
 
 pub extent_of-requires : goal.extent_of-requires
-extent_of-requires c =
-    (
-      c.requires.0.0.0,
-      ap (admitted_by c.args.view c.args.boxes) c.entry_at.ensures.same
-          ∙ entries_at (admitted_by c.args.view c.args.boxes) c.args.layout.now c.args.n c.loop-i.i c.requires.1 c.loop-i-test.true,
-    )
+extent_of-requires c = (
+  c.requires.0.0.0,
+  ap (admitted_by c.args.view c.args.boxes) c.entry_at.ensures.same
+      ∙ entries_at (admitted_by c.args.view c.args.boxes) c.args.layout.now c.args.n c.loop-i.i c.requires.1 c.loop-i-test.true,
+)
 
 pub loop-i-preserved : goal.loop-i-preserved
-loop-i-preserved c =
-    (
-      (omega arith, omega (arith, c.larger-longest.ensures)),
-      largest-next (extent_by c.args.view c.args.boxes) c.args.layout.now c.loop-i.i _ _ _ c.loop-i.invariant.1
-          (c.extent_of.ensures.0 ∙ ap (extent_by c.args.view c.args.boxes) c.entry_at.ensures.same) c.larger-longest.ensures,
-    )
+loop-i-preserved c = (
+  (omega arith, omega (arith, c.larger-longest.ensures)),
+  largest-next (extent_by c.args.view c.args.boxes) c.args.layout.now c.loop-i.i _ _ _ c.loop-i.invariant.1
+      (c.extent_of.ensures.0 ∙ ap (extent_by c.args.view c.args.boxes) c.entry_at.ensures.same) c.larger-longest.ensures,
+)
 
 pub overflow_add-result : goal.overflow_add-result
 overflow_add-result c = omega (arith, c.loop-i.invariant.0.1, c.requires.0.0.0.margin)

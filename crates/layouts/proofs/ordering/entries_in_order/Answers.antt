@@ -13,12 +13,11 @@ pub in_order-ok-requires : goal.in_order-ok-requires
 in_order-ok-requires c = (c.requires.0.0, (c.entry_at.ensures.small, c.entry_at-in-loop-i.ensures.small))
 
 pub loop-i-preserved : goal.loop-i-preserved
-loop-i-preserved c =
-    (
-      (omega arith, omega arith),
-      all-next (ordered_at c.args.rows c.args.layout.now) c.loop-i.i _ _ c.loop-i.invariant.1
-          (c.in_order-ok.ensures ∙ ap₂ (in_order_by c.args.rows) c.entry_at.ensures.same c.entry_at-in-loop-i.ensures.same),
-    )
+loop-i-preserved c = (
+  (omega arith, omega arith),
+  all-next (ordered_at c.args.rows c.args.layout.now) c.loop-i.i _ _ c.loop-i.invariant.1
+      (c.in_order-ok.ensures ∙ ap₂ (in_order_by c.args.rows) c.entry_at.ensures.same c.entry_at-in-loop-i.ensures.same),
+)
 
 pub returns : goal.returns
 unfolding ordered_by
