@@ -1,5 +1,5 @@
 -- The boxes of the kinds at each rotation.
-use Rattle.std.specs.Prelude.{List, map, ◌≡◌, ℕ, ◌+◌, ◌*◌, ◌≤◌, ◌<◌, ℤ, pos, length, get_or}
+use Rattle.std.specs.Prelude.{List, map, ◌≡◌, ℕ, ◌+◌, ◌*◌, ◌<◌, pos, length, get_or}
 use Rattle.model.specs.Content.{Vertex, kind_at, kind_count}
 use Rattle.model.specs.Format.{content}
 use Rattle.model.specs.Geometry.{rotated}

@@ -1,15 +1,12 @@
-use mathlib.Core.Bool.{false}
 use mathlib.Core.Path.{◌≡◌, refl, sym, ◌∙◌}
-use Prim.Native.Nat.{ℕ, ◌-◌, ◌/◌, ◌≤◌, ◌<◌, zero-le}
+use Prim.Native.Nat.{zero-le}
 use native.Mathlib.Omega.{arith}
 use borrow.Author.Count.{below_none, below_more}
-use lib.ListN.{length}
 use mir.Syntax.{w16}
 use mir.Val.{to_z, of_z}
 use mir.ValLaws.{to_z-of_z}
 use Rattle.integers.proofs.Machine.{read₂}
 use Rattle.model.specs.Content.{Vertex, vertex, Part}
-use Rattle.model.specs.Geometry.{vertex_at, following, near_edge}
 use Rattle.polygons.specs.Flat.{part_of}
 use Rattle.polygons.proofs.Flat.{part_length}
 use Rattle.distances.specs.Compact.{corner_clear}
@@ -20,7 +17,8 @@ pub loop-k-init : goal.loop-k-init
 loop-k-init c = (zero-le, refl, below_none _)
 
 pub edge_near-requires : goal.edge_near-requires
-edge_near-requires c = ((
+edge_near-requires c = (
+  (
     omega (arith, c.loop-k.invariant.1, c.loop-k-test.true),
     (rw (to_z-of_z w16 c.args.x c.ranges.x) c.requires.0.0, rw (to_z-of_z w16 c.args.y c.ranges.y) c.requires.0.1),
   ),

@@ -1,20 +1,11 @@
 -- `distances::corners::corner_clear` meets its contract: the corner is not too near an edge that the loop has passed. Assumes nothing.
 use mathlib.Core.Bool.{false}
-use mathlib.Core.Path.{◌≡◌, refl, sym, ◌∙◌}
-use Prim.Native.Nat.{ℕ, ◌-◌, ◌/◌, ◌≤◌, ◌<◌, zero-le}
-use native.Mathlib.Omega.{arith}
-use borrow.Author.Count.{below_none, below_more}
+use mathlib.Core.Path.{◌≡◌}
+use Prim.Native.Nat.{ℕ, ◌-◌, ◌/◌, ◌≤◌, ◌<◌}
 use lib.ListN.{length}
-use mir.Syntax.{w16}
-use mir.Val.{to_z, of_z}
-use mir.ValLaws.{to_z-of_z}
-use Rattle.integers.proofs.Machine.{read₂}
-use Rattle.model.specs.Content.{Vertex, vertex, Part}
+use Rattle.model.specs.Content.{vertex}
 use Rattle.model.specs.Geometry.{vertex_at, following, near_edge}
 use Rattle.polygons.specs.Flat.{part_of}
-use Rattle.polygons.proofs.Flat.{part_length}
-use Rattle.distances.specs.Compact.{corner_clear}
-use Rattle.distances.proofs.DistanceLaws.{edges_clear, edge_too_near}
 use Rattle.distances.proofs.corners.corner_clear.Given as goal
 
 abbrev pub invariant-loop-k : goal.invariant-loop-k

@@ -1,21 +1,17 @@
-use mathlib.Core.Bool.{true}
 use mathlib.Core.List.{map}
 use mathlib.Core.Path.{◌≡◌, refl, sym, ◌∙◌}
-use Prim.Native.Nat.{ℕ, ◌-◌, ◌/◌, ◌≤◌, ◌<◌, zero-le}
+use Prim.Native.Nat.{zero-le}
 use native.Mathlib.Omega.{arith}
 use borrow.Author.Count.{below_none, below_more}
-use borrow.Author.Tests.{not-true, not-false}
 use lib.IntN.{ℤ}
-use lib.ListN.{length}
 use mir.Syntax.{w16}
 use mir.Val.{to_z, of_z}
 use mir.ValLaws.{to_z-of_z}
 use Rattle.integers.proofs.Machine.{read₂}
 use Rattle.model.specs.Content.{Part}
-use Rattle.model.specs.Geometry.{vertex_at, corners_clear}
+use Rattle.model.specs.Geometry.{corners_clear}
 use Rattle.polygons.specs.Flat.{part_of, shifted}
 use Rattle.polygons.proofs.Flat.{part_length}
-use Rattle.distances.specs.Compact.{corner_clear}
 use Rattle.distances.proofs.DistanceLaws.{corners-all, corner-fails}
 use Rattle.distances.proofs.corners.corners_clear.Goals as goal
 
@@ -24,7 +20,8 @@ pub loop-i-init : goal.loop-i-init
 loop-i-init c = (zero-le, refl, below_none _)
 
 pub moved_clear-requires : goal.moved_clear-requires
-moved_clear-requires c = ((omega (arith, c.loop-i.invariant.1, c.loop-i-test.true), (rw (to_z-of_z w16 c.args.dx c.ranges.dx) c.requires.0.0, rw (to_z-of_z w16 c.args.dy c.ranges.dy) c.requires.0.1)),
+moved_clear-requires c = (
+  (omega (arith, c.loop-i.invariant.1, c.loop-i-test.true), (rw (to_z-of_z w16 c.args.dx c.ranges.dx) c.requires.0.0, rw (to_z-of_z w16 c.args.dy c.ranges.dy) c.requires.0.1)),
   c.requires.1,
 )
 

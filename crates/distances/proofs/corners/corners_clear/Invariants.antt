@@ -1,23 +1,11 @@
 -- `distances::corners::corners_clear` meets its contract: no corner that the loop has passed is too near an edge. Assumes nothing.
 use mathlib.Core.Bool.{true}
-use mathlib.Core.List.{map}
-use mathlib.Core.Path.{◌≡◌, refl, sym, ◌∙◌}
-use Prim.Native.Nat.{ℕ, ◌-◌, ◌/◌, ◌≤◌, ◌<◌, zero-le}
-use native.Mathlib.Omega.{arith}
-use borrow.Author.Count.{below_none, below_more}
-use borrow.Author.Tests.{not-true, not-false}
-use lib.IntN.{ℤ}
+use mathlib.Core.Path.{◌≡◌}
+use Prim.Native.Nat.{ℕ, ◌-◌, ◌/◌, ◌≤◌, ◌<◌}
 use lib.ListN.{length}
-use mir.Syntax.{w16}
-use mir.Val.{to_z, of_z}
-use mir.ValLaws.{to_z-of_z}
-use Rattle.integers.proofs.Machine.{read₂}
-use Rattle.model.specs.Content.{Part}
-use Rattle.model.specs.Geometry.{vertex_at, corners_clear}
+use Rattle.model.specs.Geometry.{vertex_at}
 use Rattle.polygons.specs.Flat.{part_of, shifted}
-use Rattle.polygons.proofs.Flat.{part_length}
 use Rattle.distances.specs.Compact.{corner_clear}
-use Rattle.distances.proofs.DistanceLaws.{corners-all, corner-fails}
 use Rattle.distances.proofs.corners.corners_clear.Given as goal
 
 abbrev pub invariant-loop-i : goal.invariant-loop-i

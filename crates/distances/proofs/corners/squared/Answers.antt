@@ -1,6 +1,5 @@
 -- `distances::corners::squared` meets its contract. Assumes nothing.
 use lib.IntN.{◌*ℤ◌}
-use borrow.Author.Rules.{rules}
 use Rattle.integers.proofs.Machine.{op_fits, op_gives}
 use Rattle.distances.proofs.DistanceLaws.{square-fits}
 use Rattle.distances.proofs.DistanceLaws.{gap-read}

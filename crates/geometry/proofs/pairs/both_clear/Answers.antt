@@ -1,7 +1,6 @@
 -- `geometry::pairs::both_clear` meets its contract: at gap 0 nothing is asked, and otherwise the corners of each part are asked against the edges of the other. Assumes nothing.
 use mathlib.Core.List.{map}
 use mathlib.Core.Path.{◌≡◌, sym, ◌∙◌}
-use borrow.Author.Tests.{not-true, not-false}
 use lib.IntN.{pos, ◌-ℤ◌}
 use mir.Syntax.{w16}
 use mir.Val.{to_z, of_z}

@@ -1,5 +1,4 @@
 -- `geometry::pairs::clear_of` meets its contract: no sum wraps, and the test is the definition's. Assumes nothing.
-use borrow.Author.Rules.{rules}
 use lib.Signed.{le_z}
 use Rattle.integers.proofs.Machine.{cast_fits}
 use Rattle.geometry.proofs.BoxSizes.{end_fits, end-gives, padded_fits, padded_gives}

@@ -3,7 +3,6 @@ use mathlib.Core.Bool.{not}
 use mathlib.Core.List.{map}
 use mathlib.Core.Path.{◌≡◌, sym, ap, ap₂, subst, ◌∙◌}
 use Prim.Native.Nat.{◌+◌, ◌-◌}
-use borrow.Author.Rules.{rules}
 use mir.Syntax.{w16}
 use lib.ListN.{take, drop}
 use mir.Val.{to_z, of_z}
@@ -24,7 +23,8 @@ separated-requires c =
     let second_part : part_of (take (c.part_start-c.result + 4 + c.part_length-2.result - (c.part_start-c.result + 4)) (drop (c.part_start-c.result + 4) c.args.table.now)) ≡ part_in c.args.table.now c.args.q c.args.m = part-window c.args.table.now c.args.q c.args.m _ _ c.part_start-c.ensures.0 c.part_length-2.ensures.0 in
     record {
       sound_part = (subst SoundPart (sym first_part) c.requires.sound_part.0, subst SoundPart (sym second_part) c.requires.sound_part.1);
-      short = ((rw (to_z-of_z w16 c.args.dx c.ranges.dx) c.requires.short.0.0, rw (to_z-of_z w16 c.args.dy c.ranges.dy) c.requires.short.0.1),
+      short = (
+        (rw (to_z-of_z w16 c.args.dx c.ranges.dx) c.requires.short.0.0, rw (to_z-of_z w16 c.args.dy c.ranges.dy) c.requires.short.0.1),
         (subst Compact (sym first_part) c.requires.short.1.0, subst Compact (sym second_part) c.requires.short.1.1),
       );
     }

@@ -1,6 +1,6 @@
 -- `geometry::pieces::part_box` meets its contract: the four numbers are those of the table. Assumes nothing.
 use mathlib.Core.Path.{◌∙◌}
-use borrow.Author.Rules.{rules, sfits_of}
+use borrow.Author.Rules.{sfits_of}
 use mir.Syntax.{w16}
 use mir.ValLaws.{to_z-of_z}
 use Rattle.polygons.proofs.BoxLaws.{same-box}

@@ -2,7 +2,6 @@
 use mathlib.Core.Bool.{not}
 use mathlib.Core.List.{map}
 use mathlib.Core.Path.{sym, ◌∙◌}
-use borrow.Author.Rules.{rules}
 use mir.Syntax.{w16}
 use mir.ValLaws.{to_z-of_z}
 use Rattle.integers.proofs.Machine.{read₂}
@@ -32,7 +31,8 @@ not_separated-requires c =
     record {
       fitting = (((c.requires.0.0.0.fitting, c.requires.0.0.1), (c.requires.0.1.0.fitting, c.requires.0.1.1)), c.requires.0.0.0.size);
       sound_part = (c.requires.0.0.0.sound c.args.i c.requires.0.0.1, c.requires.0.1.0.sound c.args.m c.requires.0.1.1);
-      short = ((rw (to_z-of_z w16 c.args.dx c.ranges.dx) c.requires.1.0, rw (to_z-of_z w16 c.args.dy c.ranges.dy) c.requires.1.1),
+      short = (
+        (rw (to_z-of_z w16 c.args.dx c.ranges.dx) c.requires.1.0, rw (to_z-of_z w16 c.args.dy c.ranges.dy) c.requires.1.1),
         (c.requires.0.0.0.compact c.args.i c.requires.0.0.1, c.requires.0.1.0.compact c.args.m c.requires.0.1.1),
       );
     }

@@ -1,17 +1,8 @@
 -- `geometry::pieces::pieces_conflict` meets its contract. The invariant: none of the parts passed is in conflict. Assumes nothing.
-use mathlib.Core.Bool.{Bool, true, false}
+use mathlib.Core.Bool.{false}
 use mathlib.Core.List.{map}
-use mathlib.Core.Path.{◌≡◌, sym, ap, ◌∙◌}
-use Prim.Native.Nat.{ℕ, ◌-◌, ◌≤◌}
-use native.Mathlib.Omega.{arith}
-use borrow.Author.Rules.{rules}
-use lib.IntN.{ℤ}
-use mir.Syntax.{w16}
-use mir.Val.{to_z, of_z}
-use mir.ValLaws.{to_z-of_z}
-use Rattle.integers.proofs.Machine.{read₂}
-use Rattle.model.specs.Geometry.{pieces_conflict}
-use Rattle.geometry.proofs.PieceLaws.{none_yet, none_more, some_below, pieces-conflict-below}
+use mathlib.Core.Path.{◌≡◌}
+use Prim.Native.Nat.{◌-◌, ◌≤◌}
 use Rattle.model.specs.Lists.{any, below}
 use Rattle.polygons.specs.Flat.{shifted}
 use Rattle.geometry.specs.Pieces.{part_in, parts_in, part_conflicts}

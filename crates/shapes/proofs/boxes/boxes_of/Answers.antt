@@ -1,10 +1,9 @@
 use mathlib.Core.List.{List}
 use mathlib.Core.Path.{◌≡◌, refl, sym, ap, subst, ◌∙◌}
-use Prim.Native.Nat.{ℕ, ◌+◌, ◌-◌, ◌*◌, ◌/◌, ◌%◌, ◌≤◌, ◌<◌}
+use Prim.Native.Nat.{◌+◌, ◌*◌, ◌/◌, ◌%◌}
 use native.Mathlib.Omega.{arith}
 use borrow.Author.Count.{below_none}
-use borrow.Author.Rules.{rules}
-use lib.ListN.{length, get_or, length-set}
+use lib.ListN.{length-set}
 use Rattle.model.specs.Content.{Part}
 use Rattle.model.specs.Lists.{concat}
 use Rattle.polygons.specs.Boxes.{extents_of}
@@ -25,12 +24,12 @@ piece_of-requires c = (c.requires.0, omega (arith, c.requires.0.view.kinds))
 pub turned_to-requires : goal.turned_to-requires
 turned_to-requires c =
     let stands : Turnable c.args.turned.now c.piece_of.result = piece_turnable c.args.job.now c.args.turned.now (c.loop-n.n / 4) c.piece_of.result c.requires.1 c.piece_of.ensures (omega (arith, c.requires.0.view.kinds)) in
-    ((stands).plane, omega arith)
+    (stands.plane, omega arith)
 
 pub piece_box-requires : goal.piece_box-requires
 piece_box-requires c =
     let stands : Turnable c.args.turned.now c.piece_of.result = piece_turnable c.args.job.now c.args.turned.now (c.loop-n.n / 4) c.piece_of.result c.requires.1 c.piece_of.ensures (omega (arith, c.requires.0.view.kinds)) in
-    subst (Standing c.args.turned.now) (sym c.turned_to.ensures) ((stands).stands (c.loop-n.n % 4) (omega arith))
+    subst (Standing c.args.turned.now) (sym c.turned_to.ensures) (stands.stands (c.loop-n.n % 4) (omega arith))
 
 pub loop-n-preserved : goal.loop-n-preserved
 loop-n-preserved c =

@@ -1,20 +1,9 @@
 -- `shapes::boxes::boxes_of` meets its contract. Assumes nothing.
-use mathlib.Core.List.{List}
-use mathlib.Core.Path.{◌≡◌, refl, sym, ap, subst, ◌∙◌}
-use Prim.Native.Nat.{ℕ, ◌+◌, ◌-◌, ◌*◌, ◌/◌, ◌%◌, ◌≤◌, ◌<◌}
-use native.Mathlib.Omega.{arith}
-use borrow.Author.Count.{below_none}
-use borrow.Author.Rules.{rules}
-use lib.ListN.{length, get_or, length-set}
-use Rattle.model.specs.Content.{Part}
-use Rattle.model.specs.Lists.{concat}
+use mathlib.Core.Path.{◌≡◌}
+use Prim.Native.Nat.{ℕ, ◌-◌, ◌*◌, ◌/◌, ◌%◌, ◌≤◌, ◌<◌}
+use lib.ListN.{length, get_or}
 use Rattle.polygons.specs.Boxes.{extents_of}
-use Rattle.geometry.specs.Pieces.{Standing, parts_in}
-use Rattle.geometry.specs.declared.pieces.Piece.{Piece}
 use Rattle.shapes.specs.Boxes.{no_box, turned_vertices}
-use Rattle.shapes.specs.Pieces.{Turnable}
-use Rattle.shapes.proofs.PieceLaws.{written-more, parts-turned, piece_turnable}
-use Rattle.shapes.proofs.ViewLaws.{few-kinds}
 use Rattle.shapes.proofs.boxes.boxes_of.Given as goal
 
 abbrev pub invariant-loop-n : goal.invariant-loop-n

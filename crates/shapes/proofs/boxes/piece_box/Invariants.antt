@@ -1,15 +1,10 @@
 -- `shapes::boxes::piece_box` meets its contract. Assumes nothing.
 use mathlib.Core.List.{map}
-use mathlib.Core.Path.{◌≡◌, sym, ap, ap₂, ◌∙◌}
-use Prim.Native.Nat.{ℕ, ◌-◌, ◌≤◌, ◌<◌}
-use native.Mathlib.Omega.{arith}
-use borrow.Author.Rules.{rules}
-use lib.ListN.{length}
+use mathlib.Core.Path.{◌≡◌}
+use Prim.Native.Nat.{◌-◌, ◌≤◌}
 use Rattle.model.specs.Lists.{concat, below}
-use Rattle.polygons.specs.Boxes.{extents_of, joined}
-use Rattle.geometry.specs.Pieces.{part_in, parts_in}
-use Rattle.geometry.proofs.PieceLaws.{part-some}
-use Rattle.shapes.proofs.BoxLaws.{box-first, box-more}
+use Rattle.polygons.specs.Boxes.{extents_of}
+use Rattle.geometry.specs.Pieces.{part_in}
 use Rattle.shapes.proofs.boxes.piece_box.Given as goal
 
 abbrev pub invariant-loop-i : goal.invariant-loop-i

@@ -1,10 +1,9 @@
 use mathlib.Core.List.{[]}
-use mathlib.Core.Path.{◌≡◌, refl, ◌∙◌}
-use Prim.Native.Nat.{ℕ, ◌+◌, ◌-◌, ◌*◌, ◌≤◌, ◌<◌}
+use mathlib.Core.Path.{refl, ◌∙◌}
+use Prim.Native.Nat.{◌+◌, ◌*◌}
 use native.Mathlib.Omega.{arith}
 use borrow.Author.Count.{below_none}
-use borrow.Author.Rules.{rules}
-use lib.ListN.{length, get_or, length-set}
+use lib.ListN.{get_or, length-set}
 use Rattle.model.specs.Content.{kind_at}
 use Rattle.model.specs.Format.{content}
 use Rattle.job.specs.View.{PartAt}
@@ -28,7 +27,7 @@ byte-requires c =
     let here : PartAt c.args.job.now
     (get_or c.args.view.part_at (c.args.kind * 6 + c.loop-i.i) 0)
     (get_or (kind_at (content c.args.job.now).kinds c.args.kind).parts c.loop-i.i []) = part_in_lem c.args.job.now c.args.view c.requires.0 c.args.kind c.requires.1 c.loop-i.i (omega arith) in
-    omega (arith, (here).inside)
+    omega (arith, here.inside)
 
 pub loop-i-preserved : goal.loop-i-preserved
 loop-i-preserved c =
@@ -38,7 +37,7 @@ loop-i-preserved c =
       omega arith,
       c.loop-i.invariant.1,
       simp length-set c.loop-i.invariant.2,
-      written-more 0 c.loop-i.sizes c.loop-i.i _ _ (omega arith) c.loop-i.invariant.3 (c.byte.ensures ∙ (here).stated),
+      written-more 0 c.loop-i.sizes c.loop-i.i _ _ (omega arith) c.loop-i.invariant.3 (c.byte.ensures ∙ here.stated),
     )
 
 pub returns : goal.returns

@@ -1,16 +1,10 @@
 -- `shapes::pieces::piece_of` meets its contract. Assumes nothing.
 use mathlib.Core.List.{[]}
-use mathlib.Core.Path.{◌≡◌, refl, ◌∙◌}
-use Prim.Native.Nat.{ℕ, ◌+◌, ◌-◌, ◌*◌, ◌≤◌, ◌<◌}
-use native.Mathlib.Omega.{arith}
-use borrow.Author.Count.{below_none}
-use borrow.Author.Rules.{rules}
-use lib.ListN.{length, get_or, length-set}
+use mathlib.Core.Path.{◌≡◌}
+use Prim.Native.Nat.{ℕ, ◌-◌, ◌≤◌, ◌<◌}
+use lib.ListN.{length, get_or}
 use Rattle.model.specs.Content.{kind_at}
 use Rattle.model.specs.Format.{content}
-use Rattle.job.specs.View.{PartAt}
-use Rattle.shapes.proofs.PieceLaws.{written-more, piece_is}
-use Rattle.shapes.proofs.ViewLaws.{few-kinds, kind-in, part_in_lem}
 use Rattle.shapes.proofs.pieces.piece_of.Given as goal
 
 abbrev pub invariant-loop-i : goal.invariant-loop-i

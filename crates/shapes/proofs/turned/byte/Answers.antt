@@ -1,6 +1,5 @@
 -- `shapes::turned::byte` meets its contract. Assumes nothing.
 use Rattle.model.specs.Format.{byte_at}
-use borrow.Author.Rules.{rules}
 use Rattle.shapes.proofs.turned.byte.Goals as goal
 
 pub returns : goal.returns

@@ -1,14 +1,10 @@
 -- `shapes::turned::turn_all` meets its contract. Assumes nothing.
 use mathlib.Core.Path.{◌≡◌}
-use Prim.Native.Nat.{◌-◌, ◌≤◌, ◌<◌}
-use native.Mathlib.Omega.{arith}
-use borrow.Author.Rules.{rules}
+use Prim.Native.Nat.{◌-◌, ◌≤◌}
 use lib.ListN.{length}
 use Rattle.model.specs.Content.{kind_count}
 use Rattle.model.specs.Format.{content}
-use Rattle.model.proofs.Saving.Kept.{content-fit}
-use Rattle.shapes.proofs.TurnLaws.{KindsTurned, kinds-none, kinds-more, kinds-all}
-use Rattle.shapes.proofs.ViewLaws.{kind-in, part-short}
+use Rattle.shapes.proofs.TurnLaws.{KindsTurned}
 use Rattle.shapes.proofs.turned.turn_all.Given as goal
 
 abbrev pub invariant-loop-kind : goal.invariant-loop-kind

@@ -1,15 +1,10 @@
 -- `shapes::turned::turn_kind` meets its contract. Assumes nothing.
-use mathlib.Core.List.{[]}
-use mathlib.Core.Path.{◌≡◌, ◌∙◌}
-use Prim.Native.Nat.{◌+◌, ◌-◌, ◌*◌, ◌≤◌, ◌<◌}
-use native.Mathlib.Omega.{arith}
-use borrow.Author.Rules.{rules}
-use lib.ListN.{length, get_or}
+use mathlib.Core.Path.{◌≡◌}
+use Prim.Native.Nat.{◌-◌, ◌≤◌, ◌<◌}
+use lib.ListN.{length}
 use Rattle.model.specs.Content.{kind_at}
 use Rattle.model.specs.Format.{content}
-use Rattle.job.specs.View.{PartAt}
-use Rattle.shapes.proofs.TurnLaws.{KindTurnedTo, kind-none, kind-more, kind-all}
-use Rattle.shapes.proofs.ViewLaws.{few-kinds, kind-in, part_in_lem, part-short, part-read-at}
+use Rattle.shapes.proofs.TurnLaws.{KindTurnedTo}
 use Rattle.shapes.proofs.turned.turn_kind.Given as goal
 
 abbrev pub invariant-loop-i : goal.invariant-loop-i

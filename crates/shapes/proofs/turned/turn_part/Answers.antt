@@ -1,11 +1,10 @@
 use mathlib.Core.Path.{◌≡◌}
-use Prim.Native.Nat.{◌-◌, ◌≤◌}
 use native.Mathlib.Omega.{arith}
 use borrow.Author.Rules.{rules}
 use lib.ListN.{length, drop}
 use Rattle.model.specs.Format.{vertices}
 use Rattle.model.proofs.Records.{length-vertices}
-use Rattle.shapes.proofs.TurnLaws.{PlanesTurned, turned_none, turned_more, turned-all}
+use Rattle.shapes.proofs.TurnLaws.{turned_none, turned_more, turned-all}
 use Rattle.shapes.proofs.turned.turn_part.Goals as goal
 
 pub loop-k-init : goal.loop-k-init

@@ -1,12 +1,9 @@
 -- `shapes::turned::turn_part` meets its contract. Assumes nothing.
 use mathlib.Core.Path.{◌≡◌}
 use Prim.Native.Nat.{◌-◌, ◌≤◌}
-use native.Mathlib.Omega.{arith}
-use borrow.Author.Rules.{rules}
 use lib.ListN.{length, drop}
 use Rattle.model.specs.Format.{vertices}
-use Rattle.model.proofs.Records.{length-vertices}
-use Rattle.shapes.proofs.TurnLaws.{PlanesTurned, turned_none, turned_more, turned-all}
+use Rattle.shapes.proofs.TurnLaws.{PlanesTurned}
 use Rattle.shapes.proofs.turned.turn_part.Given as goal
 
 abbrev pub invariant-loop-k : goal.invariant-loop-k

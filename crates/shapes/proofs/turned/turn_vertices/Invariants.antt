@@ -1,14 +1,11 @@
 -- `shapes::turned::turn_vertices` meets its contract. Assumes nothing.
 use mathlib.Core.List.{map}
-use mathlib.Core.Path.{◌≡◌, refl, sym, ap, ◌∙◌}
-use Prim.Native.Nat.{◌+◌, ◌*◌, ◌-◌, ◌≤◌}
-use native.Mathlib.Omega.{arith}
-use borrow.Author.Rules.{rules}
+use mathlib.Core.Path.{◌≡◌}
+use Prim.Native.Nat.{◌-◌, ◌≤◌}
 use lib.ListN.{length, drop}
 use Rattle.model.specs.Format.{vertices}
 use Rattle.model.specs.Geometry.{rotated}
-use Rattle.shapes.specs.Turned.{vertex_in, with_part, with_vertex}
-use Rattle.shapes.proofs.TurnLaws.{written_none, written-more}
+use Rattle.shapes.specs.Turned.{with_part}
 use Rattle.shapes.proofs.turned.turn_vertices.Given as goal
 
 abbrev pub invariant-loop-m : goal.invariant-loop-m
