@@ -17,14 +17,13 @@ pub row_word-requires : goal.row_word-requires
 row_word-requires c = (c.requires.0, omega arith)
 
 pub loop-w-preserved : goal.loop-w-preserved
-loop-w-preserved c =
-    (
-      omega arith,
-      search rules,
-      c.put_u64.ensures
-          ∙ ap₂ (λ r m. with_number 8 r (c.loop-w.w * 8) m) c.loop-w.invariant.2 c.row_word.ensures
-          ∙ sym (fill_more (word_of c.args.view c.args.boxes c.args.turned.now c.args.p c.args.a c.args.q c.args.u c.args.gap) c.args.row.now c.loop-w.w),
-    )
+loop-w-preserved c = (
+  omega arith,
+  search rules,
+  c.put_u64.ensures
+      ∙ ap₂ (λ r m. with_number 8 r (c.loop-w.w * 8) m) c.loop-w.invariant.2 c.row_word.ensures
+      ∙ sym (fill_more (word_of c.args.view c.args.boxes c.args.turned.now c.args.p c.args.a c.args.q c.args.u c.args.gap) c.args.row.now c.loop-w.w),
+)
 
 pub returns : goal.returns
 returns c =

@@ -42,11 +42,11 @@ fill-requires c =
       record {
         bounded = b;
         kind = rw x.view.kinds c.requires.0.1.other;
-        c = piece_turnable s c.args.turned.now c.args.kind c.piece_of-p.result c.requires.0.0.turned c.piece_of-p.ensures c.requires.0.1.kind;
-        c = subst (Near v.step) (sym c.placed_of-a.ensures)
+        first = piece_turnable s c.args.turned.now c.args.kind c.piece_of-p.result c.requires.0.0.turned c.piece_of-p.ensures c.requires.0.1.kind;
+        place = subst (Near v.step) (sym c.placed_of-a.ensures)
             (candidate-near v c.args.boxes c.args.kind c.args.number b
             (offered-is s v c.args.boxes x c.requires.0.0.boxes c.args.kind c.requires.0.1.kind c.args.number ∙ c.requires.0.1.candidate));
-        c = piece_turnable s c.args.turned.now c.args.other c.piece_of-q.result c.requires.0.0.turned c.piece_of-q.ensures c.requires.0.1.other;
+        second = piece_turnable s c.args.turned.now c.args.other c.piece_of-q.result c.requires.0.0.turned c.piece_of-q.ensures c.requires.0.1.other;
       },
       (omega arith, rw (word_count s v x) c.requires.1),
     )

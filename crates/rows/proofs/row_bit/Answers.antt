@@ -17,8 +17,7 @@ returns-then-not-is_candidate c =
 
 pub conflict_between-requires : goal.conflict_between-requires
 conflict_between-requires c =
-    let exists : offered c.args.view c.args.boxes c.args.u c.args.m ≡ true = sym c.is_candidate.ensures ∙ c.if-not-is_candidate.false in
-    (
+    let exists : offered c.args.view c.args.boxes c.args.u c.args.m ≡ true = sym c.is_candidate.ensures ∙ c.if-not-is_candidate.false in (
       (c.requires.first, c.requires.place),
       (c.requires.second, subst (Near c.args.view.step) (sym c.placed_of-c.ensures) (candidate-near c.args.view c.args.boxes c.args.u c.args.m c.requires.bounded (exists))),
     )
