@@ -12,7 +12,6 @@ use Rattle.model.specs.Gap.{pair_gap}
 use Rattle.candidates.specs.Conflicts.{gap_between}
 use Rattle.candidates.proofs.PreparedLaws.{gap-of_pair}
 use Rattle.plans.proofs.PlanLaws.{kinds-few, gap-small}
-use borrow.Author.Rules.{rules}
 use Rattle.plans.proofs.lookup.pair_gap.Goals as goal
 
 pub overflow_mul-t : goal.overflow_mul-t

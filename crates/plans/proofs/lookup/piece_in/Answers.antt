@@ -1,6 +1,6 @@
 use mathlib.Core.List.{[]}
 use mathlib.Core.Path.{◌≡◌, refl}
-use Prim.Native.Nat.{ℕ, ◌+◌, ◌-◌, ◌*◌, ◌≤◌, ◌<◌}
+use Prim.Native.Nat.{ℕ, ◌+◌, ◌*◌, ◌<◌}
 use native.Mathlib.Omega.{arith}
 use borrow.Author.Count.{below_none}
 use lib.ListN.{length, get_or, length-set}
@@ -46,8 +46,7 @@ overflow_cast-sizes c =
 pub loop-i-preserved : goal.loop-i-preserved
 loop-i-preserved c =
     let here : get_or c.args.plan.sizes (c.args.kind * 6 + c.loop-i.i) 0
-    ≡ length (get_or (kind_at (content c.args.job.now).kinds c.args.kind).parts c.loop-i.i []) = c.requires.0.sizes c.args.kind c.loop-i.i c.requires.1 (omega arith) in
-    (
+    ≡ length (get_or (kind_at (content c.args.job.now).kinds c.args.kind).parts c.loop-i.i []) = c.requires.0.sizes c.args.kind c.loop-i.i c.requires.1 (omega arith) in (
       omega arith,
       c.loop-i.invariant.1,
       simp length-set c.loop-i.invariant.2,

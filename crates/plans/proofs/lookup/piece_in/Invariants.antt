@@ -1,16 +1,10 @@
 -- `plans::lookup::piece_in` meets its contract. The invariant: the sizes passed are those of the kind's parts.
 use mathlib.Core.List.{[]}
-use mathlib.Core.Path.{◌≡◌, refl}
-use Prim.Native.Nat.{ℕ, ◌+◌, ◌-◌, ◌*◌, ◌≤◌, ◌<◌}
-use native.Mathlib.Omega.{arith}
-use borrow.Author.Count.{below_none}
-use lib.ListN.{length, get_or, length-set}
+use mathlib.Core.Path.{◌≡◌}
+use Prim.Native.Nat.{ℕ, ◌-◌, ◌≤◌, ◌<◌}
+use lib.ListN.{length, get_or}
 use Rattle.model.specs.Content.{kind_at}
 use Rattle.model.specs.Format.{content}
-use Rattle.job.specs.View.{PartAt, KindIn, Viewed}
-use Rattle.shapes.proofs.PieceLaws.{written-more, piece_is}
-use Rattle.shapes.proofs.ViewLaws.{few-kinds, kind-in, part_in_lem}
-use Rattle.plans.proofs.PlanLaws.{plan-viewed}
 use Rattle.plans.proofs.lookup.piece_in.Given as goal
 
 abbrev pub invariant-loop-i : goal.invariant-loop-i

@@ -1,10 +1,7 @@
 -- `plans::plan::bytes_of` meets its contract. The invariant: the entries passed are those of the table.
-use mathlib.Core.Path.{◌≡◌, refl}
+use mathlib.Core.Path.{◌≡◌}
 use Prim.Native.Nat.{ℕ, ◌-◌, ◌≤◌, ◌<◌}
-use native.Mathlib.Omega.{arith}
-use borrow.Author.Count.{below_none}
-use lib.ListN.{length, get_or, length-set}
-use Rattle.shapes.proofs.PieceLaws.{written-more}
+use lib.ListN.{length, get_or}
 use Rattle.plans.proofs.plan.bytes_of.Given as goal
 
 abbrev pub invariant-loop-i : goal.invariant-loop-i

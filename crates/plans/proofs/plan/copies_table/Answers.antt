@@ -1,14 +1,12 @@
 use mathlib.Core.Path.{◌≡◌, refl}
-use Prim.Native.Nat.{ℕ, ◌+◌, ◌-◌, ◌*◌, ◌/◌, ◌%◌, ◌≤◌, ◌<◌}
+use Prim.Native.Nat.{◌+◌, ◌*◌, ◌/◌, ◌%◌}
 use native.Mathlib.Omega.{arith}
-use lib.ListN.{length, get_or, length-set}
-use Rattle.model.specs.Content.{piece_count}
+use lib.ListN.{length-set}
 use Rattle.model.specs.Format.{content}
 use Rattle.model.specs.Search.{copies_left}
 use Rattle.shapes.proofs.PieceLaws.{written-more}
 use Rattle.stepping.specs.Levels.{pieces_from}
 use Rattle.stepping.proofs.Limits.{few-pieces}
-use borrow.Author.Rules.{rules}
 use Rattle.plans.proofs.plan.copies_table.Goals as goal
 
 pub loop-x-init : goal.loop-x-init
@@ -20,8 +18,7 @@ pub count_copies-requires : goal.count_copies-requires
 count_copies-requires c = (c.requires.0, c.requires.1, omega (arith, c.loop-x.invariant))
 
 pub loop-x-preserved : goal.loop-x-preserved
-loop-x-preserved c =
-    (
+loop-x-preserved c = (
   (omega (arith, c.loop-x.invariant), c.loop-x.invariant.0.1, c.loop-x.invariant.0.2, simp length-set c.loop-x.invariant.0.3),
   written-more 0 c.loop-x.copies c.loop-x.x c.count_copies.result (λ i. copies_left (i % 8) (pieces_from (content c.args.job.now).kinds (i / 8))) (omega (arith, c.loop-x.invariant)) c.loop-x.invariant.1 c.count_copies.ensures,
 )

@@ -1,15 +1,11 @@
 -- `plans::plan::copies_table` meets its contract. The invariant: the entries passed are the copies left.
-use mathlib.Core.Path.{◌≡◌, refl}
-use Prim.Native.Nat.{ℕ, ◌+◌, ◌-◌, ◌*◌, ◌/◌, ◌%◌, ◌≤◌, ◌<◌}
-use native.Mathlib.Omega.{arith}
-use lib.ListN.{length, get_or, length-set}
+use mathlib.Core.Path.{◌≡◌}
+use Prim.Native.Nat.{ℕ, ◌-◌, ◌*◌, ◌/◌, ◌%◌, ◌≤◌, ◌<◌}
+use lib.ListN.{length, get_or}
 use Rattle.model.specs.Content.{piece_count}
 use Rattle.model.specs.Format.{content}
 use Rattle.model.specs.Search.{copies_left}
-use Rattle.shapes.proofs.PieceLaws.{written-more}
 use Rattle.stepping.specs.Levels.{pieces_from}
-use Rattle.stepping.proofs.Limits.{few-pieces}
-use borrow.Author.Rules.{rules}
 use Rattle.plans.proofs.plan.copies_table.Given as goal
 
 abbrev pub invariant-loop-x : goal.invariant-loop-x

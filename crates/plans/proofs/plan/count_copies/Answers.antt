@@ -1,6 +1,5 @@
-use mathlib.Core.Logic.{⊎_elim}
 use mathlib.Core.Path.{◌≡◌, sym, ap, ◌∙◌}
-use Prim.Native.Nat.{ℕ, ◌+◌, ◌-◌, ◌≤◌, ◌<◌}
+use Prim.Native.Nat.{ℕ, ◌<◌}
 use native.Mathlib.Omega.{arith}
 use Rattle.model.specs.Content.{piece_count}
 use Rattle.model.specs.Format.{content}
@@ -8,8 +7,8 @@ use Rattle.model.specs.Search.{copies_left}
 use Rattle.stepping.specs.Levels.{pieces_from}
 use Rattle.stepping.proofs.Limits.{few-pieces}
 use Rattle.stepping.proofs.PieceOrder.{copies-hit, copies-miss, copies-end}
-use borrow.Author.Rules.{rules}
 use Rattle.plans.proofs.plan.count_copies.Goals as goal
+use Rattle.plans.proofs.plan.count_copies.Goals.{then-kinds-i, else-kinds-i}
 
 pub loop-i-init : goal.loop-i-init
 loop-i-init c =
@@ -22,10 +21,12 @@ loop-i-preserved c =
     let i = c.loop-i.i in
     let k = c.requires.1 i (omega (arith, c.loop-i.invariant)) in
     let h : i < piece_count j.kinds = omega (arith, c.loop-i.invariant) in
-    ⊎_elim
-    (λ w. (omega (arith, c.loop-i.invariant), omega (arith, c.loop-i.invariant), omega (arith, c.loop-i.invariant, w), omega (arith, c.loop-i.invariant, w, copies-hit j.kinds c.args.u i h (sym k ∙ w.0.taken))))
-    (λ w. (omega (arith, c.loop-i.invariant), omega (arith, c.loop-i.invariant), omega (arith, c.loop-i.invariant, w), omega (arith, c.loop-i.invariant, w, copies-miss j.kinds c.args.u i h (λ q. w.0.left (k ∙ q)))))
-    c.if-kinds-i.branch
+    elim c.if-kinds-i.branch [
+      | then-kinds-i w ↦
+          (omega arith, omega arith, omega arith, omega (arith, copies-hit j.kinds c.args.u i h (sym k ∙ w.if-kinds-i.true)))
+      | else-kinds-i w ↦
+          (omega arith, omega arith, omega arith, omega (arith, copies-miss j.kinds c.args.u i h (λ q. w.if-kinds-i.false (k ∙ q))))
+    ]
 
 pub returns : goal.returns
 returns c =

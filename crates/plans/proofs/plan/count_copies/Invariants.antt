@@ -1,15 +1,10 @@
 -- `plans::plan::count_copies` meets its contract. The invariant: the copies counted and those still to come are those to be counted.
-use mathlib.Core.Logic.{⊎_elim}
-use mathlib.Core.Path.{◌≡◌, sym, ap, ◌∙◌}
-use Prim.Native.Nat.{ℕ, ◌+◌, ◌-◌, ◌≤◌, ◌<◌}
-use native.Mathlib.Omega.{arith}
+use mathlib.Core.Path.{◌≡◌}
+use Prim.Native.Nat.{◌+◌, ◌-◌, ◌≤◌}
 use Rattle.model.specs.Content.{piece_count}
 use Rattle.model.specs.Format.{content}
 use Rattle.model.specs.Search.{copies_left}
 use Rattle.stepping.specs.Levels.{pieces_from}
-use Rattle.stepping.proofs.Limits.{few-pieces}
-use Rattle.stepping.proofs.PieceOrder.{copies-hit, copies-miss, copies-end}
-use borrow.Author.Rules.{rules}
 use Rattle.plans.proofs.plan.count_copies.Given as goal
 
 abbrev pub invariant-loop-i : goal.invariant-loop-i

@@ -1,14 +1,9 @@
 -- `plans::plan::ends_of` meets its contract. The invariant: the entries passed are the boxes' largest x.
-use mathlib.Core.Path.{◌≡◌, refl}
-use Prim.Native.Nat.{ℕ, ◌+◌, ◌-◌, ◌*◌, ◌≤◌, ◌<◌}
-use native.Mathlib.Omega.{arith}
-use borrow.Author.Count.{below_none}
-use borrow.Author.Rules.{rules}
+use mathlib.Core.Path.{◌≡◌}
+use Prim.Native.Nat.{ℕ, ◌-◌, ◌≤◌, ◌<◌}
 use lib.IntN.{pos}
-use lib.ListN.{length, get_or, length-set}
+use lib.ListN.{length, get_or}
 use Rattle.shapes.specs.Boxes.{no_box}
-use Rattle.shapes.proofs.PieceLaws.{written-more}
-use Rattle.shapes.proofs.ViewLaws.{few-kinds}
 use Rattle.plans.proofs.plan.ends_of.Given as goal
 
 abbrev pub invariant-loop-x : goal.invariant-loop-x

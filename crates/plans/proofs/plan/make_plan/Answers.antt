@@ -30,12 +30,14 @@ pub piece_kinds-kinds-requires : goal.piece_kinds-kinds-requires
 piece_kinds-kinds-requires c = c.requires.0
 
 pub overflow_mul-result : goal.overflow_mul-result
+unfolding dots
 overflow_mul-result c =
     let few : c.args.view.columns * c.args.view.rows ≤ 1024 = (let all_dots : c.args.view.columns * c.args.view.rows ≡ dots (content c.args.job.now).sheet = rw (c.requires.0.view.columns, c.requires.0.view.rows) in
     rw (all_dots) (accepted-dots c.args.job.now c.requires.0.accepted)) in
     omega (arith, few)
 
 pub overflow_add-result : goal.overflow_add-result
+unfolding dots
 overflow_add-result c =
     let few : c.args.view.columns * c.args.view.rows ≤ 1024 = (let all_dots : c.args.view.columns * c.args.view.rows ≡ dots (content c.args.job.now).sheet = rw (c.requires.0.view.columns, c.requires.0.view.rows) in
     rw (all_dots) (accepted-dots c.args.job.now c.requires.0.accepted)) in
@@ -56,8 +58,7 @@ bytes_of-requires c =
 pub bytes_of-requires-2 : goal.bytes_of-requires-2
 bytes_of-requires-2 c =
     let bounds : Bounded c.args.view = bounded c.args.job.now c.args.view c.requires.0 in
-    let kind : (t : ℕ) → t < kind_count (content c.args.job.now).kinds → KindIn c.args.job.now c.args.view t (kind_at (content c.args.job.now).kinds t) = kind-in c.args.job.now c.args.view c.requires.0 in
-    (
+    let kind : (t : ℕ) → t < kind_count (content c.args.job.now).kinds → KindIn c.args.job.now c.args.view t (kind_at (content c.args.job.now).kinds t) = kind-in c.args.job.now c.args.view c.requires.0 in (
       (bounds).kinds,
       λ t h.
           let k = kind t (omega (arith, c.requires.0.view.kinds)) in
@@ -68,12 +69,11 @@ pub sizes_of-requires : goal.sizes_of-requires
 sizes_of-requires c = c.requires.0
 
 pub returns : goal.returns
-unfolding set_words
+unfolding dots set_words
 returns c =
     let all_dots : c.args.view.columns * c.args.view.rows ≡ dots (content c.args.job.now).sheet = rw (c.requires.0.view.columns, c.requires.0.view.rows) in
     let bounds : Bounded c.args.view = bounded c.args.job.now c.args.view c.requires.0 in
-    let kind : (t : ℕ) → t < kind_count (content c.args.job.now).kinds → KindIn c.args.job.now c.args.view t (kind_at (content c.args.job.now).kinds t) = kind-in c.args.job.now c.args.view c.requires.0 in
-    (
+    let kind : (t : ℕ) → t < kind_count (content c.args.job.now).kinds → KindIn c.args.job.now c.args.view t (kind_at (content c.args.job.now).kinds t) = kind-in c.args.job.now c.args.view c.requires.0 in (
       record {
         accepted = c.requires.0.accepted;
         view = c.args.view;

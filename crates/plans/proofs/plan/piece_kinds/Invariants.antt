@@ -1,18 +1,11 @@
 -- `plans::plan::piece_kinds` meets its contract. The invariant: the pieces passed have their kinds, and of those to come `left` are of kind t.
-use mathlib.Core.Logic.{⊎_elim}
-use mathlib.Core.Path.{◌≡◌, refl, sym, ap, ◌∙◌, subst}
-use Prim.Native.Nat.{ℕ, suc, ◌-◌, ◌≤◌, ◌<◌}
-use native.Mathlib.Numerals.{add-one}
-use native.Mathlib.Omega.{arith}
-use lib.ListN.{length, get_or, length-set}
-use Rattle.model.specs.Content.{kind_at, kind_count, piece_count}
+use mathlib.Core.Path.{◌≡◌}
+use Prim.Native.Nat.{ℕ, ◌-◌, ◌≤◌, ◌<◌}
+use lib.ListN.{length, get_or}
+use Rattle.model.specs.Content.{kind_count, piece_count}
 use Rattle.model.specs.Format.{content}
-use Rattle.model.proofs.Accepted.{accepted-kinds}
-use Rattle.shapes.proofs.PieceLaws.{written-more}
 use Rattle.stepping.specs.Levels.{piece_kind}
-use Rattle.stepping.proofs.Limits.{few-pieces, demanded}
-use Rattle.stepping.proofs.PieceOrder.{At, at_begin, at_kind, at_piece}
-use borrow.Author.Rules.{rules}
+use Rattle.stepping.proofs.PieceOrder.{At}
 use Rattle.plans.proofs.plan.piece_kinds.Given as goal
 
 abbrev pub invariant-loop-l : goal.invariant-loop-l

@@ -1,13 +1,12 @@
 use mathlib.Core.Bool.{Bool}
 use mathlib.Core.Path.{◌≡◌, sym, ap, ◌∙◌}
-use Prim.Native.Nat.{ℕ, ◌/◌, ◌%◌, ◌-◌, ◌≤◌}
+use Prim.Native.Nat.{ℕ, ◌/◌, ◌%◌}
 use native.Mathlib.Nat.{mod-eq_of_lt}
 use native.Mathlib.Omega.{arith}
 use lib.ListN.{get_or}
 use Rattle.words.specs.Bits.{bits_where, assigned_bit}
 use Rattle.words.proofs.Bit.{bits_where-none, bits_where-next}
 use Rattle.job.specs.Gaps.{same_cut}
-use borrow.Author.Rules.{rules}
 use Rattle.plans.proofs.plan.shared_cuts.Goals as goal
 
 pub loop-x-init : goal.loop-x-init

@@ -1,14 +1,9 @@
 -- `plans::plan::shared_cuts` meets its contract.
-use mathlib.Core.Bool.{Bool}
-use mathlib.Core.Path.{◌≡◌, sym, ap, ◌∙◌}
-use Prim.Native.Nat.{ℕ, ◌/◌, ◌%◌, ◌-◌, ◌≤◌}
-use native.Mathlib.Nat.{mod-eq_of_lt}
-use native.Mathlib.Omega.{arith}
+use mathlib.Core.Path.{◌≡◌}
+use Prim.Native.Nat.{◌/◌, ◌%◌, ◌-◌, ◌≤◌}
 use lib.ListN.{get_or}
-use Rattle.words.specs.Bits.{bits_where, assigned_bit}
-use Rattle.words.proofs.Bit.{bits_where-none, bits_where-next}
+use Rattle.words.specs.Bits.{bits_where}
 use Rattle.job.specs.Gaps.{same_cut}
-use borrow.Author.Rules.{rules}
 use Rattle.plans.proofs.plan.shared_cuts.Given as goal
 
 abbrev pub invariant-loop-x : goal.invariant-loop-x

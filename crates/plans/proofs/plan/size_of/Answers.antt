@@ -1,6 +1,5 @@
 -- `plans::plan::size_of` meets its contract.
 use native.Mathlib.Omega.{arith}
-use borrow.Author.Rules.{rules}
 use Rattle.plans.proofs.plan.size_of.Goals as goal
 
 pub overflow_cast-result : goal.overflow_cast-result

@@ -1,14 +1,10 @@
 -- `plans::plan::sizes_of` meets its contract. The invariant: the entries passed are the sizes of the parts that there are.
 use mathlib.Core.List.{[]}
-use mathlib.Core.Path.{◌≡◌, refl, ◌∙◌}
-use Prim.Native.Nat.{ℕ, ◌+◌, ◌-◌, ◌*◌, ◌/◌, ◌%◌, ◌≤◌, ◌<◌}
-use native.Mathlib.Omega.{arith}
-use borrow.Author.Count.{below_none, below_more}
-use lib.ListN.{length, get_or, length-set}
-use lib.Seq.{get_or-set_same, get_or-set_other}
+use mathlib.Core.Path.{◌≡◌}
+use Prim.Native.Nat.{ℕ, ◌-◌, ◌*◌, ◌/◌, ◌%◌, ◌≤◌, ◌<◌}
+use lib.ListN.{length, get_or}
 use Rattle.model.specs.Content.{kind_at, kind_count}
 use Rattle.model.specs.Format.{content}
-use Rattle.shapes.proofs.ViewLaws.{few-kinds, kind-in}
 use Rattle.plans.proofs.plan.sizes_of.Given as goal
 
 abbrev pub invariant-loop-x : goal.invariant-loop-x

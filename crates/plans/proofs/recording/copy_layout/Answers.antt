@@ -1,5 +1,5 @@
 use mathlib.Core.Path.{◌≡◌, refl, sym, ap, ◌∙◌}
-use Prim.Native.Nat.{ℕ, ◌*◌, ◌-◌, ◌≤◌}
+use Prim.Native.Nat.{ℕ, ◌*◌}
 use native.Mathlib.Omega.{arith}
 use lib.ListN.{length}
 use Rattle.words.specs.Bytes.{AreBytes}
@@ -32,7 +32,7 @@ loop-i-smaller c = omega (arith, c.loop-i.invariant.0)
 pub loop-i-preserved : goal.loop-i-preserved
 loop-i-preserved c =
     let are_bytes : AreBytes c.args.layout.now = λ i. (c.shared_slice_known-1.given i).fits in
-    let k : length c.put_u64.new.0 ≡ length c.loop-i.out = c.put_u64.auto.0 in (
+    let k : length c.put_u64.new.s ≡ length c.loop-i.out = c.put_u64.auto.s in (
       (omega (arith, c.loop-i.invariant.0), c.loop-i.invariant.0.1),
       (k ∙ c.loop-i.invariant.1.0, omega (arith, k, c.loop-i.invariant.1)),
       c.put_u64.ensures

@@ -1,12 +1,9 @@
 -- `plans::recording::copy_layout` meets its contract. The invariant: the entries passed are copied.
-use mathlib.Core.Path.{◌≡◌, refl, sym, ap, ◌∙◌}
-use Prim.Native.Nat.{ℕ, ◌*◌, ◌-◌, ◌≤◌}
-use native.Mathlib.Omega.{arith}
+use mathlib.Core.Path.{◌≡◌}
+use Prim.Native.Nat.{◌*◌, ◌-◌, ◌≤◌}
 use lib.ListN.{length}
-use Rattle.words.specs.Bytes.{AreBytes}
-use Rattle.words.specs.Number.{with_number}
-use Rattle.model.specs.Services.{entry_in, with_layout}
-use Rattle.plans.proofs.Writing.{written, written_none, entry-copied}
+use Rattle.model.specs.Services.{entry_in}
+use Rattle.plans.proofs.Writing.{written}
 use Rattle.plans.proofs.recording.copy_layout.Given as goal
 
 abbrev pub invariant-loop-i : goal.invariant-loop-i

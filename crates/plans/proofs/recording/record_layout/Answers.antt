@@ -1,5 +1,5 @@
 use mathlib.Core.Path.{◌≡◌, refl, sym, ap, ◌∙◌}
-use Prim.Native.Nat.{ℕ, ◌*◌, ◌-◌, ◌≤◌, ◌<◌}
+use Prim.Native.Nat.{ℕ, ◌*◌, ◌<◌}
 use native.Mathlib.Omega.{arith}
 use lib.ListN.{length}
 use Rattle.words.specs.Number.{count, with_number}
@@ -57,11 +57,11 @@ loop-i-preserved c =
     let rows_are : c.args.plan.rows ≡ rows (content c.args.job.now).sheet = c.requires.0.rows ∙ c.requires.0.viewed.rows in
     let kind_small : (i : ℕ) → i < piece_count (content c.args.job.now).kinds → piece_kind (content c.args.job.now).kinds i < 8 = λ i h. omega (arith, piece_kind_lem (content c.args.job.now).kinds i h, (accepted-kinds c.args.job.now c.requires.0.accepted).few-kinds) in
     let inside : c.loop-i.i < piece_count (content c.args.job.now).kinds = omega (arith, c.loop-i.invariant.0) in
-    let k : length c.put_u64.new.0 ≡ length c.loop-i.out = c.put_u64.auto.0 in (
+    let k : length c.put_u64.new.s ≡ length c.loop-i.out = c.put_u64.auto.s in (
       (omega (arith, c.loop-i.invariant.0), c.loop-i.invariant.0.1, c.loop-i.invariant.0.2),
       (k ∙ c.loop-i.invariant.1.0, omega (arith, k, c.loop-i.invariant.1)),
       c.put_u64.ensures ∙ ap (with_number 8 c.loop-i.out (c.loop-i.i * 8)) c.entry_word.ensures
-          ∙ entry-written (planned c.args.job.now c.args.plan) c.args.t3 c.args.out.now c.loop-i.out c.loop-i.i _ _ _
+          ∙ entry-written (planned c.args.job.now c.args.plan) c.args.candidates c.args.out.now c.loop-i.out c.loop-i.i _ _ _
           (kind_small c.loop-i.i (inside)) (c.requires.1.small c.loop-i.i (inside)) (c.requires.0.kinds c.loop-i.i (inside)) refl (rows_are) c.loop-i.invariant.2,
     )
 
@@ -72,4 +72,4 @@ pub returns : goal.returns
 unfolding with_layout layout_of entry_of
 returns c =
     let e : c.loop-i.i ≡ piece_count (content c.args.job.now).kinds = omega (arith, c.loop-i.invariant.0) in
-    c.loop-i.invariant.2 ∙ ap (λ (i : ℕ). written (λ l. entry (piece_kind (content c.args.job.now).kinds l) (placement_of (content c.args.job.now).sheet (numbers_at c.args.t3 l))) i c.args.out.now) e
+    c.loop-i.invariant.2 ∙ ap (λ (i : ℕ). written (λ l. entry (piece_kind (content c.args.job.now).kinds l) (placement_of (content c.args.job.now).sheet (numbers_at c.args.candidates l))) i c.args.out.now) e
