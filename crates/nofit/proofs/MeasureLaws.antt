@@ -1,7 +1,7 @@
 -- How far the pieces of a job reach. Assumes nothing.
 use mathlib.Core.Bool.{Bool, true, false, ◌||◌}
 use mathlib.Core.List.{List, [], ◌∷◌, map}
-use mathlib.Core.Logic.{◌⊎◌, ⊎_elim}
+use mathlib.Core.Logic.{⊎_elim}
 use mathlib.Core.Path.{◌≡◌, refl, sym, ap, ap₂, subst, ◌∙◌}
 use Prim.Native.Nat.{ℕ, zero, suc, ◌+◌, ◌-◌, ◌*◌, ◌/◌, ◌%◌, ◌^◌, ◌≤◌, ◌<◌}
 use native.Mathlib.Nat.{not-suc-le-zero, zero-mul, one-mul, le_trans, lt_of_le_of_lt, le_of_eq, max-le, add-mul, mul_assoc, mul_comm, div-add-mod', mod-lt, mul-le-mul, mul-le-mul_right, div-mul-le_self}

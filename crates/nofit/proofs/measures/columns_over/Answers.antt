@@ -1,6 +1,5 @@
 -- `nofit::measures::columns_over` meets its contract. Assumes nothing.
 use native.Mathlib.Omega.{arith}
-use borrow.Author.Rules.{rules}
 use Rattle.nofit.proofs.MeasureLaws.{columns-one, columns-clear, columns-all}
 use Rattle.nofit.proofs.measures.columns_over.Goals as goal
 

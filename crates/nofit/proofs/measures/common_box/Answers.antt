@@ -1,12 +1,11 @@
-use mathlib.Core.Logic.{⊎_elim}
 use mathlib.Core.Path.{sym, subst, ◌∙◌}
-use Prim.Native.Nat.{◌+◌, ◌-◌, ◌%◌, ◌≤◌}
+use Prim.Native.Nat.{◌+◌, ◌%◌}
 use native.Mathlib.Omega.{arith}
 use borrow.Author.Count.{below_none}
-use borrow.Author.Rules.{rules}
 use Rattle.nofit.specs.Measures.{Around}
 use Rattle.nofit.proofs.MeasureLaws.{around_next, around_skip}
 use Rattle.nofit.proofs.measures.common_box.Goals as goal
+use Rattle.nofit.proofs.measures.common_box.Goals.{then-test_bit, else-test_bit}
 
 pub loop-i-init : goal.loop-i-init
 loop-i-init c = (omega arith, below_none _)
@@ -17,8 +16,13 @@ loop-i-preserved c =
     let of = c.args.boxes.of in
     let i = c.loop-i.i in (
       omega arith,
-      ⊎_elim (λ w. around_next masks of i c.loop-i.e c.loop-i.invariant.1 c.if-test_bit.e (w.3 ∙ w.2.ensures))
-          (λ w. subst (Around masks of (i + 1)) (sym w.1) (around_skip masks of i c.loop-i.e c.loop-i.invariant.1 _ (i % 4 % 64) c.test_bit.ensures (omega arith) w.0.left)) c.if-test_bit.branch,
+      elim c.if-test_bit.branch [
+        | then-test_bit w ↦ around_next masks of i c.loop-i.e c.loop-i.invariant.1 c.if-test_bit.e (w.e-is ∙ w.join-e.ensures)
+        | else-test_bit w ↦
+            subst (Around masks of (i + 1)) (sym w.e-is)
+            (around_skip masks of i c.loop-i.e c.loop-i.invariant.1 _ (i % 4 % 64) c.test_bit.ensures (omega arith)
+            w.if-test_bit.false)
+      ],
     )
 
 pub returns : goal.returns

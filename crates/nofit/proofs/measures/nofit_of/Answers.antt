@@ -1,7 +1,6 @@
 -- `nofit::measures::nofit_of` meets its contract. Assumes nothing.
 use native.Mathlib.Nat.{le_trans, mul-le-mul_right}
 use native.Mathlib.Omega.{arith}
-use borrow.Author.Rules.{rules}
 use Rattle.candidates.proofs.PreparedLaws.{bounded}
 use Rattle.nofit.proofs.MeasureLaws.{step_range, dots-most, measures-of}
 use Rattle.nofit.proofs.measures.nofit_of.Goals as goal
@@ -22,8 +21,7 @@ pub strings_held-requires : goal.strings_held-requires
 strings_held-requires c = ((bounded c.args.job.now c.args.view c.requires.0).kinds, omega (arith, c.string_words-size.ensures.0))
 
 pub returns : goal.returns
-returns c =
-    (
+returns c = (
   measures-of c.args.job.now c.args.view c.requires.0 _ _ _ _ c.reach_of-reach.ensures c.parity_words-first.ensures c.string_words-size.ensures c.strings_held.ensures.0,
   c.strings_held.ensures.1,
 )

@@ -1,7 +1,6 @@
 -- `nofit::measures::parity_words` meets its contract. Assumes nothing.
 use native.Mathlib.Omega.{arith}
 use Prim.Native.Nat.{◌≤◌}
-use borrow.Author.Rules.{rules}
 use Rattle.nofit.proofs.MeasureLaws.{factor_most}
 use Rattle.nofit.proofs.measures.parity_words.Goals as goal
 

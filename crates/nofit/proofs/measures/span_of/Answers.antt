@@ -2,7 +2,6 @@
 use mir.Syntax.{w64}
 use Rattle.integers.proofs.Machine.{cast_fits}
 use Rattle.nofit.proofs.MeasureLaws.{difference_fits, spaced_fits, span_none, span_some, span_number}
-use borrow.Author.Rules.{rules}
 use Rattle.nofit.proofs.measures.span_of.Goals as goal
 
 pub overflow_cast-x : goal.overflow_cast-x

@@ -1,7 +1,6 @@
 -- `nofit::measures::strings_held` meets its contract. Assumes nothing.
 use Prim.Native.Nat.{◌+◌, ◌*◌, ◌/◌, ◌≤◌}
 use native.Mathlib.Omega.{arith}
-use borrow.Author.Rules.{rules}
 use Rattle.nofit.proofs.MeasureLaws.{strings-fit, kinds-most}
 use Rattle.nofit.proofs.measures.strings_held.Goals as goal
 

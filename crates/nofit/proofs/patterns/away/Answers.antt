@@ -5,7 +5,6 @@ use native.Mathlib.Omega.{arith}
 use mir.Syntax.{w16}
 use mir.ValLaws.{to_z-of_z}
 use Rattle.nofit.proofs.FillingLaws.{away_fits, away_value}
-use borrow.Author.Rules.{rules}
 use Rattle.nofit.proofs.patterns.away.Goals as goal
 
 pub overflow_sub-result : goal.overflow_sub-result

@@ -4,7 +4,6 @@ use Prim.Native.Nat.{◌+◌, ◌*◌}
 use mathlib.Core.Bool.{cond}
 use borrow.Author.Tests.{eq-eqb, ne_eqb}
 use Rattle.nofit.specs.Filling.{bound_of}
-use borrow.Author.Rules.{rules}
 use Rattle.nofit.proofs.patterns.bound_of.Goals as goal
 
 pub returns-then-x : goal.returns-then-x

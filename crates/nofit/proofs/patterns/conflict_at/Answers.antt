@@ -21,7 +21,6 @@ use Rattle.geometry.proofs.PieceLaws.{standing_sound}
 use Rattle.nofit.specs.Patterns.{from_middle}
 use Rattle.nofit.specs.Filling.{conflict_at_dot}
 use Rattle.nofit.proofs.FillingLaws.{twice_middle, no_further}
-use borrow.Author.Rules.{rules}
 use Rattle.nofit.proofs.patterns.conflict_at.Goals as goal
 
 short : (a b : ℕ) → (a ≤ 4000) × (b ≤ 2000) → nat_abs (pos a -ℤ pos b) ≤ 4096
@@ -35,9 +34,9 @@ away-dx-requires c =
 pub away-dy-requires : goal.away-dy-requires
 away-dy-requires c =
     let up_near : (c.args.d.row * c.args.s.step ≤ 4000) × (c.args.s.lift * c.args.s.step ≤ 2000) = ((
-  omega (arith, no_further c.args.d.row c.args.s.rows c.args.s.step (omega (arith, c.requires.column_bound.1)) c.requires.ready.0.up),
-  no_further c.args.s.lift c.args.s.rows c.args.s.step c.requires.ready.0.lifted c.requires.ready.0.up,
-)) in
+      omega (arith, no_further c.args.d.row c.args.s.rows c.args.s.step (omega (arith, c.requires.column_bound.1)) c.requires.ready.0.up),
+      no_further c.args.s.lift c.args.s.rows c.args.s.step c.requires.ready.0.lifted c.requires.ready.0.up,
+    )) in
     up_near
 
 pub returns-then-boxes_apart : goal.returns-then-boxes_apart
@@ -60,20 +59,19 @@ pub pieces_conflict-requires : goal.pieces_conflict-requires
 pieces_conflict-requires c =
     let across_near : (c.args.d.column * c.args.s.step ≤ 4000) × (c.args.s.reach * c.args.s.step ≤ 2000) = (twice_middle c.args.d.column c.args.s.reach c.args.s.step c.requires.column_bound.0 c.requires.ready.0.across, c.requires.ready.0.across) in
     let up_near : (c.args.d.row * c.args.s.step ≤ 4000) × (c.args.s.lift * c.args.s.step ≤ 2000) = ((
-  omega (arith, no_further c.args.d.row c.args.s.rows c.args.s.step (omega (arith, c.requires.column_bound.1)) c.requires.ready.0.up),
-  no_further c.args.s.lift c.args.s.rows c.args.s.step c.requires.ready.0.lifted c.requires.ready.0.up,
-)) in
+      omega (arith, no_further c.args.d.row c.args.s.rows c.args.s.step (omega (arith, c.requires.column_bound.1)) c.requires.ready.0.up),
+      no_further c.args.s.lift c.args.s.rows c.args.s.step c.requires.ready.0.lifted c.requires.ready.0.up,
+    )) in
     let along : ℤ = from_middle c.args.s.step c.args.s.reach c.args.d.column in
     let along_is : to_z w16 (of_z w16 c.away-dx.result) ≡ along = to_z-of_z w16 _ (sfits_of c.away-dx.type_inv) ∙ c.away-dx.ensures in
     let up : ℤ = from_middle c.args.s.step c.args.s.lift c.args.d.row in
-    let up_is : to_z w16 (of_z w16 c.away-dy.result) ≡ up = to_z-of_z w16 _ (sfits_of c.away-dy.type_inv) ∙ c.away-dy.ensures in
-    (
-  (c.requires.ready.1.0.stands, c.requires.ready.1.1.stands),
-  (
-    rw (along_is) (short (c.args.d.column * c.args.s.step) (c.args.s.reach * c.args.s.step) (across_near)),
-    rw (up_is) (short (c.args.d.row * c.args.s.step) (c.args.s.lift * c.args.s.step) (up_near)),
-  ),
-)
+    let up_is : to_z w16 (of_z w16 c.away-dy.result) ≡ up = to_z-of_z w16 _ (sfits_of c.away-dy.type_inv) ∙ c.away-dy.ensures in (
+      (c.requires.ready.1.0.stands, c.requires.ready.1.1.stands),
+      (
+        rw (along_is) (short (c.args.d.column * c.args.s.step) (c.args.s.reach * c.args.s.step) (across_near)),
+        rw (up_is) (short (c.args.d.row * c.args.s.step) (c.args.s.lift * c.args.s.step) (up_near)),
+      ),
+    )
 
 pub returns : goal.returns
 unfolding conflict_at_dot

@@ -1,8 +1,7 @@
 -- `nofit::patterns::dot_behind` meets its contract. Assumes nothing.
 use mathlib.Core.Path.{◌≡◌, ap, ◌∙◌}
-use Prim.Native.Nat.{ℕ, ◌+◌, ◌/◌}
+use Prim.Native.Nat.{◌+◌, ◌/◌}
 use native.Mathlib.Omega.{arith}
-use borrow.Author.Rules.{rules}
 use Rattle.nofit.specs.Filling.{dot_of}
 use Rattle.nofit.proofs.patterns.dot_behind.Goals as goal
 

@@ -9,7 +9,6 @@ use Rattle.model.proofs.Lists.{not_both}
 use Rattle.shapes.proofs.ViewLaws.{kind-in}
 use Rattle.candidates.proofs.PreparedLaws.{bounded}
 use Rattle.nofit.proofs.PairLaws.{held-few, string-filled, string-skipped, parities-kept}
-use borrow.Author.Rules.{rules}
 use Rattle.nofit.proofs.patterns.fill_next.Goals as goal
 
 pub pair_of-x-requires : goal.pair_of-x-requires

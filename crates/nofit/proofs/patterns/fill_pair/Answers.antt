@@ -6,7 +6,6 @@ use lib.ListN.{length}
 use Rattle.candidates.proofs.PreparedLaws.{bounded}
 use Rattle.nofit.specs.Filling.{Boxed}
 use Rattle.nofit.proofs.PairLaws.{held-few, string-room, string-early, pair_small, ready_of, box_of_lem, boxes-other, written_of}
-use borrow.Author.Rules.{rules}
 use Rattle.nofit.proofs.patterns.fill_pair.Goals as goal
 
 pub turned_to-p-requires : goal.turned_to-p-requires

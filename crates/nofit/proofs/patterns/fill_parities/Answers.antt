@@ -1,7 +1,5 @@
 use mathlib.Core.Path.{◌≡◌, refl, subst}
-use Prim.Native.Nat.{◌-◌, ◌≤◌}
 use native.Mathlib.Omega.{arith}
-use lib.ListN.{length}
 use Rattle.nofit.specs.Filling.{ParitiesTo}
 use Rattle.nofit.proofs.PairLaws.{parities-none, parities-next}
 use borrow.Author.Rules.{rules}
@@ -23,8 +21,7 @@ pub overflow_add-k : goal.overflow_add-k
 overflow_add-k c = omega (arith, c.requires.0.1)
 
 pub loop-k-preserved : goal.loop-k-preserved
-loop-k-preserved c =
-    (
+loop-k-preserved c = (
   omega arith,
   search rules,
   parities-next c.args.rows c.loop-k.k c.loop-k.bits _ c.parity_word-v.result c.loop-k.invariant.2 (omega (arith, c.loop-k.invariant.1, c.requires.1)) (search rules) c.parity_word-v.ensures

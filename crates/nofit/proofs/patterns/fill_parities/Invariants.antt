@@ -1,11 +1,8 @@
 -- `nofit::patterns::fill_parities` meets its contract. The invariant: the words passed have their parities. Assumes nothing.
-use mathlib.Core.Path.{◌≡◌, refl, subst}
+use mathlib.Core.Path.{◌≡◌}
 use Prim.Native.Nat.{◌-◌, ◌≤◌}
-use native.Mathlib.Omega.{arith}
 use lib.ListN.{length}
 use Rattle.nofit.specs.Filling.{ParitiesTo}
-use Rattle.nofit.proofs.PairLaws.{parities-none, parities-next}
-use borrow.Author.Rules.{rules}
 use Rattle.nofit.proofs.patterns.fill_parities.Given as goal
 
 abbrev pub invariant-loop-k : goal.invariant-loop-k

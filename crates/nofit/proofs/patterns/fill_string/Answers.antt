@@ -1,7 +1,5 @@
 use mathlib.Core.Path.{◌≡◌, refl, subst}
-use Prim.Native.Nat.{◌-◌, ◌≤◌}
 use native.Mathlib.Omega.{arith}
-use lib.ListN.{length}
 use Rattle.nofit.specs.Filling.{blocked_bit, Written, allowed}
 use Rattle.nofit.proofs.FillingLaws.{written_none, written_next, allowed-word}
 use borrow.Author.Rules.{rules}

@@ -1,11 +1,8 @@
 -- `nofit::patterns::fill_string` meets its contract. The invariant: the words passed are made, and nothing else changed. Assumes nothing.
-use mathlib.Core.Path.{◌≡◌, refl, subst}
+use mathlib.Core.Path.{◌≡◌}
 use Prim.Native.Nat.{◌-◌, ◌≤◌}
-use native.Mathlib.Omega.{arith}
 use lib.ListN.{length}
 use Rattle.nofit.specs.Filling.{blocked_bit, Written, allowed}
-use Rattle.nofit.proofs.FillingLaws.{written_none, written_next, allowed-word}
-use borrow.Author.Rules.{rules}
 use Rattle.nofit.proofs.patterns.fill_string.Given as goal
 
 abbrev pub invariant-loop-k : goal.invariant-loop-k

@@ -1,7 +1,6 @@
 -- `nofit::patterns::is_blocked` meets its contract. Assumes nothing.
 use native.Mathlib.Omega.{arith}
 use Rattle.nofit.proofs.FillingLaws.{below-bit, dot_bit, past_bit}
-use borrow.Author.Rules.{rules}
 use Rattle.nofit.proofs.patterns.is_blocked.Goals as goal
 
 pub returns-then-z-s : goal.returns-then-z-s

@@ -4,7 +4,6 @@ use Prim.Native.Nat.{◌%◌}
 use native.Mathlib.Omega.{arith}
 use lib.ListN.{get_or}
 use Rattle.words.specs.Bits.{test_bit}
-use borrow.Author.Rules.{rules}
 use Rattle.nofit.proofs.patterns.is_turned.Goals as goal
 
 pub returns : goal.returns

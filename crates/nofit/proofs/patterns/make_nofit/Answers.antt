@@ -1,9 +1,7 @@
 use mathlib.Core.Path.{◌≡◌, subst}
-use Prim.Native.Nat.{◌-◌, ◌≤◌}
 use native.Mathlib.Omega.{arith}
-use lib.ListN.{length}
 use Rattle.model.specs.Format.{content}
-use Rattle.nofit.specs.Patterns.{ParitiesOf, StringsOf}
+use Rattle.nofit.specs.Patterns.{StringsOf}
 use Rattle.nofit.proofs.PairLaws.{some-rows, held-few, strings-none}
 use borrow.Author.Rules.{rules}
 use Rattle.nofit.proofs.patterns.make_nofit.Goals as goal
@@ -18,7 +16,7 @@ loop-i-init c = (omega arith, search rules, c.fill_parities.ensures, strings-non
 
 pub fill_next-requires : goal.fill_next-requires
 fill_next-requires c = record {
-      fillable = (
+  fillable = (
     record {
       viewed = c.requires.viewed.0;
       turned = c.requires.viewed.1;
@@ -28,8 +26,8 @@ fill_next-requires c = record {
     },
     omega arith,
   );
-      parities_of = (c.loop-i.invariant.2, c.loop-i.invariant.3);
-    }
+  parities_of = (c.loop-i.invariant.2, c.loop-i.invariant.3);
+}
 
 pub overflow_add-i : goal.overflow_add-i
 overflow_add-i c = omega (arith, (held-few c.args.job.now c.args.view c.requires.viewed.0 c.args.nofit c.requires.measures_of.0).1)

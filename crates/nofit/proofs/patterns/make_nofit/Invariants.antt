@@ -1,12 +1,9 @@
 -- `nofit::patterns::make_nofit` meets its contract. The invariant: the parities and the strings passed are made. Assumes nothing.
-use mathlib.Core.Path.{◌≡◌, subst}
+use mathlib.Core.Path.{◌≡◌}
 use Prim.Native.Nat.{◌-◌, ◌≤◌}
-use native.Mathlib.Omega.{arith}
 use lib.ListN.{length}
 use Rattle.model.specs.Format.{content}
 use Rattle.nofit.specs.Patterns.{ParitiesOf, StringsOf}
-use Rattle.nofit.proofs.PairLaws.{some-rows, held-few, strings-none}
-use borrow.Author.Rules.{rules}
 use Rattle.nofit.proofs.patterns.make_nofit.Given as goal
 
 abbrev pub invariant-loop-i : goal.invariant-loop-i

@@ -1,6 +1,5 @@
 -- `nofit::patterns::pair_of` meets its contract. Assumes nothing.
 use Rattle.nofit.proofs.PairLaws.{pair_above, pair_below}
-use borrow.Author.Rules.{rules}
 use Rattle.nofit.proofs.patterns.pair_of.Goals as goal
 
 pub returns-then-line-place : goal.returns-then-line-place

@@ -1,13 +1,8 @@
 -- `nofit::patterns::parity_word` meets its contract. The invariant: the bits passed are those of the parities. Assumes nothing.
-use mathlib.Core.Path.{◌≡◌, refl, sym, ap, ◌∙◌}
-use Prim.Native.Nat.{ℕ, ◌+◌, ◌-◌, ◌*◌, ◌/◌, ◌%◌, ◌^◌, ◌≤◌, ◌<◌}
-use native.Mathlib.Nat.{mod-eq_of_lt}
-use native.Mathlib.Omega.{arith}
-use Rattle.words.specs.Bits.{test_bit, bits_where, assigned_bit}
-use Rattle.words.proofs.Bit.{bits_where-none, bits_where-next}
+use mathlib.Core.Path.{◌≡◌}
+use Prim.Native.Nat.{◌+◌, ◌-◌, ◌*◌, ◌/◌, ◌^◌, ◌≤◌, ◌<◌}
+use Rattle.words.specs.Bits.{bits_where}
 use Rattle.nofit.specs.Filling.{dot_of, parity_bits}
-use Rattle.nofit.specs.declared.patterns.Dot.{Dot}
-use borrow.Author.Rules.{rules}
 use Rattle.nofit.proofs.patterns.parity_word.Given as goal
 
 abbrev pub invariant-loop-i : goal.invariant-loop-i

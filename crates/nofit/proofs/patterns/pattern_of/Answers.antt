@@ -1,7 +1,6 @@
 -- `nofit::patterns::pattern_of` meets its contract. Assumes nothing.
 use Prim.Native.Nat.{◌*◌}
 use lib.ListN.{get_or}
-use borrow.Author.Rules.{rules}
 use Rattle.nofit.proofs.patterns.pattern_of.Goals as goal
 
 pub returns : goal.returns

@@ -1,16 +1,15 @@
-use mathlib.Core.Logic.{⊎_elim}
 use mathlib.Core.Path.{◌≡◌, sym, ap, subst, ◌∙◌}
-use Prim.Native.Nat.{◌+◌, ◌-◌, ◌*◌, ◌%◌, ◌^◌, ◌≤◌, ◌<◌}
+use Prim.Native.Nat.{◌+◌, ◌%◌, ◌<◌}
 use native.Mathlib.Omega.{arith}
 use Rattle.words.specs.Bits.{test_bit}
 use Rattle.model.specs.Lists.{concat}
 use Rattle.polygons.specs.Boxes.{extents_of}
 use Rattle.geometry.specs.Pieces.{Standing, parts_in}
 use Rattle.geometry.specs.declared.pieces.Piece.{Piece}
-use Rattle.nofit.specs.Filling.{blocked_bit, Boxed}
+use Rattle.nofit.specs.Filling.{Boxed}
 use Rattle.nofit.proofs.FillingLaws.{TurnsSet, first-set, blocked-turned, turn-as, turns_none, turns_next, turns_skipped, turns_all}
-use borrow.Author.Rules.{rules}
 use Rattle.nofit.proofs.patterns.string_word.Goals as goal
+use Rattle.nofit.proofs.patterns.string_word.Goals.{then-test_bit, else-test_bit}
 
 pub returns-then-word-eq0 : goal.returns-then-word-eq0
 returns-then-word-eq0 c = first-set c.args.turned.now c.args.s c.args.p c.args.r c.args.word c.first_word.result (omega arith) c.requires.0.0.bound c.first_word.ensures
@@ -43,20 +42,24 @@ loop-k-preserved c =
     let mask = e.s.mask in
     let k = c.loop-k.k in
     let m : k % 64 ≡ k = omega arith in
-    ⊎_elim
-    (λ w. (
-      omega arith,
-      omega (arith, w.4, w.3.ok),
-      subst (TurnsSet mask (k + 1) _) (sym w.4)
-          (turns_next mask k _ c.loop-k.v w.3.result c.loop-k.invariant.2
-          (turn-as k 16 _ _ c.loop-k.v w.3.result (λ i q. blocked-turned e.turned.now e.s e.p e.r w.1.result e.word k i w.1.ensures q) w.3.ensures)),
-    ))
-    (λ w. (
-      omega arith,
-      omega (arith, w.1, c.loop-k.invariant.1),
-      subst (TurnsSet mask (k + 1) _) (sym w.1) (turns_skipped mask k _ c.loop-k.v c.loop-k.invariant.2 (ap (test_bit mask) (sym m) ∙ sym c.test_bit.ensures ∙ w.0.left)),
-    ))
-    c.if-test_bit.branch
+    elim c.if-test_bit.branch [
+      | then-test_bit w ↦ (
+        omega arith,
+        omega arith,
+        subst (TurnsSet mask (k + 1) _) (sym w.v-is)
+            (turns_next mask k _ c.loop-k.v w.turn_word-v.result c.loop-k.invariant.2
+            (turn-as k 16 _ _ c.loop-k.v w.turn_word-v.result
+            (λ i q. blocked-turned e.turned.now e.s e.p e.r w.turned_to.result e.word k i w.turned_to.ensures q)
+            w.turn_word-v.ensures)),
+      )
+      | else-test_bit w ↦ (
+        omega arith,
+        omega arith,
+        subst (TurnsSet mask (k + 1) _) (sym w.v-is)
+            (turns_skipped mask k _ c.loop-k.v c.loop-k.invariant.2
+            (ap (test_bit mask) (sym m) ∙ sym c.test_bit.ensures ∙ w.if-test_bit.false)),
+      )
+    ]
 
 pub returns : goal.returns
 returns c = turns_all c.args.s.mask _ c.loop-k.v c.loop-k.k (omega arith) c.loop-k.invariant.2

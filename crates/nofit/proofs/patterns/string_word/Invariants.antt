@@ -1,16 +1,7 @@
 -- `nofit::patterns::string_word` meets its contract. The invariant: the rotations passed have their bits. Assumes nothing.
-use mathlib.Core.Logic.{⊎_elim}
-use mathlib.Core.Path.{◌≡◌, sym, ap, subst, ◌∙◌}
-use Prim.Native.Nat.{◌+◌, ◌-◌, ◌*◌, ◌%◌, ◌^◌, ◌≤◌, ◌<◌}
-use native.Mathlib.Omega.{arith}
-use Rattle.words.specs.Bits.{test_bit}
-use Rattle.model.specs.Lists.{concat}
-use Rattle.polygons.specs.Boxes.{extents_of}
-use Rattle.geometry.specs.Pieces.{Standing, parts_in}
-use Rattle.geometry.specs.declared.pieces.Piece.{Piece}
-use Rattle.nofit.specs.Filling.{blocked_bit, Boxed}
-use Rattle.nofit.proofs.FillingLaws.{TurnsSet, first-set, blocked-turned, turn-as, turns_none, turns_next, turns_skipped, turns_all}
-use borrow.Author.Rules.{rules}
+use Prim.Native.Nat.{◌+◌, ◌-◌, ◌*◌, ◌^◌, ◌≤◌, ◌<◌}
+use Rattle.nofit.specs.Filling.{blocked_bit}
+use Rattle.nofit.proofs.FillingLaws.{TurnsSet}
 use Rattle.nofit.proofs.patterns.string_word.Given as goal
 
 abbrev pub invariant-loop-k : goal.invariant-loop-k

@@ -1,5 +1,5 @@
 use mathlib.Core.Path.{◌≡◌, ap, subst, ◌∙◌}
-use Prim.Native.Nat.{◌+◌, ◌-◌, ◌*◌, ◌%◌, ◌^◌, ◌≤◌, ◌<◌}
+use Prim.Native.Nat.{◌+◌, ◌-◌, ◌*◌, ◌%◌}
 use native.Mathlib.Omega.{arith}
 use Rattle.words.specs.Bits.{assigned_bit}
 use Rattle.nofit.specs.Filling.{dot_of, blocked_at_dot, blocked_turned, TurnSet}
@@ -17,9 +17,9 @@ loop-n-init c =
 
 pub is_blocked-on-requires : goal.is_blocked-on-requires
 is_blocked-on-requires c = record {
-      ready = (c.requires.ready.0.0, c.requires.ready.1);
-      row_lt_rows = row_within c.args.s.rows ((c.args.word - 1) * 16 + c.loop-n.n) c.loop-n.d c.requires.ready.0.0.some c.loop-n.invariant.2;
-    }
+  ready = (c.requires.ready.0.0, c.requires.ready.1);
+  row_lt_rows = row_within c.args.s.rows ((c.args.word - 1) * 16 + c.loop-n.n) c.loop-n.d c.requires.ready.0.0.some c.loop-n.invariant.2;
+}
 
 pub next_dot-d-requires : goal.next_dot-d-requires
 next_dot-d-requires c = ((c.requires.ready.0.0.some, omega arith), c.loop-n.invariant.2)

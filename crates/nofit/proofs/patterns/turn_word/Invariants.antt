@@ -1,11 +1,7 @@
 -- `nofit::patterns::turn_word` meets its contract. The invariant: the dots passed have their bit of this rotation. Assumes nothing.
-use mathlib.Core.Path.{◌≡◌, ap, subst, ◌∙◌}
-use Prim.Native.Nat.{◌+◌, ◌-◌, ◌*◌, ◌%◌, ◌^◌, ◌≤◌, ◌<◌}
-use native.Mathlib.Omega.{arith}
-use Rattle.words.specs.Bits.{assigned_bit}
-use Rattle.nofit.specs.Filling.{dot_of, blocked_at_dot, blocked_turned, TurnSet}
-use Rattle.nofit.proofs.FillingLaws.{row_within, blocked-at, turn-none, turn-next}
-use borrow.Author.Rules.{rules}
+use mathlib.Core.Path.{◌≡◌}
+use Prim.Native.Nat.{◌+◌, ◌-◌, ◌*◌, ◌^◌, ◌≤◌, ◌<◌}
+use Rattle.nofit.specs.Filling.{dot_of, blocked_turned, TurnSet}
 use Rattle.nofit.proofs.patterns.turn_word.Given as goal
 
 abbrev pub invariant-loop-n : goal.invariant-loop-n
