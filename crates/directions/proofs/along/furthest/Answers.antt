@@ -23,26 +23,40 @@ bearing a b = direction (to_z w32 (of_z w32 a)) (to_z w32 (of_z w32 b))
 
 pub loop-k-init : goal.loop-k-init
 loop-k-init c =
-    let start : to_z w64 (of_z w64 c.vertex_along-most.result) ≡ along (bearing c.args.a c.args.b) (vertex_at (part_of c.args.p.now) 0) =
-    to_z-of_z w64 c.vertex_along-most.result (sfits_of c.vertex_along-most.type_inv) ∙ c.vertex_along-most.ensures.value in
-    (omega (arith, c.requires), refl, leading_first (along (bearing c.args.a c.args.b)) (part_of c.args.p.now) _ (omega (arith, c.requires, part_length c.args.p.now)) start)
+    let start : to_z w64 (of_z w64 c.vertex_along-most.result) ≡ along (bearing c.args.a c.args.b)
+    (vertex_at (part_of c.args.p.now) 0) =
+    to_z-of_z w64 c.vertex_along-most.result (sfits_of c.vertex_along-most.type_inv)
+    ∙ c.vertex_along-most.ensures.value in (
+      omega (arith, c.requires),
+      refl,
+      leading_first (along (bearing c.args.a c.args.b)) (part_of c.args.p.now) _
+          (omega (arith, c.requires, part_length c.args.p.now)) start,
+    )
 
 -- the vertex kept and its place, by their locals
-kept : (d : Direction) (P : Part) (k n m : ℕ) (u v : ℤ) → m ≡ n → v ≡ u → Leading (along d) P k n u → Leading (along d) P k m v
-kept d P k n m u v e f l = subst (λ z. Leading (along d) P k z v) (sym e) (subst (λ z. Leading (along d) P k n z) (sym f) l)
+kept : (d : Direction) (P : Part) (k n m : ℕ) (u v : ℤ) → m ≡ n → v ≡ u → Leading (along d) P k n u
+    → Leading (along d) P k m v
+kept d P k n m u v e f l =
+    subst (λ z. Leading (along d) P k z v) (sym e) (subst (λ z. Leading (along d) P k n z) (sym f) l)
 
 pub loop-k-preserved : goal.loop-k-preserved
 loop-k-preserved c =
     let part : Part = part_of c.args.p.now in
     let d : Direction = bearing c.args.a c.args.b in
     let reached : to_z w64 (of_z w64 c.vertex_along-here.result) ≡ along d (vertex_at part c.loop-k.k) =
-    to_z-of_z w64 c.vertex_along-here.result (sfits_of c.vertex_along-here.type_inv) ∙ c.vertex_along-here.ensures.value in
-    let inside : c.loop-k.k < length part = omega (arith, c.loop-k.invariant.1, c.loop-k-test.true, part_length c.args.p.now) in (
+    to_z-of_z w64 c.vertex_along-here.result (sfits_of c.vertex_along-here.type_inv)
+    ∙ c.vertex_along-here.ensures.value in
+    let inside : c.loop-k.k < length part =
+    omega (arith, c.loop-k.invariant.1, c.loop-k-test.true, part_length c.args.p.now) in (
       omega arith,
       refl,
       elim c.if-most-here.branch [
-        | then-most-here w ↦ kept d part _ _ _ _ _ w.best-is w.most-is (leading_new (along d) part c.loop-k.k _ _ _ c.loop-k.invariant.2 inside reached (lt_z_true _ _ w.if-most-here.true))
-        | else-most-here w ↦ kept d part _ _ _ _ _ w.best-is w.most-is (leading_old (along d) part c.loop-k.k _ _ _ c.loop-k.invariant.2 inside reached (lt_z_false _ _ w.if-most-here.false))
+        | then-most-here w ↦ kept d part _ _ _ _ _ w.best-is w.most-is
+            (leading_new (along d) part c.loop-k.k _ _ _ c.loop-k.invariant.2 inside reached
+            (lt_z_true _ _ w.if-most-here.true))
+        | else-most-here w ↦ kept d part _ _ _ _ _ w.best-is w.most-is
+            (leading_old (along d) part c.loop-k.k _ _ _ c.loop-k.invariant.2 inside reached
+            (lt_z_false _ _ w.if-most-here.false))
       ],
     )
 
@@ -50,6 +64,8 @@ pub returns : goal.returns
 returns c =
     let part : Part = part_of c.args.p.now in
     let d : Direction = bearing c.args.a c.args.b in
-    let is_bearing : d ≡ direction c.args.a c.args.b = λ i. direction (to_z-of_z w32 c.args.a c.ranges.a i) (to_z-of_z w32 c.args.b c.ranges.b i) in
+    let is_bearing : d ≡ direction c.args.a c.args.b =
+    λ i. direction (to_z-of_z w32 c.args.a c.ranges.a i) (to_z-of_z w32 c.args.b c.ranges.b i) in
     subst (λ (e : Direction). Furthest part e c.loop-k.best) is_bearing
-    (leading_last d part c.loop-k.k c.loop-k.best _ c.loop-k.invariant.2 (omega (arith, c.loop-k.invariant.1, c.loop-k-test.false, part_length c.args.p.now)))
+    (leading_last d part c.loop-k.k c.loop-k.best _ c.loop-k.invariant.2
+    (omega (arith, c.loop-k.invariant.1, c.loop-k-test.false, part_length c.args.p.now)))

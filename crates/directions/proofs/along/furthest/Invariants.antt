@@ -8,7 +8,8 @@ use Rattle.directions.proofs.Leading.{Leading}
 use Rattle.directions.proofs.along.furthest.Given as goal
 
 abbrev pub invariant-loop-k : goal.invariant-loop-k
-invariant-loop-k l = (l.k ≤ l.n) × (l.n ≡ length l.p / 2) × Leading (along (direction l.a l.b)) (part_of l.p) l.k l.best l.most
+invariant-loop-k l = (l.k ≤ l.n) × (l.n ≡ length l.p / 2)
+    × Leading (along (direction l.a l.b)) (part_of l.p) l.k l.best l.most
 
 abbrev pub decreases-loop-k : goal.decreases-loop-k
 decreases-loop-k l = l.n - l.k

@@ -1,4 +1,5 @@
--- `directions::along::move_along` meets its contract: the dot product of the direction and the move is small. Assumes nothing.
+-- `directions::along::move_along` meets its contract: the dot product of the direction and the move is small. Assumes
+-- nothing.
 use Rattle.model.specs.Geometry.{along}
 use Rattle.directions.proofs.Sizes.{small_at, small-read, dot_small}
 use Rattle.directions.proofs.along.move_along.Goals as goal

@@ -1,4 +1,5 @@
--- `directions::along::vertex_along` meets its contract: the dot product of the direction and the vertex is small. Assumes nothing.
+-- `directions::along::vertex_along` meets its contract: the dot product of the direction and the vertex is small.
+-- Assumes nothing.
 use native.Mathlib.Omega.{arith}
 use borrow.Author.Rules.{sfits_of}
 use lib.IntN.{◌+ℤ◌, ◌*ℤ◌}
@@ -15,5 +16,7 @@ coordinate-requires-2 c = (c.requires, omega arith)
 pub returns : goal.returns
 unfolding along
 returns c =
-    let r = dot_small c.ranges.a c.ranges.b (sfits_of c.coordinate.type_inv) (sfits_of c.coordinate-2.type_inv) c.dot.ensures in
-    small_at (small-read r tt) (small-as (λ i. c.args.a *ℤ c.coordinate.ensures i +ℤ c.args.b *ℤ c.coordinate-2.ensures i) r)
+    let r = dot_small c.ranges.a c.ranges.b (sfits_of c.coordinate.type_inv) (sfits_of c.coordinate-2.type_inv)
+    c.dot.ensures in
+    small_at (small-read r tt) (small-as (λ i. c.args.a *ℤ c.coordinate.ensures i +ℤ c.args.b
+    *ℤ c.coordinate-2.ensures i) r)

@@ -37,10 +37,13 @@ offset x y = vertex (to_z w16 (of_z w16 x)) (to_z w16 (of_z w16 y))
 abbrev held : ℤ → ℤ
 held z = to_z w64 (of_z w64 z)
 
--- the normal (a, b) of the edge of P from vertex k to vertex m, how far vertex k and the move e go along it, and the limit that follows
-module _ (P Q : Part) (e : Vertex) (is_sound : SoundPart P) (k m : ℕ) (h : k < length P) (s : 0 < length Q) (a b x y : ℤ) (fa : SFits w32 a) (fb : SFits w32 b)
+-- the normal (a, b) of the edge of P from vertex k to vertex m, how far vertex k and the move e go along it, and the
+-- limit that follows
+module _ (P Q : Part) (e : Vertex) (is_sound : SoundPart P) (k m : ℕ) (h : k < length P) (s : 0 < length Q)
+    (a b x y : ℤ) (fa : SFits w32 a) (fb : SFits w32 b)
     (em : m ≡ following P k) (ea : a ≡ coordinate_of 1 (vertex_at P m) -ℤ coordinate_of 1 (vertex_at P k))
-    (eb : b ≡ coordinate_of 0 (vertex_at P k) -ℤ coordinate_of 0 (vertex_at P m)) (hx : Small (along (bearing a b) (vertex_at P k)) 47 x)
+    (eb : b ≡ coordinate_of 0 (vertex_at P k) -ℤ coordinate_of 0 (vertex_at P m))
+    (hx : Small (along (bearing a b) (vertex_at P k)) 47 x)
     (hy : Small (along (bearing a b) e) 47 y) where
   -- the numbers that are compared: vertex k, the furthest, the way of the move, and the least of q
   abbrev near : ℤ
@@ -70,25 +73,31 @@ module _ (P Q : Part) (e : Vertex) (is_sound : SoundPart P) (k m : ℕ) (h : k <
 
   -- vertex k lies as far as the furthest, since p is sound
   as_far : far ≡ near
-  as_far = subst (λ (d : Direction). largest_z (map (along d) P) ≡ along d (vertex_at P k)) (sym is_normal) (own_furthest P is_sound k h)
+  as_far = subst (λ (d : Direction). largest_z (map (along d) P) ≡ along d (vertex_at P k)) (sym is_normal)
+      (own_furthest P is_sound k h)
 
   is_limit : limit ≡ near -ℤ way
   is_limit = less_gives hx hy
 
   -- a vertex that lies before the limit refutes it,
-  gives_up : (i : ℕ) (z : ℤ) → i < length Q → z ≡ along (bearing a b) (vertex_at Q i) → le_z limit z ≡ false → separates_moved P Q e (normal_of P k) ≡ false
+  gives_up : (i : ℕ) (z : ℤ) → i < length Q → z ≡ along (bearing a b) (vertex_at Q i) → le_z limit z ≡ false
+      → separates_moved P Q e (normal_of P k) ≡ false
   gives_up i z l g f =
       verdict false
       (refuted near far way low (one_within (along (bearing a b)) P k h)
-      (ap (λ u. le_z u low) (sym is_limit) ∙ one_before (along (bearing a b)) Q limit i l (le_z_false _ _ (ap (le_z limit) (sym g) ∙ f))))
+      (ap (λ u. le_z u low) (sym is_limit)
+      ∙ one_before (along (bearing a b)) Q limit i l (le_z_false _ _ (ap (le_z limit) (sym g) ∙ f))))
 
   -- and where none does it is confirmed
-  separates : ((j : ℕ) → j < length Q → limit ≤ℤ along (bearing a b) (vertex_at Q j)) → separates_moved P Q e (normal_of P k) ≡ true
+  separates : ((j : ℕ) → j < length Q → limit ≤ℤ along (bearing a b) (vertex_at Q j))
+      → separates_moved P Q e (normal_of P k) ≡ true
   separates f =
-      verdict true (confirmed near far way low as_far (ap (λ u. le_z u low) (sym is_limit) ∙ all-beyond (along (bearing a b)) Q limit s f))
+      verdict true (confirmed near far way low as_far
+      (ap (λ u. le_z u low) (sym is_limit) ∙ all-beyond (along (bearing a b)) Q limit s f))
 
 -- one more vertex lies beyond the limit
-further : (d : Direction) (Q : Part) (limit z : ℤ) (i : ℕ) → ((j : ℕ) → j < i → limit ≤ℤ along d (vertex_at Q j)) → z ≡ along d (vertex_at Q i) → le_z limit z ≡ true
+further : (d : Direction) (Q : Part) (limit z : ℤ) (i : ℕ) → ((j : ℕ) → j < i → limit ≤ℤ along d (vertex_at Q j))
+    → z ≡ along d (vertex_at Q i) → le_z limit z ≡ true
     → (j : ℕ) → j < i + 1 → limit ≤ℤ along d (vertex_at Q j)
 further d Q limit z i f g h = below_more _ i f (le_z_true _ _ (ap (le_z limit) (sym g) ∙ h))
 
@@ -100,8 +109,10 @@ loop-i-init c = (omega (arith, c.directions.invariant.1, c.requires.1.corners, p
 pub loop-i-preserved : goal.loop-i-preserved
 loop-i-preserved c = (
   omega arith,
-  further (bearing c.difference-a.result c.difference-b.result) (part_of c.args.q.now) _ _ c.loop-i.i c.loop-i.invariant.1
-      (to_z-of_z w64 c.vertex_along-in-loop-i.result (sfits_of c.vertex_along-in-loop-i.type_inv) ∙ c.vertex_along-in-loop-i.ensures.value)
+  further (bearing c.difference-a.result c.difference-b.result) (part_of c.args.q.now) _ _ c.loop-i.i
+      c.loop-i.invariant.1
+      (to_z-of_z w64 c.vertex_along-in-loop-i.result (sfits_of c.vertex_along-in-loop-i.type_inv)
+      ∙ c.vertex_along-in-loop-i.ensures.value)
       c.loop-i-test.true,
 )
 
@@ -109,18 +120,24 @@ pub directions-preserved : goal.directions-preserved
 directions-preserved c =
     let n = part_length c.args.p.now in
     let m = part_length c.args.q.now in
-    let inside : c.directions.k < length (part_of c.args.p.now) = omega (arith, c.directions.invariant.0, c.directions-test.true) in
+    let inside : c.directions.k < length (part_of c.args.p.now) =
+    omega (arith, c.directions.invariant.0, c.directions-test.true) in
     let some : 0 < length (part_of c.args.q.now) = omega (arith, c.requires.1.corners) in
-    let below : c.loop-i.i < length (part_of c.args.q.now) = omega (arith, c.loop-i.invariant.0, c.directions.invariant.1) in (
+    let below : c.loop-i.i < length (part_of c.args.q.now) =
+    omega (arith, c.loop-i.invariant.0, c.directions.invariant.1) in (
       refl,
       refl,
       omega (arith, c.directions-test.true, c.directions.invariant.0),
       below_more _ _ c.directions.invariant.3
-          (gives_up (part_of c.args.p.now) (part_of c.args.q.now) (offset c.args.dx c.args.dy) c.requires.0 c.directions.k c.next_vertex-m.result inside some
-          c.difference-a.result c.difference-b.result c.vertex_along.result c.move_along.result (sfits_of c.difference-a.type_inv) (sfits_of c.difference-b.type_inv)
-          c.next_vertex-m.ensures.0 c.difference-a.ensures c.difference-b.ensures c.vertex_along.ensures c.move_along.ensures
+          (gives_up (part_of c.args.p.now) (part_of c.args.q.now) (offset c.args.dx c.args.dy) c.requires.0
+          c.directions.k c.next_vertex-m.result inside some
+          c.difference-a.result c.difference-b.result c.vertex_along.result c.move_along.result
+          (sfits_of c.difference-a.type_inv) (sfits_of c.difference-b.type_inv)
+          c.next_vertex-m.ensures.0 c.difference-a.ensures c.difference-b.ensures c.vertex_along.ensures
+          c.move_along.ensures
           c.loop-i.i (held c.vertex_along-in-loop-i.result) below
-          (to_z-of_z w64 c.vertex_along-in-loop-i.result (sfits_of c.vertex_along-in-loop-i.type_inv) ∙ c.vertex_along-in-loop-i.ensures.value)
+          (to_z-of_z w64 c.vertex_along-in-loop-i.result (sfits_of c.vertex_along-in-loop-i.type_inv)
+          ∙ c.vertex_along-in-loop-i.ensures.value)
           c.loop-i-test.false),
     )
 
@@ -137,21 +154,29 @@ returns c =
     ap (λ (e : Vertex). any (separates_moved P Q e) (normals P)) is_offset in
     elim c.directions-test.branch [
       | else-directions-test w ↦
-          le-ltb c.directions.k (length c.args.p.now / 2) (omega (arith, c.directions.invariant.0, w.directions-test.false))
-          ∙ sym (no_normal test P (λ j h. c.directions.invariant.3 j (omega (arith, c.directions.invariant.0, w.directions-test.false))))
+          le-ltb c.directions.k (length c.args.p.now / 2)
+          (omega (arith, c.directions.invariant.0, w.directions-test.false))
+          ∙ sym (no_normal test P (λ j h. c.directions.invariant.3 j
+          (omega (arith, c.directions.invariant.0, w.directions-test.false))))
           ∙ answer
       | then-directions-test+then-loop-i-test+then-i-count w ↦
           let inside : c.directions.k < length P = omega (arith, c.directions.invariant.0, w.directions-test.true) in
           let some : 0 < length Q = omega (arith, c.requires.1.corners) in
-          let all : (j : ℕ) → j < length Q → held (held w.vertex_along.result -ℤ held w.move_along.result) ≤ℤ along (bearing w.difference-a.result w.difference-b.result) (vertex_at Q j) =
+          let all : (j : ℕ) → j < length Q
+          → held (held w.vertex_along.result -ℤ held w.move_along.result) ≤ℤ along
+          (bearing w.difference-a.result w.difference-b.result) (vertex_at Q j) =
           λ j g.
           further (bearing w.difference-a.result w.difference-b.result) Q _ _ w.loop-i.i w.loop-i.invariant.1
-          (to_z-of_z w64 w.vertex_along-in-loop-i.result (sfits_of w.vertex_along-in-loop-i.type_inv) ∙ w.vertex_along-in-loop-i.ensures.value)
+          (to_z-of_z w64 w.vertex_along-in-loop-i.result (sfits_of w.vertex_along-in-loop-i.type_inv)
+          ∙ w.vertex_along-in-loop-i.ensures.value)
           w.loop-i-test.true j (omega (arith, c.directions.invariant.1, w.if-i-count.true)) in
-          lt-ltb c.directions.k (length c.args.p.now / 2) (omega (arith, c.directions.invariant.0, w.directions-test.true))
+          lt-ltb c.directions.k (length c.args.p.now / 2)
+          (omega (arith, c.directions.invariant.0, w.directions-test.true))
           ∙ sym (some-normal test P c.directions.k inside
           (separates P Q (offset c.args.dx c.args.dy) c.requires.0 c.directions.k w.next_vertex-m.result inside some
-          w.difference-a.result w.difference-b.result w.vertex_along.result w.move_along.result (sfits_of w.difference-a.type_inv) (sfits_of w.difference-b.type_inv)
-          w.next_vertex-m.ensures.0 w.difference-a.ensures w.difference-b.ensures w.vertex_along.ensures w.move_along.ensures all))
+          w.difference-a.result w.difference-b.result w.vertex_along.result w.move_along.result
+          (sfits_of w.difference-a.type_inv) (sfits_of w.difference-b.type_inv)
+          w.next_vertex-m.ensures.0 w.difference-a.ensures w.difference-b.ensures w.vertex_along.ensures
+          w.move_along.ensures all))
           ∙ answer
     ]

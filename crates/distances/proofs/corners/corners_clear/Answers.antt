@@ -21,7 +21,14 @@ loop-i-init c = (zero-le, refl, below_none _)
 
 pub moved_clear-requires : goal.moved_clear-requires
 moved_clear-requires c = (
-  (omega (arith, c.loop-i.invariant.1, c.loop-i-test.true), (rw (to_z-of_z w16 c.args.dx c.ranges.dx) c.requires.0.0, rw (to_z-of_z w16 c.args.dy c.ranges.dy) c.requires.0.1)),
+  (
+    omega (arith, c.loop-i.invariant.1, c.loop-i-test.true),
+    (
+      rw (to_z-of_z w16 c.args.dx c.ranges.dx) c.requires.0.0,
+      rw (to_z-of_z w16 c.args.dy c.ranges.dy)
+          c.requires.0.1,
+    ),
+  ),
   c.requires.1,
 )
 
@@ -31,12 +38,22 @@ returns-then-not-moved_clear c =
     let second : Part = part_of c.args.q.now in
     let x : ℤ = to_z w16 (of_z w16 c.args.dx) in
     let y : ℤ = to_z w16 (of_z w16 c.args.dy) in
-    let answer : corners_clear c.args.gap (map (shifted x y) first) second ≡ corners_clear c.args.gap (map (shifted c.args.dx c.args.dy) first) second = (read₂ w16 c.args.dx c.args.dy c.ranges.dx c.ranges.dy (λ x y. corners_clear c.args.gap (map (shifted x y) first) second)) in
-    sym (corner-fails c.args.gap first second x y c.loop-i.i (omega (arith, c.loop-i.invariant.1, c.loop-i-test.true, part_length c.args.p.now)) (sym c.moved_clear.ensures ∙ c.if-not-moved_clear.true))
+    let answer : corners_clear c.args.gap (map (shifted x y) first) second ≡ corners_clear c.args.gap
+    (map (shifted c.args.dx c.args.dy) first) second =
+    (read₂ w16 c.args.dx c.args.dy c.ranges.dx c.ranges.dy
+    (λ x y. corners_clear c.args.gap (map (shifted x y) first) second)) in
+    sym (corner-fails c.args.gap first second x y c.loop-i.i
+    (omega (arith, c.loop-i.invariant.1, c.loop-i-test.true, part_length c.args.p.now))
+    (sym c.moved_clear.ensures ∙ c.if-not-moved_clear.true))
     ∙ answer
 
 pub loop-i-preserved : goal.loop-i-preserved
-loop-i-preserved c = (omega arith, refl, below_more _ _ c.loop-i.invariant.2 (sym c.moved_clear.ensures ∙ c.if-not-moved_clear.false))
+loop-i-preserved c = (
+  omega arith,
+  refl,
+  below_more _ _ c.loop-i.invariant.2
+      (sym c.moved_clear.ensures ∙ c.if-not-moved_clear.false),
+)
 
 pub returns : goal.returns
 returns c =
@@ -44,6 +61,9 @@ returns c =
     let second : Part = part_of c.args.q.now in
     let x : ℤ = to_z w16 (of_z w16 c.args.dx) in
     let y : ℤ = to_z w16 (of_z w16 c.args.dy) in
-    let answer : corners_clear c.args.gap (map (shifted x y) first) second ≡ corners_clear c.args.gap (map (shifted c.args.dx c.args.dy) first) second = (read₂ w16 c.args.dx c.args.dy c.ranges.dx c.ranges.dy (λ x y. corners_clear c.args.gap (map (shifted x y) first) second)) in
+    let answer : corners_clear c.args.gap (map (shifted x y) first) second ≡ corners_clear c.args.gap
+    (map (shifted c.args.dx c.args.dy) first) second =
+    (read₂ w16 c.args.dx c.args.dy c.ranges.dx c.ranges.dy
+    (λ x y. corners_clear c.args.gap (map (shifted x y) first) second)) in
     let n = part_length c.args.p.now in
     sym (corners-all c.args.gap first second x y (λ j h. c.loop-i.invariant.2 j (omega arith))) ∙ answer

@@ -1,4 +1,5 @@
--- `distances::corners::corners_clear` meets its contract: no corner that the loop has passed is too near an edge. Assumes nothing.
+-- `distances::corners::corners_clear` meets its contract: no corner that the loop has passed is too near an edge.
+-- Assumes nothing.
 use mathlib.Core.Bool.{true}
 use mathlib.Core.Path.{◌≡◌}
 use Prim.Native.Nat.{ℕ, ◌-◌, ◌/◌, ◌≤◌, ◌<◌}
@@ -9,7 +10,8 @@ use Rattle.distances.specs.Compact.{corner_clear}
 use Rattle.distances.proofs.corners.corners_clear.Given as goal
 
 abbrev pub invariant-loop-i : goal.invariant-loop-i
-invariant-loop-i l = (l.i ≤ l.n) × (l.n ≡ length l.p / 2) × ((j : ℕ) → j < l.i → corner_clear l.gap (part_of l.q) (shifted l.dx l.dy (vertex_at (part_of l.p) j)) ≡ true)
+invariant-loop-i l = (l.i ≤ l.n) × (l.n ≡ length l.p / 2)
+    × ((j : ℕ) → j < l.i → corner_clear l.gap (part_of l.q) (shifted l.dx l.dy (vertex_at (part_of l.p) j)) ≡ true)
 
 abbrev pub decreases-loop-i : goal.decreases-loop-i
 decreases-loop-i l = l.n - l.i

@@ -1,4 +1,5 @@
--- `distances::corners::edge_near` meets its contract: no difference wraps, and the corner lies as far from the edge's start as the definition says. Assumes nothing.
+-- `distances::corners::edge_near` meets its contract: no difference wraps, and the corner lies as far from the edge's
+-- start as the definition says. Assumes nothing.
 use mathlib.Core.Path.{◌≡◌, sym, ◌∙◌, ap}
 use native.Mathlib.Nat.{le_trans}
 use native.Mathlib.Omega.{arith}
@@ -35,11 +36,13 @@ pub overflow_sub-coordinate : goal.overflow_sub-coordinate
 overflow_sub-coordinate c =
     let from : Vertex = (let part : Part = part_of c.args.q.now in
     vertex_at part c.args.k) in
-    let sx : to_z w16 (of_z w16 c.coordinate-sx.result) ≡ from.x = to_z-of_z w16 _ (sfits_of c.coordinate-sx.type_inv) ∙ c.coordinate-sx.ensures in
+    let sx : to_z w16 (of_z w16 c.coordinate-sx.result) ≡ from.x = to_z-of_z w16 _ (sfits_of c.coordinate-sx.type_inv)
+    ∙ c.coordinate-sx.ensures in
     let to : Vertex = (let part : Part = part_of c.args.q.now in
     vertex_at part (following part c.args.k)) in
     let tx : to_z w16 (of_z w16 c.coordinate.result) ≡ to.x = (let part : Part = part_of c.args.q.now in
-    to_z-of_z w16 _ (sfits_of c.coordinate.type_inv) ∙ c.coordinate.ensures ∙ ap (λ m. (vertex_at part m).x) c.next_vertex-m.ensures.0) in
+    to_z-of_z w16 _ (sfits_of c.coordinate.type_inv) ∙ c.coordinate.ensures
+    ∙ ap (λ m. (vertex_at part m).x) c.next_vertex-m.ensures.0) in
     let from : Vertex = (let part : Part = part_of c.args.q.now in
     vertex_at part c.args.k) in
     let to : Vertex = (let part : Part = part_of c.args.q.now in
@@ -50,11 +53,13 @@ overflow_sub-coordinate c =
     vertex_at part (following part c.args.k)) in
     let from : Vertex = (let part : Part = part_of c.args.q.now in
     vertex_at part c.args.k) in
-    let from_small : Short 4096 from.x from.y = c.requires.1 c.args.k (omega (arith, c.requires.0.0, part_length c.args.q.now)) in
+    let from_small : Short 4096 from.x from.y =
+    c.requires.1 c.args.k (omega (arith, c.requires.0.0, part_length c.args.q.now)) in
     let to : Vertex = (let part : Part = part_of c.args.q.now in
     vertex_at part (following part c.args.k)) in
     let to_small : Short 8192 to.x to.y = (let part : Part = part_of c.args.q.now in
-    let s = c.requires.1 (following part c.args.k) (following-within part c.args.k (omega (arith, c.requires.0.0, part_length c.args.q.now))) in
+    let s = c.requires.1 (following part c.args.k)
+    (following-within part c.args.k (omega (arith, c.requires.0.0, part_length c.args.q.now))) in
     (le_trans s.0 (lit≤ tt), le_trans s.1 (lit≤ tt))) in
     less_fits to.x from.x to_small.0 from_small.0) in
     op_fits tx sx ◌-ℤ◌ a_fits
@@ -66,11 +71,13 @@ pub overflow_sub-coordinate-2 : goal.overflow_sub-coordinate-2
 overflow_sub-coordinate-2 c =
     let from : Vertex = (let part : Part = part_of c.args.q.now in
     vertex_at part c.args.k) in
-    let sy : to_z w16 (of_z w16 c.coordinate-sy.result) ≡ from.y = to_z-of_z w16 _ (sfits_of c.coordinate-sy.type_inv) ∙ c.coordinate-sy.ensures in
+    let sy : to_z w16 (of_z w16 c.coordinate-sy.result) ≡ from.y = to_z-of_z w16 _ (sfits_of c.coordinate-sy.type_inv)
+    ∙ c.coordinate-sy.ensures in
     let to : Vertex = (let part : Part = part_of c.args.q.now in
     vertex_at part (following part c.args.k)) in
     let ty : to_z w16 (of_z w16 c.coordinate-2.result) ≡ to.y = (let part : Part = part_of c.args.q.now in
-    to_z-of_z w16 _ (sfits_of c.coordinate-2.type_inv) ∙ c.coordinate-2.ensures ∙ ap (λ m. (vertex_at part m).y) c.next_vertex-m.ensures.0) in
+    to_z-of_z w16 _ (sfits_of c.coordinate-2.type_inv) ∙ c.coordinate-2.ensures
+    ∙ ap (λ m. (vertex_at part m).y) c.next_vertex-m.ensures.0) in
     let from : Vertex = (let part : Part = part_of c.args.q.now in
     vertex_at part c.args.k) in
     let to : Vertex = (let part : Part = part_of c.args.q.now in
@@ -81,11 +88,13 @@ overflow_sub-coordinate-2 c =
     vertex_at part (following part c.args.k)) in
     let from : Vertex = (let part : Part = part_of c.args.q.now in
     vertex_at part c.args.k) in
-    let from_small : Short 4096 from.x from.y = c.requires.1 c.args.k (omega (arith, c.requires.0.0, part_length c.args.q.now)) in
+    let from_small : Short 4096 from.x from.y =
+    c.requires.1 c.args.k (omega (arith, c.requires.0.0, part_length c.args.q.now)) in
     let to : Vertex = (let part : Part = part_of c.args.q.now in
     vertex_at part (following part c.args.k)) in
     let to_small : Short 8192 to.x to.y = (let part : Part = part_of c.args.q.now in
-    let s = c.requires.1 (following part c.args.k) (following-within part c.args.k (omega (arith, c.requires.0.0, part_length c.args.q.now))) in
+    let s = c.requires.1 (following part c.args.k)
+    (following-within part c.args.k (omega (arith, c.requires.0.0, part_length c.args.q.now))) in
     (le_trans s.0 (lit≤ tt), le_trans s.1 (lit≤ tt))) in
     less_fits to.y from.y to_small.1 from_small.1) in
     op_fits ty sy ◌-ℤ◌ b_fits
@@ -95,14 +104,16 @@ overflow_sub-x c =
     let is_x : to_z w16 (of_z w16 c.args.x) ≡ c.args.x = to_z-of_z w16 c.args.x c.ranges.x in
     let from : Vertex = (let part : Part = part_of c.args.q.now in
     vertex_at part c.args.k) in
-    let sx : to_z w16 (of_z w16 c.coordinate-sx.result) ≡ from.x = to_z-of_z w16 _ (sfits_of c.coordinate-sx.type_inv) ∙ c.coordinate-sx.ensures in
+    let sx : to_z w16 (of_z w16 c.coordinate-sx.result) ≡ from.x = to_z-of_z w16 _ (sfits_of c.coordinate-sx.type_inv)
+    ∙ c.coordinate-sx.ensures in
     let from : Vertex = (let part : Part = part_of c.args.q.now in
     vertex_at part c.args.k) in
     let x_fits : SFits w16 (c.args.x -ℤ from.x) = (let from : Vertex = (let part : Part = part_of c.args.q.now in
     vertex_at part c.args.k) in
     let from : Vertex = (let part : Part = part_of c.args.q.now in
     vertex_at part c.args.k) in
-    let from_small : Short 4096 from.x from.y = c.requires.1 c.args.k (omega (arith, c.requires.0.0, part_length c.args.q.now)) in
+    let from_small : Short 4096 from.x from.y =
+    c.requires.1 c.args.k (omega (arith, c.requires.0.0, part_length c.args.q.now)) in
     less_fits c.args.x from.x c.requires.0.1.0 from_small.0) in
     op_fits is_x sx ◌-ℤ◌ x_fits
 
@@ -111,14 +122,16 @@ overflow_sub-y c =
     let is_y : to_z w16 (of_z w16 c.args.y) ≡ c.args.y = to_z-of_z w16 c.args.y c.ranges.y in
     let from : Vertex = (let part : Part = part_of c.args.q.now in
     vertex_at part c.args.k) in
-    let sy : to_z w16 (of_z w16 c.coordinate-sy.result) ≡ from.y = to_z-of_z w16 _ (sfits_of c.coordinate-sy.type_inv) ∙ c.coordinate-sy.ensures in
+    let sy : to_z w16 (of_z w16 c.coordinate-sy.result) ≡ from.y = to_z-of_z w16 _ (sfits_of c.coordinate-sy.type_inv)
+    ∙ c.coordinate-sy.ensures in
     let from : Vertex = (let part : Part = part_of c.args.q.now in
     vertex_at part c.args.k) in
     let y_fits : SFits w16 (c.args.y -ℤ from.y) = (let from : Vertex = (let part : Part = part_of c.args.q.now in
     vertex_at part c.args.k) in
     let from : Vertex = (let part : Part = part_of c.args.q.now in
     vertex_at part c.args.k) in
-    let from_small : Short 4096 from.x from.y = c.requires.1 c.args.k (omega (arith, c.requires.0.0, part_length c.args.q.now)) in
+    let from_small : Short 4096 from.x from.y =
+    c.requires.1 c.args.k (omega (arith, c.requires.0.0, part_length c.args.q.now)) in
     less_fits c.args.y from.y c.requires.0.1.1 from_small.1) in
     op_fits is_y sy ◌-ℤ◌ y_fits
 
@@ -132,18 +145,22 @@ returns c =
     let is_y : to_z w16 (of_z w16 c.args.y) ≡ c.args.y = to_z-of_z w16 c.args.y c.ranges.y in
     let from : Vertex = (let part : Part = part_of c.args.q.now in
     vertex_at part c.args.k) in
-    let sx : to_z w16 (of_z w16 c.coordinate-sx.result) ≡ from.x = to_z-of_z w16 _ (sfits_of c.coordinate-sx.type_inv) ∙ c.coordinate-sx.ensures in
+    let sx : to_z w16 (of_z w16 c.coordinate-sx.result) ≡ from.x = to_z-of_z w16 _ (sfits_of c.coordinate-sx.type_inv)
+    ∙ c.coordinate-sx.ensures in
     let from : Vertex = (let part : Part = part_of c.args.q.now in
     vertex_at part c.args.k) in
-    let sy : to_z w16 (of_z w16 c.coordinate-sy.result) ≡ from.y = to_z-of_z w16 _ (sfits_of c.coordinate-sy.type_inv) ∙ c.coordinate-sy.ensures in
+    let sy : to_z w16 (of_z w16 c.coordinate-sy.result) ≡ from.y = to_z-of_z w16 _ (sfits_of c.coordinate-sy.type_inv)
+    ∙ c.coordinate-sy.ensures in
     let to : Vertex = (let part : Part = part_of c.args.q.now in
     vertex_at part (following part c.args.k)) in
     let tx : to_z w16 (of_z w16 c.coordinate.result) ≡ to.x = (let part : Part = part_of c.args.q.now in
-    to_z-of_z w16 _ (sfits_of c.coordinate.type_inv) ∙ c.coordinate.ensures ∙ ap (λ m. (vertex_at part m).x) c.next_vertex-m.ensures.0) in
+    to_z-of_z w16 _ (sfits_of c.coordinate.type_inv) ∙ c.coordinate.ensures
+    ∙ ap (λ m. (vertex_at part m).x) c.next_vertex-m.ensures.0) in
     let to : Vertex = (let part : Part = part_of c.args.q.now in
     vertex_at part (following part c.args.k)) in
     let ty : to_z w16 (of_z w16 c.coordinate-2.result) ≡ to.y = (let part : Part = part_of c.args.q.now in
-    to_z-of_z w16 _ (sfits_of c.coordinate-2.type_inv) ∙ c.coordinate-2.ensures ∙ ap (λ m. (vertex_at part m).y) c.next_vertex-m.ensures.0) in
+    to_z-of_z w16 _ (sfits_of c.coordinate-2.type_inv) ∙ c.coordinate-2.ensures
+    ∙ ap (λ m. (vertex_at part m).y) c.next_vertex-m.ensures.0) in
     let from : Vertex = (let part : Part = part_of c.args.q.now in
     vertex_at part c.args.k) in
     let to : Vertex = (let part : Part = part_of c.args.q.now in
@@ -154,11 +171,13 @@ returns c =
     vertex_at part (following part c.args.k)) in
     let from : Vertex = (let part : Part = part_of c.args.q.now in
     vertex_at part c.args.k) in
-    let from_small : Short 4096 from.x from.y = c.requires.1 c.args.k (omega (arith, c.requires.0.0, part_length c.args.q.now)) in
+    let from_small : Short 4096 from.x from.y =
+    c.requires.1 c.args.k (omega (arith, c.requires.0.0, part_length c.args.q.now)) in
     let to : Vertex = (let part : Part = part_of c.args.q.now in
     vertex_at part (following part c.args.k)) in
     let to_small : Short 8192 to.x to.y = (let part : Part = part_of c.args.q.now in
-    let s = c.requires.1 (following part c.args.k) (following-within part c.args.k (omega (arith, c.requires.0.0, part_length c.args.q.now))) in
+    let s = c.requires.1 (following part c.args.k)
+    (following-within part c.args.k (omega (arith, c.requires.0.0, part_length c.args.q.now))) in
     (le_trans s.0 (lit≤ tt), le_trans s.1 (lit≤ tt))) in
     less_fits to.x from.x to_small.0 from_small.0) in
     let from : Vertex = (let part : Part = part_of c.args.q.now in
@@ -171,11 +190,13 @@ returns c =
     vertex_at part (following part c.args.k)) in
     let from : Vertex = (let part : Part = part_of c.args.q.now in
     vertex_at part c.args.k) in
-    let from_small : Short 4096 from.x from.y = c.requires.1 c.args.k (omega (arith, c.requires.0.0, part_length c.args.q.now)) in
+    let from_small : Short 4096 from.x from.y =
+    c.requires.1 c.args.k (omega (arith, c.requires.0.0, part_length c.args.q.now)) in
     let to : Vertex = (let part : Part = part_of c.args.q.now in
     vertex_at part (following part c.args.k)) in
     let to_small : Short 8192 to.x to.y = (let part : Part = part_of c.args.q.now in
-    let s = c.requires.1 (following part c.args.k) (following-within part c.args.k (omega (arith, c.requires.0.0, part_length c.args.q.now))) in
+    let s = c.requires.1 (following part c.args.k)
+    (following-within part c.args.k (omega (arith, c.requires.0.0, part_length c.args.q.now))) in
     (le_trans s.0 (lit≤ tt), le_trans s.1 (lit≤ tt))) in
     less_fits to.y from.y to_small.1 from_small.1) in
     let from : Vertex = (let part : Part = part_of c.args.q.now in
@@ -184,7 +205,8 @@ returns c =
     vertex_at part c.args.k) in
     let from : Vertex = (let part : Part = part_of c.args.q.now in
     vertex_at part c.args.k) in
-    let from_small : Short 4096 from.x from.y = c.requires.1 c.args.k (omega (arith, c.requires.0.0, part_length c.args.q.now)) in
+    let from_small : Short 4096 from.x from.y =
+    c.requires.1 c.args.k (omega (arith, c.requires.0.0, part_length c.args.q.now)) in
     less_fits c.args.x from.x c.requires.0.1.0 from_small.0) in
     let from : Vertex = (let part : Part = part_of c.args.q.now in
     vertex_at part c.args.k) in
@@ -192,7 +214,8 @@ returns c =
     vertex_at part c.args.k) in
     let from : Vertex = (let part : Part = part_of c.args.q.now in
     vertex_at part c.args.k) in
-    let from_small : Short 4096 from.x from.y = c.requires.1 c.args.k (omega (arith, c.requires.0.0, part_length c.args.q.now)) in
+    let from_small : Short 4096 from.x from.y =
+    c.requires.1 c.args.k (omega (arith, c.requires.0.0, part_length c.args.q.now)) in
     less_fits c.args.y from.y c.requires.0.1.1 from_small.1) in
     c.near_edge.ensures
     ∙ (λ i. near_edge c.args.gap origin (vertex (op_gives tx sx ◌-ℤ◌ a_fits i) (op_gives ty sy ◌-ℤ◌ b_fits i))

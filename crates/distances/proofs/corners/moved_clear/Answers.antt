@@ -1,4 +1,5 @@
--- `distances::corners::moved_clear` meets its contract: no sum wraps, and the test is of the moved corner. Assumes nothing.
+-- `distances::corners::moved_clear` meets its contract: no sum wraps, and the test is of the moved corner. Assumes
+-- nothing.
 use mathlib.Core.Path.{◌≡◌, ◌∙◌}
 use native.Mathlib.Omega.{arith}
 use borrow.Author.Rules.{sfits_of}
@@ -21,9 +22,12 @@ coordinate-requires c = (c.requires.0.0, omega arith)
 pub overflow_add-coordinate : goal.overflow_add-coordinate
 overflow_add-coordinate c =
     let corner : Vertex = vertex_at (part_of c.args.p.now) c.args.i in
-    let is_x : to_z w16 (of_z w16 c.coordinate.result) ≡ corner.x = to_z-of_z w16 _ (sfits_of c.coordinate.type_inv) ∙ c.coordinate.ensures in
+    let is_x : to_z w16 (of_z w16 c.coordinate.result) ≡ corner.x = to_z-of_z w16 _ (sfits_of c.coordinate.type_inv)
+    ∙ c.coordinate.ensures in
     let is_dx : to_z w16 (of_z w16 c.args.dx) ≡ c.args.dx = to_z-of_z w16 c.args.dx c.ranges.dx in
-    let across : SFits w16 (corner.x +ℤ c.args.dx) = (let small : Short 4096 corner.x corner.y = c.requires.1.0 c.args.i (omega (arith, c.requires.0.0, part_length c.args.p.now)) in
+    let across : SFits w16 (corner.x +ℤ c.args.dx) =
+    (let small : Short 4096 corner.x corner.y =
+    c.requires.1.0 c.args.i (omega (arith, c.requires.0.0, part_length c.args.p.now)) in
     moved-fits corner.x c.args.dx small.0 c.requires.0.1.0) in
     op_fits is_x is_dx ◌+ℤ◌ across
 
@@ -33,18 +37,24 @@ coordinate-requires-2 c = (c.requires.0.0, omega arith)
 pub overflow_add-coordinate-2 : goal.overflow_add-coordinate-2
 overflow_add-coordinate-2 c =
     let corner : Vertex = vertex_at (part_of c.args.p.now) c.args.i in
-    let is_y : to_z w16 (of_z w16 c.coordinate-2.result) ≡ corner.y = to_z-of_z w16 _ (sfits_of c.coordinate-2.type_inv) ∙ c.coordinate-2.ensures in
+    let is_y : to_z w16 (of_z w16 c.coordinate-2.result) ≡ corner.y =
+    to_z-of_z w16 _ (sfits_of c.coordinate-2.type_inv) ∙ c.coordinate-2.ensures in
     let is_dy : to_z w16 (of_z w16 c.args.dy) ≡ c.args.dy = to_z-of_z w16 c.args.dy c.ranges.dy in
-    let up : SFits w16 (corner.y +ℤ c.args.dy) = (let small : Short 4096 corner.x corner.y = c.requires.1.0 c.args.i (omega (arith, c.requires.0.0, part_length c.args.p.now)) in
+    let up : SFits w16 (corner.y +ℤ c.args.dy) =
+    (let small : Short 4096 corner.x corner.y =
+    c.requires.1.0 c.args.i (omega (arith, c.requires.0.0, part_length c.args.p.now)) in
     moved-fits corner.y c.args.dy small.1 c.requires.0.1.1) in
     op_fits is_y is_dy ◌+ℤ◌ up
 
 pub corner_clear-requires : goal.corner_clear-requires
 corner_clear-requires c =
     let corner : Vertex = vertex_at (part_of c.args.p.now) c.args.i in
-    let small : Short 4096 corner.x corner.y = c.requires.1.0 c.args.i (omega (arith, c.requires.0.0, part_length c.args.p.now)) in
-    let is_x : to_z w16 (of_z w16 c.coordinate.result) ≡ corner.x = to_z-of_z w16 _ (sfits_of c.coordinate.type_inv) ∙ c.coordinate.ensures in
-    let is_y : to_z w16 (of_z w16 c.coordinate-2.result) ≡ corner.y = to_z-of_z w16 _ (sfits_of c.coordinate-2.type_inv) ∙ c.coordinate-2.ensures in
+    let small : Short 4096 corner.x corner.y =
+    c.requires.1.0 c.args.i (omega (arith, c.requires.0.0, part_length c.args.p.now)) in
+    let is_x : to_z w16 (of_z w16 c.coordinate.result) ≡ corner.x = to_z-of_z w16 _ (sfits_of c.coordinate.type_inv)
+    ∙ c.coordinate.ensures in
+    let is_y : to_z w16 (of_z w16 c.coordinate-2.result) ≡ corner.y =
+    to_z-of_z w16 _ (sfits_of c.coordinate-2.type_inv) ∙ c.coordinate-2.ensures in
     let is_dx : to_z w16 (of_z w16 c.args.dx) ≡ c.args.dx = to_z-of_z w16 c.args.dx c.ranges.dx in
     let is_dy : to_z w16 (of_z w16 c.args.dy) ≡ c.args.dy = to_z-of_z w16 c.args.dy c.ranges.dy in
     let across : SFits w16 (corner.x +ℤ c.args.dx) = (moved-fits corner.x c.args.dx small.0 c.requires.0.1.0) in
@@ -59,13 +69,20 @@ corner_clear-requires c =
 pub returns : goal.returns
 returns c =
     let corner : Vertex = vertex_at (part_of c.args.p.now) c.args.i in
-    let is_x : to_z w16 (of_z w16 c.coordinate.result) ≡ corner.x = to_z-of_z w16 _ (sfits_of c.coordinate.type_inv) ∙ c.coordinate.ensures in
-    let is_y : to_z w16 (of_z w16 c.coordinate-2.result) ≡ corner.y = to_z-of_z w16 _ (sfits_of c.coordinate-2.type_inv) ∙ c.coordinate-2.ensures in
+    let is_x : to_z w16 (of_z w16 c.coordinate.result) ≡ corner.x = to_z-of_z w16 _ (sfits_of c.coordinate.type_inv)
+    ∙ c.coordinate.ensures in
+    let is_y : to_z w16 (of_z w16 c.coordinate-2.result) ≡ corner.y =
+    to_z-of_z w16 _ (sfits_of c.coordinate-2.type_inv) ∙ c.coordinate-2.ensures in
     let is_dx : to_z w16 (of_z w16 c.args.dx) ≡ c.args.dx = to_z-of_z w16 c.args.dx c.ranges.dx in
     let is_dy : to_z w16 (of_z w16 c.args.dy) ≡ c.args.dy = to_z-of_z w16 c.args.dy c.ranges.dy in
-    let across : SFits w16 (corner.x +ℤ c.args.dx) = (let small : Short 4096 corner.x corner.y = c.requires.1.0 c.args.i (omega (arith, c.requires.0.0, part_length c.args.p.now)) in
+    let across : SFits w16 (corner.x +ℤ c.args.dx) =
+    (let small : Short 4096 corner.x corner.y =
+    c.requires.1.0 c.args.i (omega (arith, c.requires.0.0, part_length c.args.p.now)) in
     moved-fits corner.x c.args.dx small.0 c.requires.0.1.0) in
-    let up : SFits w16 (corner.y +ℤ c.args.dy) = (let small : Short 4096 corner.x corner.y = c.requires.1.0 c.args.i (omega (arith, c.requires.0.0, part_length c.args.p.now)) in
+    let up : SFits w16 (corner.y +ℤ c.args.dy) =
+    (let small : Short 4096 corner.x corner.y =
+    c.requires.1.0 c.args.i (omega (arith, c.requires.0.0, part_length c.args.p.now)) in
     moved-fits corner.y c.args.dy small.1 c.requires.0.1.1) in
     c.corner_clear.ensures
-    ∙ (λ i. corner_clear c.args.gap (part_of c.args.q.now) (vertex (op_gives is_x is_dx ◌+ℤ◌ across i) (op_gives is_y is_dy ◌+ℤ◌ up i)))
+    ∙ (λ i. corner_clear c.args.gap (part_of c.args.q.now)
+    (vertex (op_gives is_x is_dx ◌+ℤ◌ across i) (op_gives is_y is_dy ◌+ℤ◌ up i)))

@@ -19,5 +19,10 @@ pub returns : goal.returns
 returns c =
     small_at
     (to_z-of_z w64 c.dot.result (sfits_of c.dot.type_inv) ∙ c.dot.ensures
-    ∙ (λ i. cast_gives w32 c.ranges.a tt i *ℤ to_z-of_z w16 c.args.x c.ranges.x i +ℤ cast_gives w32 c.ranges.b tt i *ℤ to_z-of_z w16 c.args.y c.ranges.y i))
-    (record { value = refl; size = along-size c.args.a c.args.b c.args.x c.args.y c.ranges.a c.ranges.b c.ranges.x c.ranges.y })
+    ∙ (λ i. cast_gives w32 c.ranges.a tt i *ℤ to_z-of_z w16 c.args.x c.ranges.x i +ℤ cast_gives w32 c.ranges.b tt i
+    *ℤ to_z-of_z w16 c.args.y c.ranges.y i))
+    (record {
+      value = refl;
+      size =
+          along-size c.args.a c.args.b c.args.x c.args.y c.ranges.a c.ranges.b c.ranges.x c.ranges.y;
+    })

@@ -22,9 +22,13 @@ coordinate-requires c = (c.requires.i_in_bounds.0.1, c.requires.i_in_bounds.1.0)
 pub overflow_add-result : goal.overflow_add-result
 overflow_add-result c =
     let to : ℤ = coordinate_of c.args.c (vertex_at (part_of c.args.q.now) c.args.j) in
-    let is_to : to_z w16 (of_z w16 c.coordinate.result) ≡ to = to_z-of_z w16 _ (sfits_of c.coordinate.type_inv) ∙ c.coordinate.ensures in
+    let is_to : to_z w16 (of_z w16 c.coordinate.result) ≡ to = to_z-of_z w16 _ (sfits_of c.coordinate.type_inv)
+    ∙ c.coordinate.ensures in
     let is_moved : to_z w16 (of_z w16 c.args.moved) ≡ c.args.moved = to_z-of_z w16 c.args.moved c.ranges.moved in
-    let end_fits : SFits w16 (to +ℤ c.args.moved) = (let to_size : nat_abs to ≤ 4096 = coordinate-small c.args.c 4096 (vertex_at (part_of c.args.q.now) c.args.j) (c.requires.compact.1 c.args.j (omega (arith, c.requires.i_in_bounds.0.1, part_length c.args.q.now))) in
+    let end_fits : SFits w16 (to +ℤ c.args.moved) =
+    (let to_size : nat_abs to ≤ 4096 =
+    coordinate-small c.args.c 4096 (vertex_at (part_of c.args.q.now) c.args.j)
+    (c.requires.compact.1 c.args.j (omega (arith, c.requires.i_in_bounds.0.1, part_length c.args.q.now))) in
     moved-fits to c.args.moved to_size c.requires.i_in_bounds.1.1) in
     op_fits is_to is_moved ◌+ℤ◌ end_fits
 
@@ -34,27 +38,47 @@ coordinate-requires-2 c = (c.requires.i_in_bounds.0.0, c.requires.i_in_bounds.1.
 pub overflow_sub-result : goal.overflow_sub-result
 overflow_sub-result c =
     let to : ℤ = coordinate_of c.args.c (vertex_at (part_of c.args.q.now) c.args.j) in
-    let is_to : to_z w16 (of_z w16 c.coordinate.result) ≡ to = to_z-of_z w16 _ (sfits_of c.coordinate.type_inv) ∙ c.coordinate.ensures in
+    let is_to : to_z w16 (of_z w16 c.coordinate.result) ≡ to = to_z-of_z w16 _ (sfits_of c.coordinate.type_inv)
+    ∙ c.coordinate.ensures in
     let from : ℤ = coordinate_of c.args.c (vertex_at (part_of c.args.p.now) c.args.i) in
-    let is_from : to_z w16 (of_z w16 c.coordinate-2.result) ≡ from = to_z-of_z w16 _ (sfits_of c.coordinate-2.type_inv) ∙ c.coordinate-2.ensures in
+    let is_from : to_z w16 (of_z w16 c.coordinate-2.result) ≡ from =
+    to_z-of_z w16 _ (sfits_of c.coordinate-2.type_inv) ∙ c.coordinate-2.ensures in
     let is_moved : to_z w16 (of_z w16 c.args.moved) ≡ c.args.moved = to_z-of_z w16 c.args.moved c.ranges.moved in
-    let end_fits : SFits w16 (to +ℤ c.args.moved) = (let to_size : nat_abs to ≤ 4096 = coordinate-small c.args.c 4096 (vertex_at (part_of c.args.q.now) c.args.j) (c.requires.compact.1 c.args.j (omega (arith, c.requires.i_in_bounds.0.1, part_length c.args.q.now))) in
+    let end_fits : SFits w16 (to +ℤ c.args.moved) =
+    (let to_size : nat_abs to ≤ 4096 =
+    coordinate-small c.args.c 4096 (vertex_at (part_of c.args.q.now) c.args.j)
+    (c.requires.compact.1 c.args.j (omega (arith, c.requires.i_in_bounds.0.1, part_length c.args.q.now))) in
     moved-fits to c.args.moved to_size c.requires.i_in_bounds.1.1) in
-    let way_fits : SFits w16 (to +ℤ c.args.moved -ℤ from) = (let from_size : nat_abs from ≤ 4096 = coordinate-small c.args.c 4096 (vertex_at (part_of c.args.p.now) c.args.i) (c.requires.compact.0 c.args.i (omega (arith, c.requires.i_in_bounds.0.0, part_length c.args.p.now))) in
-    let to_size : nat_abs to ≤ 4096 = coordinate-small c.args.c 4096 (vertex_at (part_of c.args.q.now) c.args.j) (c.requires.compact.1 c.args.j (omega (arith, c.requires.i_in_bounds.0.1, part_length c.args.q.now))) in
+    let way_fits : SFits w16 (to +ℤ c.args.moved -ℤ from) =
+    (let from_size : nat_abs from ≤ 4096 =
+    coordinate-small c.args.c 4096 (vertex_at (part_of c.args.p.now) c.args.i)
+    (c.requires.compact.0 c.args.i (omega (arith, c.requires.i_in_bounds.0.0, part_length c.args.p.now))) in
+    let to_size : nat_abs to ≤ 4096 =
+    coordinate-small c.args.c 4096 (vertex_at (part_of c.args.q.now) c.args.j)
+    (c.requires.compact.1 c.args.j (omega (arith, c.requires.i_in_bounds.0.1, part_length c.args.q.now))) in
     less_fits (to +ℤ c.args.moved) from (moved-size to c.args.moved to_size c.requires.i_in_bounds.1.1) from_size) in
     op_fits (op_gives is_to is_moved ◌+ℤ◌ end_fits) is_from ◌-ℤ◌ way_fits
 
 pub returns : goal.returns
 returns c =
     let to : ℤ = coordinate_of c.args.c (vertex_at (part_of c.args.q.now) c.args.j) in
-    let is_to : to_z w16 (of_z w16 c.coordinate.result) ≡ to = to_z-of_z w16 _ (sfits_of c.coordinate.type_inv) ∙ c.coordinate.ensures in
+    let is_to : to_z w16 (of_z w16 c.coordinate.result) ≡ to = to_z-of_z w16 _ (sfits_of c.coordinate.type_inv)
+    ∙ c.coordinate.ensures in
     let from : ℤ = coordinate_of c.args.c (vertex_at (part_of c.args.p.now) c.args.i) in
-    let is_from : to_z w16 (of_z w16 c.coordinate-2.result) ≡ from = to_z-of_z w16 _ (sfits_of c.coordinate-2.type_inv) ∙ c.coordinate-2.ensures in
+    let is_from : to_z w16 (of_z w16 c.coordinate-2.result) ≡ from =
+    to_z-of_z w16 _ (sfits_of c.coordinate-2.type_inv) ∙ c.coordinate-2.ensures in
     let is_moved : to_z w16 (of_z w16 c.args.moved) ≡ c.args.moved = to_z-of_z w16 c.args.moved c.ranges.moved in
-    let end_fits : SFits w16 (to +ℤ c.args.moved) = (let to_size : nat_abs to ≤ 4096 = coordinate-small c.args.c 4096 (vertex_at (part_of c.args.q.now) c.args.j) (c.requires.compact.1 c.args.j (omega (arith, c.requires.i_in_bounds.0.1, part_length c.args.q.now))) in
+    let end_fits : SFits w16 (to +ℤ c.args.moved) =
+    (let to_size : nat_abs to ≤ 4096 =
+    coordinate-small c.args.c 4096 (vertex_at (part_of c.args.q.now) c.args.j)
+    (c.requires.compact.1 c.args.j (omega (arith, c.requires.i_in_bounds.0.1, part_length c.args.q.now))) in
     moved-fits to c.args.moved to_size c.requires.i_in_bounds.1.1) in
-    let way_fits : SFits w16 (to +ℤ c.args.moved -ℤ from) = (let from_size : nat_abs from ≤ 4096 = coordinate-small c.args.c 4096 (vertex_at (part_of c.args.p.now) c.args.i) (c.requires.compact.0 c.args.i (omega (arith, c.requires.i_in_bounds.0.0, part_length c.args.p.now))) in
-    let to_size : nat_abs to ≤ 4096 = coordinate-small c.args.c 4096 (vertex_at (part_of c.args.q.now) c.args.j) (c.requires.compact.1 c.args.j (omega (arith, c.requires.i_in_bounds.0.1, part_length c.args.q.now))) in
+    let way_fits : SFits w16 (to +ℤ c.args.moved -ℤ from) =
+    (let from_size : nat_abs from ≤ 4096 =
+    coordinate-small c.args.c 4096 (vertex_at (part_of c.args.p.now) c.args.i)
+    (c.requires.compact.0 c.args.i (omega (arith, c.requires.i_in_bounds.0.0, part_length c.args.p.now))) in
+    let to_size : nat_abs to ≤ 4096 =
+    coordinate-small c.args.c 4096 (vertex_at (part_of c.args.q.now) c.args.j)
+    (c.requires.compact.1 c.args.j (omega (arith, c.requires.i_in_bounds.0.1, part_length c.args.q.now))) in
     less_fits (to +ℤ c.args.moved) from (moved-size to c.args.moved to_size c.requires.i_in_bounds.1.1) from_size) in
     op_gives (op_gives is_to is_moved ◌+ℤ◌ end_fits) is_from ◌-ℤ◌ way_fits

@@ -48,8 +48,10 @@ overflow_add-result c =
     size half (omega (arith, c.requires.0.0, part_length c.args.p.now))) in
     moved-fits (at 0) (at half) first_size half_size) in
     let part : Part = part_of c.args.p.now in
-    let is_first : to_z w16 (of_z w16 c.coordinate.result) ≡ coordinate_of c.args.c (vertex_at part 0) = to_z-of_z w16 _ (sfits_of c.coordinate.type_inv) ∙ c.coordinate.ensures in
-    let is_half : to_z w16 (of_z w16 c.coordinate-2.result) ≡ coordinate_of c.args.c (vertex_at part half) = to_z-of_z w16 _ (sfits_of c.coordinate-2.type_inv) ∙ c.coordinate-2.ensures in
+    let is_first : to_z w16 (of_z w16 c.coordinate.result) ≡ coordinate_of c.args.c (vertex_at part 0) =
+    to_z-of_z w16 _ (sfits_of c.coordinate.type_inv) ∙ c.coordinate.ensures in
+    let is_half : to_z w16 (of_z w16 c.coordinate-2.result) ≡ coordinate_of c.args.c (vertex_at part half) =
+    to_z-of_z w16 _ (sfits_of c.coordinate-2.type_inv) ∙ c.coordinate-2.ensures in
     op_fits is_first is_half ◌+ℤ◌ fits
 
 pub returns : goal.returns
@@ -95,6 +97,8 @@ returns c =
     size half (omega (arith, c.requires.0.0, part_length c.args.p.now))) in
     moved-fits (at 0) (at half) first_size half_size) in
     let part : Part = part_of c.args.p.now in
-    let is_first : to_z w16 (of_z w16 c.coordinate.result) ≡ coordinate_of c.args.c (vertex_at part 0) = to_z-of_z w16 _ (sfits_of c.coordinate.type_inv) ∙ c.coordinate.ensures in
-    let is_half : to_z w16 (of_z w16 c.coordinate-2.result) ≡ coordinate_of c.args.c (vertex_at part half) = to_z-of_z w16 _ (sfits_of c.coordinate-2.type_inv) ∙ c.coordinate-2.ensures in
+    let is_first : to_z w16 (of_z w16 c.coordinate.result) ≡ coordinate_of c.args.c (vertex_at part 0) =
+    to_z-of_z w16 _ (sfits_of c.coordinate.type_inv) ∙ c.coordinate.ensures in
+    let is_half : to_z w16 (of_z w16 c.coordinate-2.result) ≡ coordinate_of c.args.c (vertex_at part half) =
+    to_z-of_z w16 _ (sfits_of c.coordinate-2.type_inv) ∙ c.coordinate-2.ensures in
     rw (op_gives is_first is_half ◌+ℤ◌ fits) (moved-size (at 0) (at half) first_size half_size)

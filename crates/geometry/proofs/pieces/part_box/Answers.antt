@@ -10,6 +10,7 @@ use Rattle.geometry.proofs.pieces.part_box.Goals as goal
 pub returns : goal.returns
 returns c =
     let e = c.args in
-    same-box (to_z-of_z w16 _ (sfits_of c.result-1.given)) (to_z-of_z w16 _ (sfits_of c.result-2-1.given)) (to_z-of_z w16 _ (sfits_of c.result-3-1.given))
+    same-box (to_z-of_z w16 _ (sfits_of c.result-1.given)) (to_z-of_z w16 _ (sfits_of c.result-2-1.given))
+    (to_z-of_z w16 _ (sfits_of c.result-3-1.given))
     (to_z-of_z w16 _ (sfits_of c.result-4-1.given))
     ∙ box-window e.table.now e.p e.i c.part_start-at.result c.part_start-at.ensures.0

@@ -17,22 +17,35 @@ use Rattle.shapes.proofs.quarter_turns.put_rotated.Goals as goal
 
 pub rotated_x-requires : goal.rotated_x-requires
 rotated_x-requires c =
-    let bound_x : nat_abs (to_z w16 (of_z w16 c.args.x)) < 32768 = rw (to_z-of_z w16 c.args.x c.ranges.x) c.requires.2 in
-    let bound_y : nat_abs (to_z w16 (of_z w16 c.args.y)) < 32768 = rw (to_z-of_z w16 c.args.y c.ranges.y) c.requires.3 in
+    let bound_x : nat_abs (to_z w16 (of_z w16 c.args.x)) < 32768 =
+    rw (to_z-of_z w16 c.args.x c.ranges.x) c.requires.2 in
+    let bound_y : nat_abs (to_z w16 (of_z w16 c.args.y)) < 32768 =
+    rw (to_z-of_z w16 c.args.y c.ranges.y) c.requires.3 in
     (c.requires.1, bound_x, bound_y)
 
 pub rotated_x-requires-2 : goal.rotated_x-requires-2
 rotated_x-requires-2 c =
-    let bound_x : nat_abs (to_z w16 (of_z w16 c.args.x)) < 32768 = rw (to_z-of_z w16 c.args.x c.ranges.x) c.requires.2 in
-    let bound_y : nat_abs (to_z w16 (of_z w16 c.args.y)) < 32768 = rw (to_z-of_z w16 c.args.y c.ranges.y) c.requires.3 in
+    let bound_x : nat_abs (to_z w16 (of_z w16 c.args.x)) < 32768 =
+    rw (to_z-of_z w16 c.args.x c.ranges.x) c.requires.2 in
+    let bound_y : nat_abs (to_z w16 (of_z w16 c.args.y)) < 32768 =
+    rw (to_z-of_z w16 c.args.y c.ranges.y) c.requires.3 in
     (omega arith, bound_x, bound_y)
 
 pub returns : goal.returns
 unfolding with_vertex
 returns c =
-    let first : to_z w16 (of_z w16 c.rotated_x.result) ≡ (rotated c.args.rotation (vertex c.args.x c.args.y)).x = (let turned : (k : ℕ) → (rotated k (vertex (to_z w16 (of_z w16 c.args.x)) (to_z w16 (of_z w16 c.args.y)))).x ≡ (rotated k (vertex c.args.x c.args.y)).x = λ k. read₂ w16 c.args.x c.args.y c.ranges.x c.ranges.y (λ x y. (rotated k (vertex x y)).x) in
+    let first : to_z w16 (of_z w16 c.rotated_x.result) ≡ (rotated c.args.rotation (vertex c.args.x c.args.y)).x =
+    (let turned : (k : ℕ)
+    → (rotated k (vertex (to_z w16 (of_z w16 c.args.x)) (to_z w16 (of_z w16 c.args.y)))).x ≡ (rotated k
+    (vertex c.args.x c.args.y)).x =
+    λ k. read₂ w16 c.args.x c.args.y c.ranges.x c.ranges.y (λ x y. (rotated k (vertex x y)).x) in
     to_z-of_z w16 c.rotated_x.result (sfits_of c.rotated_x.type_inv) ∙ c.rotated_x.ensures ∙ turned c.args.rotation) in
-    let second : to_z w16 (of_z w16 c.rotated_x-2.result) ≡ (rotated c.args.rotation (vertex c.args.x c.args.y)).y = (let turned : (k : ℕ) → (rotated k (vertex (to_z w16 (of_z w16 c.args.x)) (to_z w16 (of_z w16 c.args.y)))).x ≡ (rotated k (vertex c.args.x c.args.y)).x = λ k. read₂ w16 c.args.x c.args.y c.ranges.x c.ranges.y (λ x y. (rotated k (vertex x y)).x) in
-    to_z-of_z w16 c.rotated_x-2.result (sfits_of c.rotated_x-2.type_inv) ∙ c.rotated_x-2.ensures ∙ turned ((c.args.rotation + 3) % 4)
+    let second : to_z w16 (of_z w16 c.rotated_x-2.result) ≡ (rotated c.args.rotation (vertex c.args.x c.args.y)).y =
+    (let turned : (k : ℕ)
+    → (rotated k (vertex (to_z w16 (of_z w16 c.args.x)) (to_z w16 (of_z w16 c.args.y)))).x ≡ (rotated k
+    (vertex c.args.x c.args.y)).x =
+    λ k. read₂ w16 c.args.x c.args.y c.ranges.x c.ranges.y (λ x y. (rotated k (vertex x y)).x) in
+    to_z-of_z w16 c.rotated_x-2.result (sfits_of c.rotated_x-2.type_inv) ∙ c.rotated_x-2.ensures
+    ∙ turned ((c.args.rotation + 3) % 4)
     ∙ one_turn-less c.args.rotation (vertex c.args.x c.args.y) c.requires.1) in
     λ i. set (set c.args.dst.now c.args.at (first i)) (c.args.at + 1) (second i)

@@ -1,4 +1,5 @@
--- `shapes::quarter_turns::rotated_x` meets its contract: each arm is one number of quarter turns, and the opposite does not wrap. Assumes nothing.
+-- `shapes::quarter_turns::rotated_x` meets its contract: each arm is one number of quarter turns, and the opposite
+-- does not wrap. Assumes nothing.
 use mathlib.Core.Path.{refl, ◌∙◌}
 use native.Mathlib.Omega.{arith}
 use borrow.Author.Rules.{rules}

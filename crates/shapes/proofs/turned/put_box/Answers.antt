@@ -24,5 +24,7 @@ pub returns : goal.returns
 unfolding with_box
 returns c =
     let e = c.struct_told-1.given in
-    λ i. set (set (set (set c.args.turned.now c.args.at (to_z-of_z w16 c.args.e.min_x (sfits_of e.0.1) i)) (c.args.at + 1) (to_z-of_z w16 c.args.e.max_x (sfits_of e.1.0.1) i)) (c.args.at + 2)
-    (to_z-of_z w16 c.args.e.min_y (sfits_of e.1.1.0.1) i)) (c.args.at + 3) (to_z-of_z w16 c.args.e.max_y (sfits_of e.1.1.1.0.1) i)
+    λ i. set (set (set (set c.args.turned.now c.args.at (to_z-of_z w16 c.args.e.min_x (sfits_of e.0.1) i))
+    (c.args.at + 1) (to_z-of_z w16 c.args.e.max_x (sfits_of e.1.0.1) i)) (c.args.at + 2)
+    (to_z-of_z w16 c.args.e.min_y (sfits_of e.1.1.0.1) i)) (c.args.at + 3)
+    (to_z-of_z w16 c.args.e.max_y (sfits_of e.1.1.1.0.1) i)

@@ -27,5 +27,7 @@ loop-kind-preserved c =
 
 pub returns : goal.returns
 returns c =
-    kinds-all _ _ c.loop-kind.kind (content-fit c.args.job.now c.requires.0.accepted (λ i. (c.shared_slice_known-1.given i).fits)) (omega (arith, c.requires.0.view.kinds, c.loop-kind-test.false)) c.loop-kind.invariant.1
+    kinds-all _ _ c.loop-kind.kind (content-fit c.args.job.now c.requires.0.accepted
+    (λ i. (c.shared_slice_known-1.given i).fits)) (omega (arith, c.requires.0.view.kinds, c.loop-kind-test.false))
+    c.loop-kind.invariant.1
     c.loop-kind.invariant.2

@@ -19,37 +19,46 @@ bounds-counts-kind c = omega (arith, few-kinds c.args.job.now c.args.view c.requ
 
 pub loop-i-init : goal.loop-i-init
 loop-i-init c =
-    let k = kind-in c.args.job.now c.args.view c.requires.0.0 c.args.kind c.requires.0.1 in
-    (omega (arith, few-kinds c.args.job.now c.args.view c.requires.0.0, k.parts, k.few_parts), k.parts, omega arith, kind-none _ _ _)
+    let k = kind-in c.args.job.now c.args.view c.requires.0.0 c.args.kind c.requires.0.1 in (
+      omega (arith, few-kinds c.args.job.now c.args.view c.requires.0.0, k.parts, k.few_parts),
+      k.parts,
+      omega arith,
+      kind-none _ _ _,
+    )
 
 pub overflow_add-at-in-loop-i : goal.overflow_add-at-in-loop-i
 overflow_add-at-in-loop-i c =
     let here : PartAt c.args.job.now
     (get_or c.args.view.part_at (c.args.kind * 6 + c.loop-i.i) 0)
-    (get_or (kind_at (content c.args.job.now).kinds c.args.kind).parts c.loop-i.i []) = part_in_lem c.args.job.now c.args.view c.requires.0.0 c.args.kind c.requires.0.1 c.loop-i.i (omega arith) in
+    (get_or (kind_at (content c.args.job.now).kinds c.args.kind).parts c.loop-i.i []) =
+    part_in_lem c.args.job.now c.args.view c.requires.0.0 c.args.kind c.requires.0.1 c.loop-i.i (omega arith) in
     omega (arith, here.inside, c.well_formed)
 
 pub byte-requires : goal.byte-requires
 byte-requires c =
     let here : PartAt c.args.job.now
     (get_or c.args.view.part_at (c.args.kind * 6 + c.loop-i.i) 0)
-    (get_or (kind_at (content c.args.job.now).kinds c.args.kind).parts c.loop-i.i []) = part_in_lem c.args.job.now c.args.view c.requires.0.0 c.args.kind c.requires.0.1 c.loop-i.i (omega arith) in
+    (get_or (kind_at (content c.args.job.now).kinds c.args.kind).parts c.loop-i.i []) =
+    part_in_lem c.args.job.now c.args.view c.requires.0.0 c.args.kind c.requires.0.1 c.loop-i.i (omega arith) in
     omega (arith, here.inside)
 
 pub turn_part-requires : goal.turn_part-requires
 turn_part-requires c =
     let here : PartAt c.args.job.now
     (get_or c.args.view.part_at (c.args.kind * 6 + c.loop-i.i) 0)
-    (get_or (kind_at (content c.args.job.now).kinds c.args.kind).parts c.loop-i.i []) = part_in_lem c.args.job.now c.args.view c.requires.0.0 c.args.kind c.requires.0.1 c.loop-i.i (omega arith) in
+    (get_or (kind_at (content c.args.job.now).kinds c.args.kind).parts c.loop-i.i []) =
+    part_in_lem c.args.job.now c.args.view c.requires.0.0 c.args.kind c.requires.0.1 c.loop-i.i (omega arith) in
     let p = here in
-    let e : c.byte.result ≡ length (get_or (kind_at (content c.args.job.now).kinds c.args.kind).parts c.loop-i.i []) = c.byte.ensures ∙ p.stated in
+    let e : c.byte.result ≡ length (get_or (kind_at (content c.args.job.now).kinds c.args.kind).parts c.loop-i.i []) =
+    c.byte.ensures ∙ p.stated in
     ((omega (arith, p.most), omega arith), (omega (arith, p.inside), c.loop-i.invariant.2))
 
 pub loop-i-preserved : goal.loop-i-preserved
 loop-i-preserved c =
     let here : PartAt c.args.job.now
     (get_or c.args.view.part_at (c.args.kind * 6 + c.loop-i.i) 0)
-    (get_or (kind_at (content c.args.job.now).kinds c.args.kind).parts c.loop-i.i []) = part_in_lem c.args.job.now c.args.view c.requires.0.0 c.args.kind c.requires.0.1 c.loop-i.i (omega arith) in (
+    (get_or (kind_at (content c.args.job.now).kinds c.args.kind).parts c.loop-i.i []) =
+    part_in_lem c.args.job.now c.args.view c.requires.0.0 c.args.kind c.requires.0.1 c.loop-i.i (omega arith) in (
       omega arith,
       c.loop-i.invariant.1,
       search rules,

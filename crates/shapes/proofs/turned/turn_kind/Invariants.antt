@@ -8,7 +8,9 @@ use Rattle.shapes.proofs.TurnLaws.{KindTurnedTo}
 use Rattle.shapes.proofs.turned.turn_kind.Given as goal
 
 abbrev pub invariant-loop-i : goal.invariant-loop-i
-invariant-loop-i l = ((l.kind < 8) × (l.n ≤ 6) × (l.i ≤ l.n)) × (l.n ≡ length (kind_at (content l.job).kinds l.kind).parts) × (length l.turned ≡ 4096) × KindTurnedTo l.job l.kind l.initial.turned l.turned l.i
+invariant-loop-i l = ((l.kind < 8) × (l.n ≤ 6) × (l.i ≤ l.n))
+    × (l.n ≡ length (kind_at (content l.job).kinds l.kind).parts) × (length l.turned ≡ 4096)
+    × KindTurnedTo l.job l.kind l.initial.turned l.turned l.i
 
 abbrev pub decreases-loop-i : goal.decreases-loop-i
 decreases-loop-i l = l.n - l.i

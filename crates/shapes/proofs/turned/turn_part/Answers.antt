@@ -15,7 +15,8 @@ loop-k-preserved c =
     let n : length (vertices c.args.n (drop c.args.from c.args.job.now)) ≡ c.args.n = length-vertices _ _ in (
       omega arith,
       search rules,
-      turned_more (vertices c.args.n (drop c.args.from c.args.job.now)) c.args.q (omega arith) (omega arith) c.args.turned.now c.loop-k.turned _
+      turned_more (vertices c.args.n (drop c.args.from c.args.job.now)) c.args.q (omega arith) (omega arith)
+          c.args.turned.now c.loop-k.turned _
           c.loop-k.k c.loop-k.invariant.1 (omega arith) c.loop-k.invariant.2 c.turn_slot.ensures,
     )
 

@@ -7,7 +7,8 @@ use Rattle.shapes.proofs.TurnLaws.{PlanesTurned}
 use Rattle.shapes.proofs.turned.turn_part.Given as goal
 
 abbrev pub invariant-loop-k : goal.invariant-loop-k
-invariant-loop-k l = (l.k ≤ 4) × (length l.turned ≡ 4096) × PlanesTurned (vertices l.n (drop l.from l.job)) l.q l.initial.turned l.turned l.k
+invariant-loop-k l = (l.k ≤ 4) × (length l.turned ≡ 4096)
+    × PlanesTurned (vertices l.n (drop l.from l.job)) l.q l.initial.turned l.turned l.k
 
 abbrev pub decreases-loop-k : goal.decreases-loop-k
 decreases-loop-k l = 4 - l.k

@@ -1,4 +1,5 @@
--- `shapes::turned::turn_slot` meets its contract: the vertices, and then their box before them, are the part's slot. Assumes nothing.
+-- `shapes::turned::turn_slot` meets its contract: the vertices, and then their box before them, are the part's slot.
+-- Assumes nothing.
 use mathlib.Core.List.{List, map}
 use mathlib.Core.Path.{◌≡◌, sym, ap, ap₂, ◌∙◌}
 use Prim.Native.Nat.{◌+◌, ◌*◌}
@@ -20,8 +21,11 @@ pub returns : goal.returns
 returns c =
     let e = c.args in
     let P : Part = map (rotated e.k) (vertices e.n (drop e.from e.job.now)) in
-    let n : e.n ≡ length P = sym (length-map (vertices e.n (drop e.from e.job.now)) (rotated e.k) ∙ length-vertices e.n (drop e.from e.job.now)) in
+    let n : e.n ≡ length P =
+    sym (length-map (vertices e.n (drop e.from e.job.now)) (rotated e.k)
+    ∙ length-vertices e.n (drop e.from e.job.now)) in
     c.put_box.ensures
     ∙ ap₂ (λ (w : List ℤ) (f : Extents). with_box w e.at f) c.turn_vertices.ensures
-    (c.slot_bounds-e.ensures ∙ ap (λ (w : List ℤ). extents_of (part_of (take (e.n * 2) (drop (e.at + 4) w)))) c.turn_vertices.ensures)
+    (c.slot_bounds-e.ensures
+    ∙ ap (λ (w : List ℤ). extents_of (part_of (take (e.n * 2) (drop (e.at + 4) w)))) c.turn_vertices.ensures)
     ∙ slot-written e.turned.now e.at e.n P n (omega arith)

@@ -20,4 +20,5 @@ unfolding byte_at
 returns c =
     c.put_rotated.ensures
     ∙ ap (λ v. with_vertex c.args.turned.now c.args.to (rotated c.args.k v))
-    (vertex-as_is _ _ _ _ (sfits_of c.signed_byte-x.type_inv) c.signed_byte-x.ensures (sfits_of c.signed_byte-y.type_inv) c.signed_byte-y.ensures)
+    (vertex-as_is _ _ _ _ (sfits_of c.signed_byte-x.type_inv) c.signed_byte-x.ensures
+    (sfits_of c.signed_byte-y.type_inv) c.signed_byte-y.ensures)

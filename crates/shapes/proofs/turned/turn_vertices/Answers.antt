@@ -30,4 +30,5 @@ pub returns : goal.returns
 returns c =
     let e : c.loop-m.m ≡ c.args.n = omega arith in
     c.loop-m.invariant.2
-    ∙ ap (λ n. with_part c.args.turned.now c.args.to (map (rotated c.args.k) (vertices n (drop c.args.from c.args.job.now)))) e
+    ∙ ap (λ n. with_part c.args.turned.now c.args.to
+    (map (rotated c.args.k) (vertices n (drop c.args.from c.args.job.now)))) e

@@ -9,7 +9,8 @@ use Rattle.shapes.specs.Turned.{with_part}
 use Rattle.shapes.proofs.turned.turn_vertices.Given as goal
 
 abbrev pub invariant-loop-m : goal.invariant-loop-m
-invariant-loop-m l = (l.m ≤ l.n) × (length l.turned ≡ length l.initial.turned) × (l.turned ≡ with_part l.initial.turned l.to (map (rotated l.k) (vertices l.m (drop l.from l.job))))
+invariant-loop-m l = (l.m ≤ l.n) × (length l.turned ≡ length l.initial.turned)
+    × (l.turned ≡ with_part l.initial.turned l.to (map (rotated l.k) (vertices l.m (drop l.from l.job))))
 
 abbrev pub decreases-loop-m : goal.decreases-loop-m
 decreases-loop-m l = l.n - l.m
