@@ -1,5 +1,4 @@
 -- `branching::choosing::next_in` meets its contract.
-use borrow.Author.Rules.{rules}
 use native.Mathlib.Omega.{arith}
 use Rattle.branching.proofs.Passing.{next_is_member, member-found, member-none}
 use Rattle.branching.proofs.choosing.next_in.Goals as goal

@@ -15,7 +15,6 @@ use Rattle.stepping.proofs.Slots.{part-rest}
 use Rattle.plans.specs.Planned.{planned}
 use Rattle.branching.specs.Choosing.{NextLive}
 use Rattle.branching.proofs.Passing.{live-none, live-member}
-use borrow.Author.Rules.{rules}
 use Rattle.branching.proofs.choosing.next_live.Goals as goal
 
 pub returns-then-state-extent : goal.returns-then-state-extent
@@ -44,6 +43,7 @@ slice_bounds-next_in-start c =
     omega (arith, room)
 
 pub next_in-requires : goal.next_in-requires
+unfolding slot_of
 next_in-requires c =
     let room : c.set_start-at.result * 8 + c.args.plan.words * 8 ≤ length c.args.work.now = omega (arith, c.set_start-at.ensures.within, c.requires.plan_of.0.words, c.requires.plan_of.2) in
     let kept : Keeps (planned c.args.job.now c.args.plan) (placed_of (planned c.args.job.now c.args.plan) c.args.numbers c.args.level) c.args.state.bound c.args.state.span (get_or c.args.plan.kinds c.args.level 0)
@@ -57,6 +57,7 @@ next_in-requires c =
     }
 
 pub returns : goal.returns
+unfolding slot_of
 returns c =
     let kind_is : get_or c.args.plan.kinds c.args.level 0 ≡ piece_kind (content c.args.job.now).kinds c.args.level = c.requires.plan_of.0.kinds c.args.level c.requires.plan_of.1 in
     let kept : Keeps (planned c.args.job.now c.args.plan) (placed_of (planned c.args.job.now c.args.plan) c.args.numbers c.args.level) c.args.state.bound c.args.state.span (get_or c.args.plan.kinds c.args.level 0)
