@@ -1,14 +1,14 @@
 -- Entries that are candidates, and where they end. Assumes nothing.
 use mathlib.Core.Bool.{Bool, true, false, ◌&&◌}
 use mathlib.Core.List.{List, [], ◌∷◌, map}
-use mathlib.Core.Path.{◌≡◌, refl, sym, ap, ap₂, subst, ◌∙◌}
+use mathlib.Core.Path.{◌≡◌, refl, sym, ap₂, subst, ◌∙◌}
 use mathlib.Core.Logic.{⊎_elim}
 use Prim.Native.Nat.{ℕ, ◌+◌, ◌*◌, ◌≤◌, ◌<◌, max}
 use native.Mathlib.Omega.{arith}
 use borrow.Author.Tests.{ltb-true, lt-ltb, le-ltb}
 use lib.Dec.{ltb}
 use lib.IntN.{ℤ, pos, negsuc, ◌+ℤ◌, ◌-ℤ◌}
-use lib.ListN.{length, get_or, length-map}
+use lib.ListN.{get_or, length-map}
 use lib.Signed.{le_z}
 use Rattle.integers.proofs.Linear.{linear, ◌⊩◌}
 use Rattle.integers.proofs.Order.{le_z_true, ≤ℤ-pos, pos-≤ℤ}
@@ -17,7 +17,7 @@ use Rattle.words.specs.Bits.{test_bit}
 use Rattle.words.proofs.Bit.{test_bit-above}
 use Rattle.words.proofs.Cases.{le_or_lt}
 use Rattle.model.specs.Candidate.{natural}
-use Rattle.model.specs.Layout.{Entry, Layout, no_entry}
+use Rattle.model.specs.Layout.{Entry, no_entry}
 use Rattle.model.specs.Lists.{all, largest, rising, below}
 use Rattle.model.specs.Services.{entry_in}
 use Rattle.model.proofs.Folds.{largest-below-more}

@@ -6,7 +6,6 @@ use Rattle.model.specs.Services.{check_content}
 use Rattle.model.specs.declared.Checked.TheVariants as C
 use Rattle.job.specs.View.{Viewed}
 use Rattle.layouts.proofs.PassingLaws.{check-refused, check-accepted}
-use borrow.Author.Rules.{rules}
 use Rattle.checking.proofs.check.Goals as goal
 
 pub returns-then-refusal-ne0 : goal.returns-then-refusal-ne0

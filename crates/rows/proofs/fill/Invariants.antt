@@ -1,14 +1,11 @@
 -- `rows::fill` meets its contract. Assumes nothing.
 use mathlib.Core.List.{map}
-use mathlib.Core.Path.{◌≡◌, refl, sym, ap, ap₂, ◌∙◌}
-use Prim.Native.Nat.{◌-◌, ◌*◌, ◌≤◌}
-use native.Mathlib.Omega.{arith}
-use borrow.Author.Rules.{rules}
+use mathlib.Core.Path.{◌≡◌}
+use Prim.Native.Nat.{◌-◌, ◌≤◌}
 use lib.ListN.{length}
-use Rattle.words.specs.Number.{with_number, filled}
+use Rattle.words.specs.Number.{filled}
 use Rattle.model.specs.Lists.{below}
 use Rattle.rows.specs.Rows.{word_of}
-use Rattle.rows.proofs.RowLaws.{fill_none, fill_more}
 use Rattle.rows.proofs.fill.Given as goal
 
 abbrev pub invariant-loop-w : goal.invariant-loop-w

@@ -15,7 +15,6 @@ use Rattle.rows.proofs.AnswerLaws.{few-dots, word_count}
 use Rattle.candidates.proofs.PreparedLaws.{bounded, gap_is, offered-is}
 use Rattle.candidates.proofs.ConflictLaws.{candidate-near}
 use Rattle.rows.proofs.RowLaws.{words_are}
-use borrow.Author.Rules.{rules}
 use Rattle.rows.proofs.fill_for.Goals as goal
 
 pub placed_of-a-requires : goal.placed_of-a-requires

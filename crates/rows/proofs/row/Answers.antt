@@ -1,12 +1,11 @@
 -- `rows::row` meets its contract. Assumes nothing.
-use mathlib.Core.Path.{◌≡◌, refl, sym, ap, ◌∙◌}
+use mathlib.Core.Path.{refl, sym, ap, ◌∙◌}
 use Rattle.model.specs.Format.{content}
 use Rattle.model.specs.Problem.{under}
 use Rattle.model.specs.Services.{row_content}
 use Rattle.model.specs.declared.Written.TheVariants as W
 use Rattle.job.specs.View.{Viewed}
 use Rattle.rows.proofs.AnswerLaws.{row-refused, row-accepted}
-use borrow.Author.Rules.{rules}
 use Rattle.rows.proofs.row.Goals as goal
 
 pub returns-then-refusal-ne0 : goal.returns-then-refusal-ne0

@@ -1,12 +1,10 @@
 -- `rows::row_bit` meets its contract. Assumes nothing.
 use mathlib.Core.Bool.{true, ◌&&◌}
 use mathlib.Core.Path.{◌≡◌, sym, ap, subst, ◌∙◌}
-use borrow.Author.Tests.{not-true, not-false}
 use Rattle.candidates.specs.Placements.{offered}
 use Rattle.candidates.specs.Conflicts.{Near, placed_of, conflict_between}
 use Rattle.rows.specs.Rows.{bit_of}
 use Rattle.candidates.proofs.ConflictLaws.{candidate-near}
-use borrow.Author.Rules.{rules}
 use Rattle.rows.proofs.row_bit.Goals as goal
 
 pub returns-then-not-is_candidate : goal.returns-then-not-is_candidate

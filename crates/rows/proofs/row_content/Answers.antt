@@ -1,13 +1,11 @@
 -- `rows::row_content` meets its contract. Assumes nothing.
-use mathlib.Core.Path.{◌≡◌, sym, ap, ◌∙◌}
+use mathlib.Core.Path.{sym, ap, ◌∙◌}
 use native.Mathlib.Omega.{arith}
-use borrow.Author.Tests.{not-true, not-false}
 use Rattle.model.specs.declared.Written.TheVariants as W
 use Rattle.job.specs.View.{problem_of}
 use Rattle.rows.specs.Rows.{RowAsked}
 use Rattle.rows.proofs.AnswerLaws.{few-dots, word_count, kinds-exist, kind-absent, candidate-absent, all-exist, row-absent, row-short, row_written}
 use Rattle.candidates.proofs.PreparedLaws.{bounded, offered-is}
-use borrow.Author.Rules.{rules}
 use Rattle.rows.proofs.row_content.Goals as goal
 
 pub returns-then-kind-view : goal.returns-then-kind-view

@@ -1,12 +1,9 @@
 -- `layouts::admission::all_admitted` meets its contract. Assumes nothing.
-use mathlib.Core.Path.{◌≡◌, ap, ◌∙◌}
-use Prim.Native.Nat.{ℕ, ◌-◌, ◌≤◌}
-use native.Mathlib.Omega.{arith}
-use borrow.Author.Rules.{rules}
+use mathlib.Core.Path.{◌≡◌}
+use Prim.Native.Nat.{◌-◌, ◌≤◌}
 use Rattle.model.specs.Lists.{all}
 use Rattle.layouts.specs.Entries.{entries_in}
 use Rattle.layouts.specs.Passing.{admitted_by}
-use Rattle.layouts.proofs.EntryLaws.{all-entries_none, all-entries_next}
 use Rattle.layouts.proofs.admission.all_admitted.Given as goal
 
 abbrev pub invariant-loop-i : goal.invariant-loop-i

@@ -1,7 +1,6 @@
 -- `layouts::admission::is_admitted` meets its contract. Assumes nothing.
 use Rattle.layouts.specs.Entries.{as_entry}
 use Rattle.layouts.proofs.AdmissionLaws.{refused-kind, known_kind}
-use borrow.Author.Rules.{rules}
 use Rattle.layouts.proofs.admission.is_admitted.Goals as goal
 
 pub returns-then-e-view : goal.returns-then-e-view

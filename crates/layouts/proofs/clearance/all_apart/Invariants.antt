@@ -1,12 +1,9 @@
 -- `layouts::clearance::all_apart` meets its contract. Assumes nothing.
-use mathlib.Core.Path.{◌≡◌, ap, ◌∙◌}
-use Prim.Native.Nat.{ℕ, ◌-◌, ◌≤◌}
-use native.Mathlib.Omega.{arith}
-use borrow.Author.Rules.{rules}
+use mathlib.Core.Path.{◌≡◌}
+use Prim.Native.Nat.{◌-◌, ◌≤◌}
 use Rattle.model.specs.Layout.{apart}
 use Rattle.job.specs.View.{problem_of}
 use Rattle.layouts.specs.Entries.{entries_in}
-use Rattle.layouts.proofs.ClearanceLaws.{apart_none, apart_next}
 use Rattle.layouts.proofs.clearance.all_apart.Given as goal
 
 abbrev pub invariant-loop-k : goal.invariant-loop-k

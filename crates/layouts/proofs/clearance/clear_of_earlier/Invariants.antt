@@ -1,15 +1,12 @@
 -- `layouts::clearance::clear_of_earlier` meets its contract. Assumes nothing.
 use mathlib.Core.Bool.{not}
-use mathlib.Core.Path.{◌≡◌, ap, ap₂, ◌∙◌}
-use Prim.Native.Nat.{ℕ, ◌-◌, ◌≤◌}
-use native.Mathlib.Omega.{arith}
-use borrow.Author.Rules.{rules}
-use Rattle.model.specs.Layout.{Entry, conflict, is_entry}
+use mathlib.Core.Path.{◌≡◌}
+use Prim.Native.Nat.{◌-◌, ◌≤◌}
+use Rattle.model.specs.Layout.{conflict}
 use Rattle.model.specs.Lists.{all}
 use Rattle.model.specs.Services.{entry_in}
 use Rattle.job.specs.View.{problem_of}
 use Rattle.layouts.specs.Entries.{entries_in}
-use Rattle.layouts.proofs.EntryLaws.{all-entries_none, all-entries_next}
 use Rattle.layouts.proofs.clearance.clear_of_earlier.Given as goal
 
 abbrev pub invariant-loop-i : goal.invariant-loop-i

@@ -6,7 +6,6 @@ use Rattle.candidates.proofs.PreparedLaws.{bounded, conflict-is}
 use Rattle.shapes.proofs.PieceLaws.{piece_turnable}
 use Rattle.layouts.specs.Entries.{as_entry}
 use Rattle.layouts.proofs.ClearanceLaws.{of_kind, of_view, turned-once, near}
-use borrow.Author.Rules.{rules}
 use Rattle.layouts.proofs.clearance.in_conflict.Goals as goal
 
 pub piece_of-p-requires : goal.piece_of-p-requires

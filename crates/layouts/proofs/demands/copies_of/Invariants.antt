@@ -1,11 +1,8 @@
 -- `layouts::demands::copies_of` meets its contract. Assumes nothing.
-use mathlib.Core.Path.{◌≡◌, ap, ◌∙◌}
-use Prim.Native.Nat.{ℕ, ◌-◌, ◌≤◌}
-use native.Mathlib.Omega.{arith}
-use borrow.Author.Rules.{rules}
-use Rattle.model.specs.Layout.{Entry, copies}
+use mathlib.Core.Path.{◌≡◌}
+use Prim.Native.Nat.{◌-◌, ◌≤◌}
+use Rattle.model.specs.Layout.{copies}
 use Rattle.layouts.specs.Entries.{entries_in}
-use Rattle.layouts.proofs.EntryLaws.{copies-none, copies-next}
 use Rattle.layouts.proofs.demands.copies_of.Given as goal
 
 abbrev pub invariant-loop-i : goal.invariant-loop-i

@@ -1,13 +1,8 @@
 -- `layouts::demands::demand_met` meets its contract. Assumes nothing.
-use mathlib.Core.Path.{◌≡◌, ap, ◌∙◌}
-use Prim.Native.Nat.{ℕ, ◌-◌, ◌≤◌}
-use native.Mathlib.Omega.{arith}
-use borrow.Author.Rules.{rules}
-use lib.Dec.{eqb}
-use lib.ListN.{get_or}
+use mathlib.Core.Path.{◌≡◌}
+use Prim.Native.Nat.{◌-◌, ◌≤◌}
 use Rattle.model.specs.Lists.{all, below}
-use Rattle.layouts.specs.Passing.{demanded_by, demand_met_by}
-use Rattle.layouts.proofs.EntryLaws.{all_none, all-next}
+use Rattle.layouts.specs.Passing.{demanded_by}
 use Rattle.layouts.proofs.demands.demand_met.Given as goal
 
 abbrev pub invariant-loop-t : goal.invariant-loop-t

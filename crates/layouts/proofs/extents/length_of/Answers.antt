@@ -1,8 +1,7 @@
 use mathlib.Core.List.{map}
 use mathlib.Core.Path.{◌≡◌, ap, ◌∙◌}
-use Prim.Native.Nat.{ℕ, ◌+◌, ◌-◌, ◌≤◌}
+use Prim.Native.Nat.{ℕ, ◌+◌}
 use native.Mathlib.Omega.{arith}
-use borrow.Author.Rules.{rules}
 use Rattle.model.specs.Lists.{largest}
 use Rattle.layouts.specs.Entries.{entries_in}
 use Rattle.layouts.specs.Passing.{admitted_by, extent_by}

@@ -1,13 +1,10 @@
 -- `layouts::extents::length_of` meets its contract. Assumes nothing.
 use mathlib.Core.List.{map}
-use mathlib.Core.Path.{◌≡◌, ap, ◌∙◌}
-use Prim.Native.Nat.{ℕ, ◌+◌, ◌-◌, ◌≤◌}
-use native.Mathlib.Omega.{arith}
-use borrow.Author.Rules.{rules}
+use mathlib.Core.Path.{◌≡◌}
+use Prim.Native.Nat.{◌-◌, ◌≤◌}
 use Rattle.model.specs.Lists.{largest}
 use Rattle.layouts.specs.Entries.{entries_in}
-use Rattle.layouts.specs.Passing.{admitted_by, extent_by}
-use Rattle.layouts.proofs.AdmissionLaws.{entries_at, largest-none, largest-next}
+use Rattle.layouts.specs.Passing.{extent_by}
 use Rattle.layouts.proofs.extents.length_of.Given as goal
 
 abbrev pub invariant-loop-i : goal.invariant-loop-i

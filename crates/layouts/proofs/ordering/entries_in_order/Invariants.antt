@@ -1,10 +1,8 @@
 -- `layouts::ordering::entries_in_order` meets its contract. Assumes nothing.
-use mathlib.Core.Path.{◌≡◌, ap, ap₂, ◌∙◌}
-use Prim.Native.Nat.{ℕ, ◌-◌, ◌≤◌}
-use native.Mathlib.Omega.{arith}
+use mathlib.Core.Path.{◌≡◌}
+use Prim.Native.Nat.{◌-◌, ◌≤◌}
 use Rattle.model.specs.Lists.{all, below}
-use Rattle.layouts.specs.Passing.{in_order_by, ordered_at, ordered_by}
-use Rattle.layouts.proofs.EntryLaws.{all_none, all-next}
+use Rattle.layouts.specs.Passing.{ordered_at}
 use Rattle.layouts.proofs.ordering.entries_in_order.Given as goal
 
 abbrev pub invariant-loop-i : goal.invariant-loop-i

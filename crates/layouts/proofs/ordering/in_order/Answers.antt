@@ -3,7 +3,6 @@ use mathlib.Core.Path.{ap₂, ◌∙◌}
 use lib.Dec.{ltb}
 use Rattle.layouts.specs.Entries.{as_entry}
 use Rattle.layouts.proofs.EntryLaws.{order_within, order_between}
-use borrow.Author.Rules.{rules}
 use Rattle.layouts.proofs.ordering.in_order.Goals as goal
 
 pub returns-then-e-f : goal.returns-then-e-f

@@ -1,7 +1,6 @@
 -- `layouts::ordering::number_of` meets its contract. Assumes nothing.
 use native.Mathlib.Omega.{arith}
 use Rattle.layouts.proofs.EntryLaws.{product_small}
-use borrow.Author.Rules.{rules}
 use Rattle.layouts.proofs.ordering.number_of.Goals as goal
 
 pub overflow_mul-result : goal.overflow_mul-result

@@ -2,13 +2,11 @@
 use mathlib.Core.Bool.{true}
 use mathlib.Core.Path.{◌≡◌, sym, ap, ◌∙◌}
 use native.Mathlib.Omega.{arith}
-use borrow.Author.Tests.{not-true, not-false}
 use Rattle.model.specs.Layout.{passes, layout_length}
 use Rattle.job.specs.View.{problem_of}
 use Rattle.candidates.proofs.PreparedLaws.{bounded}
 use Rattle.layouts.specs.Entries.{entries_in}
 use Rattle.layouts.proofs.PassingLaws.{few-pieces, all-admitted-is, length-is, layout_is, passed-entries, wrong_count, not_passed, passed}
-use borrow.Author.Rules.{rules}
 use Rattle.layouts.proofs.passing.judged.Goals as goal
 
 pub overflow_mul-wanted : goal.overflow_mul-wanted

@@ -2,7 +2,6 @@
 use mathlib.Core.Bool.{◌&&◌}
 use mathlib.Core.Path.{◌≡◌, sym, ap, ap₂, ◌∙◌}
 use native.Mathlib.Omega.{arith}
-use borrow.Author.Tests.{not-true, not-false}
 use Rattle.model.specs.Layout.{is_entry, passes}
 use Rattle.job.specs.View.{problem_of}
 use Rattle.candidates.proofs.PreparedLaws.{bounded}
