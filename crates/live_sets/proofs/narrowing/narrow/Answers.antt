@@ -1,9 +1,7 @@
 use mathlib.Core.Bool.{◌&&◌}
 use mathlib.Core.Path.{◌≡◌, refl, sym, ◌∙◌, subst}
-use Prim.Native.Nat.{ℕ, ◌+◌, ◌-◌, ◌*◌, ◌^◌, ◌≤◌, ◌<◌}
+use Prim.Native.Nat.{ℕ, ◌+◌, ◌*◌}
 use native.Mathlib.Omega.{arith}
-use lib.ListN.{length}
-use Rattle.words.specs.Bytes.{AreBytes}
 use Rattle.words.specs.Sets.{member}
 use Rattle.plans.specs.Planned.{planned}
 use Rattle.live_sets.specs.Narrowing.{stays, Filled}
@@ -28,10 +26,10 @@ overflow_mul-k c = omega (arith, c.requires.narrowable.few, c.loop-k.invariant.0
 
 pub narrow_word-kept-requires : goal.narrow_word-kept-requires
 narrow_word-kept-requires c = record {
-      known = c.requires.known;
-      n_value = (c.requires.narrowable.placed, omega (arith, c.requires.narrowable.within, c.loop-k.invariant.0));
-      bits_admitted = word_admitted (planned c.args.job.now c.args.plan) c.args.t c.args.n c.args.u c.args.from c.args.to c.args.words c.args.work.now c.loop-k.work c.requires.narrowable c.loop-k.k c.loop-k-test.true c.loop-k.invariant.2 c.get_u64-w.result c.get_u64-w.ensures c.loop-k.invariant.1;
-    }
+  known = c.requires.known;
+  n_value = (c.requires.narrowable.placed, omega (arith, c.requires.narrowable.within, c.loop-k.invariant.0));
+  bits_admitted = word_admitted (planned c.args.job.now c.args.plan) c.args.t c.args.n c.args.u c.args.from c.args.to c.args.words c.args.work.now c.loop-k.work c.requires.narrowable c.loop-k.k c.loop-k-test.true c.loop-k.invariant.2 c.get_u64-w.result c.get_u64-w.ensures c.loop-k.invariant.1;
+}
 
 pub overflow_add-to : goal.overflow_add-to
 overflow_add-to c = omega (arith, c.loop-k.invariant.0)
@@ -46,9 +44,8 @@ pub overflow_add-k : goal.overflow_add-k
 overflow_add-k c = omega (arith, c.requires.narrowable.few)
 
 pub loop-k-preserved : goal.loop-k-preserved
-loop-k-preserved c =
-    (
-  (omega arith, c.put_u64.auto.0 ∙ c.loop-k.invariant.0.1, c.loop-k.invariant.0.2),
+loop-k-preserved c = (
+  (omega arith, c.put_u64.auto.s ∙ c.loop-k.invariant.0.1, c.loop-k.invariant.0.2),
   (λ i. (c.slice_known-in-loop-k-1.given i).fits),
   subst (Filled c.args.to (c.loop-k.k + 1) (λ m. member c.args.work.now (c.args.from * 64 + m) && stays (planned c.args.job.now c.args.plan) c.args.t c.args.n c.args.u m) c.args.work.now) (sym c.put_u64.ensures)
       (word_narrowed (planned c.args.job.now c.args.plan) c.args.t c.args.n c.args.u c.args.from c.args.to c.args.words c.args.work.now c.loop-k.work c.requires.narrowable c.loop-k.k c.loop-k-test.true c.loop-k.invariant.2 c.get_u64-w.result c.get_u64-w.ensures c.narrow_word-kept.result c.narrow_word-kept.ensures (search rules) c.loop-k.invariant.0.1),

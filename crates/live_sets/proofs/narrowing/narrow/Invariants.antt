@@ -1,15 +1,12 @@
 -- `live_sets::narrowing::narrow` meets its contract. The invariant: the words passed are made, and nothing else changed.
 use mathlib.Core.Bool.{◌&&◌}
-use mathlib.Core.Path.{◌≡◌, refl, sym, ◌∙◌, subst}
-use Prim.Native.Nat.{ℕ, ◌+◌, ◌-◌, ◌*◌, ◌^◌, ◌≤◌, ◌<◌}
-use native.Mathlib.Omega.{arith}
+use mathlib.Core.Path.{◌≡◌}
+use Prim.Native.Nat.{◌+◌, ◌-◌, ◌*◌, ◌^◌, ◌≤◌, ◌<◌}
 use lib.ListN.{length}
 use Rattle.words.specs.Bytes.{AreBytes}
 use Rattle.words.specs.Sets.{member}
 use Rattle.plans.specs.Planned.{planned}
 use Rattle.live_sets.specs.Narrowing.{stays, Filled}
-use Rattle.live_sets.proofs.Filling.{filled-begin, word_admitted, word_narrowed}
-use borrow.Author.Rules.{rules}
 use Rattle.live_sets.proofs.narrowing.narrow.Given as goal
 
 abbrev pub invariant-loop-k : goal.invariant-loop-k

@@ -22,8 +22,7 @@ holds-requires c =
     (word_kind _ c.args.u c.args.first c.args.w c.ranges.w.fits c.if-w-eq0.false c.requires.bits_admitted)
 
 pub strain_word-requires : goal.strain_word-requires
-strain_word-requires c =
-    (
+strain_word-requires c = (
   known_laid _ _ _ _ _ c.requires.known.0 _ _ _ c.requires.known.1 c.requires.n_value.0 c.args.u c.args.first
       (word_kind _ c.args.u c.args.first c.args.w c.ranges.w.fits c.if-w-eq0.false c.requires.bits_admitted)
       c.requires.n_value.1 (sym (ap (λ (b : Bool). leb c.args.t c.args.u && b) c.holds.ensures) ∙ c.if-t-u.true),
@@ -33,16 +32,16 @@ strain_word-requires c =
 
 -- which candidates stay does not turn on the margin
 pub returns-then-t-u : goal.returns-then-t-u
-returns-then-t-u c =
+returns-then-t-u c i =
     c.strain_word.ensures i
     ∙ ap (λ (b : Bool). test_bit c.args.w i && b) (stays-any-margin 0 c.args.plan.margin (content c.args.job.now) c.args.t c.args.n c.args.u (c.args.first + i))
 
 pub sift_word-requires : goal.sift_word-requires
 sift_word-requires c = record {
-      plan_of = ((c.requires.known.0.plan, c.requires.known.0.table), c.requires.known.1);
-      n_value = (c.requires.n_value.0, omega (arith, c.requires.n_value.1, few_words c.args.job.now c.requires.known.0.plan.accepted));
-      bits_admitted = c.requires.bits_admitted;
-    }
+  plan_of = ((c.requires.known.0.plan, c.requires.known.0.table), c.requires.known.1);
+  n_value = (c.requires.n_value.0, omega (arith, c.requires.n_value.1, few_words c.args.job.now c.requires.known.0.plan.accepted));
+  bits_admitted = c.requires.bits_admitted;
+}
 
 pub returns : goal.returns
 returns c = c.sift_word.ensures

@@ -1,14 +1,12 @@
 use mathlib.Core.Bool.{true}
 use mathlib.Core.Path.{◌≡◌, sym, ap, ◌∙◌, subst}
-use Prim.Native.Nat.{ℕ, ◌+◌, ◌%◌, ◌^◌, ◌<◌}
+use Prim.Native.Nat.{ℕ, ◌%◌, ◌<◌}
 use native.Mathlib.Nat.{mod-eq_of_lt}
 use native.Mathlib.Omega.{arith}
 use borrow.Author.Rules.{rules}
 use Rattle.words.specs.Bits.{test_bit, without_bit, assigned_bit}
 use Rattle.words.proofs.First.{lowest}
-use Rattle.plans.specs.Planned.{planned}
-use Rattle.live_sets.specs.Narrowing.{stays}
-use Rattle.live_sets.proofs.Sifting.{Sifted, sift_begin, sift_end, sift_step, without_smaller}
+use Rattle.live_sets.proofs.Sifting.{sift_begin, sift_end, sift_step, without_smaller}
 use Rattle.live_sets.proofs.narrowing.sift_word.Goals as goal
 
 pub loop-left-init : goal.loop-left-init
@@ -48,7 +46,7 @@ loop-left-preserved c =
     (omega (arith, f.2, e), subst (λ (b : ℕ). test_bit c.loop-left.left b ≡ true) (sym e) f.4)) in
     let bit = low in
     let e : c.lowest_bit-b.result % 64 ≡ c.lowest_bit-b.result = mod-eq_of_lt bit.0 in
-    let p : c.assign_bit-kept.result ≡ assigned_bit c.still_live-stay.result c.loop-left.auto c.lowest_bit-b.result = c.assign_bit-kept.ensures ∙ ap (assigned_bit c.still_live-stay.result c.loop-left.auto) e in
+    let p : c.assign_bit-kept.result ≡ assigned_bit c.still_live-stay.result c.loop-left.kept c.lowest_bit-b.result = c.assign_bit-kept.ensures ∙ ap (assigned_bit c.still_live-stay.result c.loop-left.kept) e in
     let q : c.clear_bit-left.result ≡ without_bit c.loop-left.left c.lowest_bit-b.result = c.clear_bit-left.ensures ∙ ap (without_bit c.loop-left.left) e in
     (search rules, rw (p, q) (sift_step _ _ _ _ c.lowest_bit-b.result c.still_live-stay.result c.loop-left.invariant.1 bit.1 c.still_live-stay.ensures))
 
