@@ -5,7 +5,6 @@ use Prim.Native.Nat.{ℕ, ◌*◌}
 use lib.Dec.{leb}
 use Rattle.words.specs.Sets.{count_members}
 use Rattle.stepping.proofs.Slots.{part-rest}
-use borrow.Author.Rules.{rules}
 use Rattle.lookahead.proofs.settling.has_members.Goals as goal
 
 pub returns : goal.returns

@@ -1,8 +1,7 @@
 use mathlib.Core.Path.{◌≡◌, refl, ◌∙◌}
 use Prim.Native.Nat.{◌-◌, ◌≤◌, ◌<◌}
 use native.Mathlib.Omega.{arith}
-use borrow.Author.Tests.{not-true, not-false}
-use lib.ListN.{length, get_or}
+use lib.ListN.{get_or}
 use Rattle.model.specs.Content.{kind_count}
 use Rattle.model.specs.Format.{content}
 use Rattle.model.proofs.Accepted.{accepted-kinds}
@@ -11,8 +10,7 @@ use Rattle.plans.specs.Planned.{planned}
 use Rattle.stepping.specs.Levels.{piece_kind}
 use Rattle.stepping.proofs.Levels.{piece_kind_lem}
 use Rattle.stepping.proofs.Limits.{few-pieces}
-use Rattle.lookahead.proofs.Making.{Settling, settling_begin, settling_next, settled_all, settled_few, placeable-still}
-use borrow.Author.Rules.{rules}
+use Rattle.lookahead.proofs.Making.{settling_begin, settling_next, settled_all, settled_few, placeable-still}
 use Rattle.lookahead.proofs.settling.settle.Goals as goal
 
 pub overflow_sub-before : goal.overflow_sub-before
@@ -76,7 +74,7 @@ settle_kind-requires c =
     }
 
 pub shape_of-work-then-not-settle_kind : goal.shape_of-work-then-not-settle_kind
-shape_of-work-then-not-settle_kind c = c.settle_kind.auto.1.1.1.1.1.1.1.1.1.1.1.1.1.0 ∙ c.loop-u.invariant.1
+shape_of-work-then-not-settle_kind c = c.settle_kind.auto.work ∙ c.loop-u.invariant.1
 
 pub returns-then-not-settle_kind : goal.returns-then-not-settle_kind
 returns-then-not-settle_kind c =
@@ -86,7 +84,7 @@ returns-then-not-settle_kind c =
 pub loop-u-preserved : goal.loop-u-preserved
 loop-u-preserved c =
     let j = planned c.args.job.now c.args.plan in
-    ((omega (arith, c.loop-u.invariant.0), c.loop-u.invariant.0.1, c.loop-u.invariant.0.2), c.settle_kind.auto.1.1.1.1.1.1.1.1.1.1.1.1.1.0 ∙ c.loop-u.invariant.1, settling_next j _ _ _ _ c.loop-u.u c.args.work.now c.loop-u.work _ c.settle_kind.result c.if-not-settle_kind.false c.requires.placeable.spans.within c.loop-u.invariant.2 c.settle_kind.ensures)
+    ((omega (arith, c.loop-u.invariant.0), c.loop-u.invariant.0.1, c.loop-u.invariant.0.2), c.settle_kind.auto.work ∙ c.loop-u.invariant.1, settling_next j _ _ _ _ c.loop-u.u c.args.work.now c.loop-u.work _ c.settle_kind.result c.if-not-settle_kind.false c.requires.placeable.spans.within c.loop-u.invariant.2 c.settle_kind.ensures)
 
 pub returns : goal.returns
 returns c =
