@@ -1,12 +1,12 @@
 -- The live sets once the bound falls: word by word, set by set, and what that leaves of them.
-use mathlib.Core.Bool.{Bool, true, ◌&&◌}
+use mathlib.Core.Bool.{Bool, ◌&&◌}
 use mathlib.Core.List.{List}
 use mathlib.Core.Logic.{◌⊎◌, inl, inr}
-use mathlib.Core.Path.{◌≡◌, refl, sym, ap, ap₂, ◌∙◌, subst}
+use mathlib.Core.Path.{◌≡◌, refl, sym, ap, ap₂, ◌∙◌}
 use Prim.Native.Nat.{ℕ, suc, ◌+◌, ◌*◌, ◌-◌, ◌/◌, ◌%◌, ◌^◌, ◌≤◌, ◌<◌}
 use native.Mathlib.Nat.{suc-mul, mul-le-mul, mul-le-mul_right, div-lt_iff_lt-mul, mod-lt, mod-eq_of_lt, div-eq_of_lt, div-add-mod', mul-add-div_right, mul-add-mod_self_right}
 use native.Mathlib.Omega.{arith}
-use lib.ListN.{length, drop}
+use lib.ListN.{length}
 use Rattle.words.specs.Bits.{test_bit}
 use Rattle.words.specs.Bytes.{AreBytes}
 use Rattle.words.specs.Number.{number_at, with_number}
@@ -22,7 +22,7 @@ use Rattle.model.specs.Services.{work_words}
 use Rattle.model.proofs.Accepted.{accepted-sensible}
 use Rattle.stepping.specs.Levels.{pieces_from}
 use Rattle.stepping.specs.Slots.{set_start}
-use Rattle.stepping.proofs.Limits.{few_words, few-work}
+use Rattle.stepping.proofs.Limits.{few-work}
 use Rattle.stepping.proofs.Slots.{start_fits}
 use Rattle.plans.specs.Planned.{PlanOf, planned}
 use Rattle.plans.specs.declared.plan.Plan.{Plan}

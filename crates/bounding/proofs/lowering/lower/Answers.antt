@@ -1,16 +1,12 @@
 -- `bounding::lowering::lower` meets its contract.
-use mathlib.Core.Path.{◌≡◌}
-use Prim.Native.Nat.{◌*◌}
 use native.Mathlib.Omega.{arith}
-use lib.ListN.{length}
-use borrow.Author.Rules.{rules}
 use Rattle.bounding.proofs.lowering.lower.Goals as goal
 
 pub trim-requires : goal.trim-requires
 trim-requires c = c.requires
 
 pub shrink-requires : goal.shrink-requires
-shrink-requires c = (c.requires.plan_of.0, c.requires.plan_of.1, omega (arith, c.trim.auto.1.1.1.1.0, c.requires.plan_in_bounds.0))
+shrink-requires c = (c.requires.plan_of.0, c.requires.plan_of.1, omega (arith, c.trim.auto.work, c.requires.plan_in_bounds.0))
 
 pub returns : goal.returns
 returns c = record { trimmed = c.trim.ensures; shrunk = rw (c.requires.plan_of.0.types, c.requires.plan_of.0.words) at c.shrink.ensures }

@@ -1,12 +1,6 @@
-use mathlib.Core.Bool.{true, false}
-use mathlib.Core.Path.{◌≡◌, refl, sym, ◌∙◌}
-use Prim.Native.Nat.{ℕ, ◌+◌, ◌-◌, ◌*◌, ◌≤◌, ◌<◌}
-use native.Mathlib.Nat.{mul-le-mul, mul-le-mul_right}
+use mathlib.Core.Path.{refl, sym, ◌∙◌}
 use native.Mathlib.Omega.{arith}
 use borrow.Author.Count.{below_more}
-use borrow.Author.Rules.{rules}
-use lib.ListN.{length}
-use Rattle.words.specs.Number.{number_at}
 use Rattle.model.proofs.Lists.{not_both}
 use Rattle.plans.proofs.PlanLaws.{kinds-few}
 use Rattle.bounding.proofs.Bounds.{word_fits}
@@ -28,7 +22,7 @@ pub get_u64-requires : goal.get_u64-requires
 get_u64-requires c = (c.loop-u.invariant.1 c.loop-u.u c.loop-u-test.true).0
 
 pub returns-then-get_u64-ne0 : goal.returns-then-get_u64-ne0
-returns-then-get_u64-ne0 c = absurd (not_both e refl)
+returns-then-get_u64-ne0 c e = absurd (not_both e refl)
 
 pub overflow_add-u-in-loop-u : goal.overflow_add-u-in-loop-u
 overflow_add-u-in-loop-u c = omega (arith, c.loop-u.invariant.0)
@@ -40,4 +34,4 @@ pub loop-u-preserved : goal.loop-u-preserved
 loop-u-preserved c = ((omega (arith, c.loop-u-test.true), c.loop-u.invariant.0.1), c.loop-u.invariant.1, below_more _ c.loop-u.u c.loop-u.invariant.2 (sym c.get_u64.ensures ∙ c.if-get_u64-ne0.false))
 
 pub returns : goal.returns
-returns c = c.loop-u.invariant.2 u (omega (arith, c.loop-u-test.false))
+returns c e u h = c.loop-u.invariant.2 u (omega (arith, c.loop-u-test.false))

@@ -1,16 +1,8 @@
 -- `bounding::shrinking::is_clear` meets its contract. The invariant: the words of the kinds passed are zero.
-use mathlib.Core.Bool.{true, false}
-use mathlib.Core.Path.{◌≡◌, refl, sym, ◌∙◌}
+use mathlib.Core.Path.{◌≡◌}
 use Prim.Native.Nat.{ℕ, ◌+◌, ◌-◌, ◌*◌, ◌≤◌, ◌<◌}
-use native.Mathlib.Nat.{mul-le-mul, mul-le-mul_right}
-use native.Mathlib.Omega.{arith}
-use borrow.Author.Count.{below_more}
-use borrow.Author.Rules.{rules}
 use lib.ListN.{length}
 use Rattle.words.specs.Number.{number_at}
-use Rattle.model.proofs.Lists.{not_both}
-use Rattle.plans.proofs.PlanLaws.{kinds-few}
-use Rattle.bounding.proofs.Bounds.{word_fits}
 use Rattle.bounding.proofs.shrinking.is_clear.Given as goal
 
 abbrev pub invariant-loop-u : goal.invariant-loop-u

@@ -1,9 +1,4 @@
-use mathlib.Core.Path.{◌≡◌}
-use Prim.Native.Nat.{ℕ, ◌+◌, ◌-◌, ◌*◌, ◌≤◌, ◌<◌}
 use native.Mathlib.Omega.{arith}
-use borrow.Author.Rules.{rules}
-use borrow.Author.Tests.{not-false}
-use Rattle.bounding.specs.Trimmed.{Shrunk}
 use Rattle.bounding.proofs.Bounds.{shrunk-none, shrunk-more}
 use Rattle.bounding.proofs.shrinking.shrink.Goals as goal
 

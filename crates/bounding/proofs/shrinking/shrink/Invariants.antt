@@ -1,11 +1,5 @@
 -- `bounding::shrinking::shrink` meets its contract. The invariant: the words behind those left are zero.
-use mathlib.Core.Path.{◌≡◌}
-use Prim.Native.Nat.{ℕ, ◌+◌, ◌-◌, ◌*◌, ◌≤◌, ◌<◌}
-use native.Mathlib.Omega.{arith}
-use borrow.Author.Rules.{rules}
-use borrow.Author.Tests.{not-false}
 use Rattle.bounding.specs.Trimmed.{Shrunk}
-use Rattle.bounding.proofs.Bounds.{shrunk-none, shrunk-more}
 use Rattle.bounding.proofs.shrinking.shrink.Given as goal
 
 abbrev pub invariant-loop-left : goal.invariant-loop-left

@@ -1,9 +1,7 @@
 use mathlib.Core.Path.{◌≡◌, refl, ap₂, ◌∙◌, subst}
-use Prim.Native.Nat.{ℕ, ◌+◌, ◌-◌, ◌*◌, ◌≤◌, ◌<◌}
+use Prim.Native.Nat.{ℕ, ◌*◌, ◌≤◌, ◌<◌}
 use native.Mathlib.Nat.{mul-le-mul}
 use native.Mathlib.Omega.{arith}
-use lib.ListN.{length}
-use borrow.Author.Rules.{rules}
 use Rattle.model.specs.Content.{kind_count, piece_count}
 use Rattle.model.specs.Format.{content}
 use Rattle.plans.proofs.PlanLaws.{kinds-few}
@@ -42,7 +40,7 @@ loop-i-smaller c = omega (arith, c.loop-i-test.true)
 pub loop-i-preserved : goal.loop-i-preserved
 loop-i-preserved c =
     let h : c.loop-i.i < piece_count (content c.args.job.now).kinds * kind_count (content c.args.job.now).kinds = omega (arith, c.loop-i.invariant.0, c.loop-i-test.true) in
-    ((omega (arith, c.loop-i-test.true), c.loop-i.invariant.0.1, c.loop-i.invariant.0.2), c.trim_next.auto.1.1.1.1.1.0 ∙ c.loop-i.invariant.1, trimmed-more (planned c.args.job.now c.args.plan) c.loop-i.i h c.args.bound c.args.span c.requires.plan_of.1 c.args.work.now c.loop-i.work c.loop-i.invariant.2 _ c.trim_next.ensures)
+    ((omega (arith, c.loop-i-test.true), c.loop-i.invariant.0.1, c.loop-i.invariant.0.2), c.trim_next.auto.work ∙ c.loop-i.invariant.1, trimmed-more (planned c.args.job.now c.args.plan) c.loop-i.i h c.args.bound c.args.span c.requires.plan_of.1 c.args.work.now c.loop-i.work c.loop-i.invariant.2 _ c.trim_next.ensures)
 
 pub shape_of-work : goal.shape_of-work
 shape_of-work c = c.loop-i.invariant.1

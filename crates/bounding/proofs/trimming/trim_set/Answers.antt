@@ -1,9 +1,7 @@
 use mathlib.Core.Bool.{◌&&◌}
 use mathlib.Core.Path.{◌≡◌, refl, sym, ◌∙◌, subst}
-use Prim.Native.Nat.{ℕ, ◌+◌, ◌-◌, ◌*◌, ◌^◌, ◌≤◌, ◌<◌}
+use Prim.Native.Nat.{ℕ, ◌+◌, ◌*◌}
 use native.Mathlib.Omega.{arith}
-use lib.ListN.{length}
-use Rattle.words.specs.Bytes.{AreBytes}
 use Rattle.words.specs.Sets.{member}
 use Rattle.plans.specs.Planned.{planned}
 use Rattle.live_sets.specs.Narrowing.{Filled}
@@ -35,8 +33,7 @@ pub overflow_mul-k : goal.overflow_mul-k
 overflow_mul-k c = omega (arith, c.requires.1.few, c.loop-k.invariant.0)
 
 pub trim_word-requires : goal.trim_word-requires
-trim_word-requires c =
-    (
+trim_word-requires c = (
   c.requires.0,
   omega (arith, c.requires.1.few, c.loop-k.invariant.0),
   word_admitted (planned c.args.job.now c.args.plan) c.args.bound c.args.u c.args.at c.args.words c.args.work.now c.loop-k.work c.requires.1 c.loop-k.k c.loop-k-test.true c.loop-k.invariant.2 c.get_u64-w.result c.get_u64-w.ensures c.loop-k.invariant.1,
@@ -49,9 +46,8 @@ pub overflow_add-k : goal.overflow_add-k
 overflow_add-k c = omega (arith, c.requires.1.few)
 
 pub loop-k-preserved : goal.loop-k-preserved
-loop-k-preserved c =
-    (
-  (omega arith, c.put_u64.auto.0 ∙ c.loop-k.invariant.0.1, c.loop-k.invariant.0.2),
+loop-k-preserved c = (
+  (omega arith, c.put_u64.auto.s ∙ c.loop-k.invariant.0.1, c.loop-k.invariant.0.2),
   (λ i. (c.slice_known-in-loop-k-1.given i).fits),
   subst (Filled c.args.at (c.loop-k.k + 1) (λ m. member c.args.work.now (c.args.at * 64 + m) && ends_below (planned c.args.job.now c.args.plan) c.args.bound c.args.u m) c.args.work.now) (sym c.put_u64.ensures)
       (word_trimmed (planned c.args.job.now c.args.plan) c.args.bound c.args.u c.args.at c.args.words c.args.work.now c.loop-k.work c.requires.1 c.loop-k.k c.loop-k-test.true c.loop-k.invariant.2 c.get_u64-w.result c.get_u64-w.ensures c.trim_word.result c.trim_word.ensures (search rules) c.loop-k.invariant.0.1),

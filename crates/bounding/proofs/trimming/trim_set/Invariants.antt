@@ -1,17 +1,13 @@
 -- `bounding::trimming::trim_set` meets its contract. The invariant: the words passed are trimmed, and nothing else changed.
 use mathlib.Core.Bool.{◌&&◌}
-use mathlib.Core.Path.{◌≡◌, refl, sym, ◌∙◌, subst}
-use Prim.Native.Nat.{ℕ, ◌+◌, ◌-◌, ◌*◌, ◌^◌, ◌≤◌, ◌<◌}
-use native.Mathlib.Omega.{arith}
+use mathlib.Core.Path.{◌≡◌}
+use Prim.Native.Nat.{◌+◌, ◌-◌, ◌*◌, ◌^◌, ◌≤◌, ◌<◌}
 use lib.ListN.{length}
 use Rattle.words.specs.Bytes.{AreBytes}
 use Rattle.words.specs.Sets.{member}
 use Rattle.plans.specs.Planned.{planned}
 use Rattle.live_sets.specs.Narrowing.{Filled}
-use Rattle.live_sets.proofs.Filling.{filled-begin}
 use Rattle.bounding.specs.Trimmed.{ends_below}
-use Rattle.bounding.proofs.Bounds.{word_admitted, word_trimmed}
-use borrow.Author.Rules.{rules}
 use Rattle.bounding.proofs.trimming.trim_set.Given as goal
 
 abbrev pub invariant-loop-k : goal.invariant-loop-k

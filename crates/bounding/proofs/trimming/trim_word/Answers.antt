@@ -1,15 +1,13 @@
 use mathlib.Core.Bool.{true}
 use mathlib.Core.Path.{◌≡◌, sym, ap, ◌∙◌, subst}
-use Prim.Native.Nat.{ℕ, ◌+◌, ◌%◌, ◌^◌, ◌<◌}
+use Prim.Native.Nat.{ℕ, ◌%◌, ◌<◌}
 use native.Mathlib.Nat.{mod-eq_of_lt}
 use native.Mathlib.Omega.{arith}
 use lib.Dec.{ltb}
 use borrow.Author.Rules.{rules}
 use Rattle.words.specs.Bits.{test_bit, without_bit, assigned_bit}
 use Rattle.words.proofs.First.{lowest}
-use Rattle.plans.specs.Planned.{planned}
-use Rattle.live_sets.proofs.Sifting.{Sifted, sift_begin, sift_end, sift_step, without_smaller}
-use Rattle.bounding.specs.Trimmed.{ends_below}
+use Rattle.live_sets.proofs.Sifting.{sift_begin, sift_end, sift_step, without_smaller}
 use Rattle.bounding.proofs.trimming.trim_word.Goals as goal
 
 pub loop-left-init : goal.loop-left-init
@@ -46,7 +44,7 @@ loop-left-preserved c =
     let bit = low in
     let e : c.lowest_bit-b.result % 64 ≡ c.lowest_bit-b.result = mod-eq_of_lt bit.0 in
     let below = ltb c.end_of.result c.args.bound in
-    let p : c.assign_bit-kept.result ≡ assigned_bit below c.loop-left.auto c.lowest_bit-b.result = c.assign_bit-kept.ensures ∙ ap (assigned_bit below c.loop-left.auto) e in
+    let p : c.assign_bit-kept.result ≡ assigned_bit below c.loop-left.kept c.lowest_bit-b.result = c.assign_bit-kept.ensures ∙ ap (assigned_bit below c.loop-left.kept) e in
     let q : c.clear_bit-left.result ≡ without_bit c.loop-left.left c.lowest_bit-b.result = c.clear_bit-left.ensures ∙ ap (without_bit c.loop-left.left) e in
     (search rules, rw (p, q) (sift_step _ _ _ _ c.lowest_bit-b.result below c.loop-left.invariant.1 bit.1 (ap (λ (x : ℕ). ltb x c.args.bound) c.end_of.ensures)))
 

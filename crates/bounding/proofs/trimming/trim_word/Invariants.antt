@@ -1,15 +1,7 @@
 -- `bounding::trimming::trim_word` meets its contract. The invariant: the bits passed are tested, the others are as they were.
-use mathlib.Core.Bool.{true}
-use mathlib.Core.Path.{◌≡◌, sym, ap, ◌∙◌, subst}
-use Prim.Native.Nat.{ℕ, ◌+◌, ◌%◌, ◌^◌, ◌<◌}
-use native.Mathlib.Nat.{mod-eq_of_lt}
-use native.Mathlib.Omega.{arith}
-use lib.Dec.{ltb}
-use borrow.Author.Rules.{rules}
-use Rattle.words.specs.Bits.{test_bit, without_bit, assigned_bit}
-use Rattle.words.proofs.First.{lowest}
+use Prim.Native.Nat.{◌+◌, ◌^◌, ◌<◌}
 use Rattle.plans.specs.Planned.{planned}
-use Rattle.live_sets.proofs.Sifting.{Sifted, sift_begin, sift_end, sift_step, without_smaller}
+use Rattle.live_sets.proofs.Sifting.{Sifted}
 use Rattle.bounding.specs.Trimmed.{ends_below}
 use Rattle.bounding.proofs.trimming.trim_word.Given as goal
 
