@@ -42,12 +42,12 @@ bounds-copies-u c = omega (arith, c.loop-u.invariant.0)
 pub has_members-requires : goal.has_members-requires
 has_members-requires c =
     let within : (c.set_start-to.result + c.args.plan.words) * 8 ≤ length c.args.work.now = omega (arith, c.requires.viewed.0.2.words, c.set_start-to.ensures.within, c.requires.plan_in_bounds) in
-    let room : length c.fill_below.new.1.1.1.1.1.1.0 ≡ length c.args.work.now = c.fill_below.auto.1.1.1.1.1.1.0 ∙ c.loop-u.invariant.1 in
+    let room : length c.fill_below.new.1.1.1.1.1.1.0 ≡ length c.args.work.now = c.fill_below.auto.work ∙ c.loop-u.invariant.1 in
     (words-few c.args.job.now c.args.plan c.requires.viewed.0.2, c.set_start-to.ensures.few, omega (arith, within, room))
 
 pub shape_of-work-then-not-has_members : goal.shape_of-work-then-not-has_members
 shape_of-work-then-not-has_members c =
-    let room : length c.fill_below.new.1.1.1.1.1.1.0 ≡ length c.args.work.now = c.fill_below.auto.1.1.1.1.1.1.0 ∙ c.loop-u.invariant.1 in
+    let room : length c.fill_below.new.1.1.1.1.1.1.0 ≡ length c.args.work.now = c.fill_below.auto.work ∙ c.loop-u.invariant.1 in
     room
 
 pub returns-then-not-has_members : goal.returns-then-not-has_members
@@ -72,7 +72,7 @@ loop-u-smaller c = omega (arith, c.loop-u.invariant.0)
 
 pub loop-u-preserved : goal.loop-u-preserved
 loop-u-preserved c =
-    let room : length c.fill_below.new.1.1.1.1.1.1.0 ≡ length c.args.work.now = c.fill_below.auto.1.1.1.1.1.1.0 ∙ c.loop-u.invariant.1 in
+    let room : length c.fill_below.new.1.1.1.1.1.1.0 ≡ length c.args.work.now = c.fill_below.auto.work ∙ c.loop-u.invariant.1 in
     let settled : KindSettled (planned c.args.job.now c.args.plan) (replicate 12 0) 0 c.args.bound (set_words (content c.args.job.now).sheet) c.loop-u.u c.loop-u.work c.fill_below.new.1.1.1.1.1.1.0 c.has_members.result = (let some_piece : 0 < piece_count (content c.args.job.now).kinds = (accepted-sensible c.args.job.now c.args.plan.margin c.requires.viewed.0.0.accepted).pieced in
     let kind : c.loop-u.u < kind_count (content c.args.job.now).kinds = omega (arith, c.loop-u.invariant.0) in
     let told : get_or c.args.plan.copies c.loop-u.u 0 ≡ copies_left c.loop-u.u (pieces_from (content c.args.job.now).kinds 0) = (let some_piece : 0 < piece_count (content c.args.job.now).kinds = (accepted-sensible c.args.job.now c.args.plan.margin c.requires.viewed.0.0.accepted).pieced in

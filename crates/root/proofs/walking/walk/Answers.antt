@@ -32,7 +32,7 @@ settle_first-requires c =
     }
 
 pub shape_of-work-then-not-settle_first : goal.shape_of-work-then-not-settle_first
-shape_of-work-then-not-settle_first c = c.settle_first.auto.1.1.1.1.1.0
+shape_of-work-then-not-settle_first c = c.settle_first.auto.work
 
 pub returns-then-not-settle_first : goal.returns-then-not-settle_first
 returns-then-not-settle_first c =
@@ -48,7 +48,7 @@ returns-then-not-settle_first c =
 pub shrink-requires : goal.shrink-requires
 shrink-requires c =
     let room : RoomFor (planned c.args.job.now c.make_plan-plan.result) c.args.work.now c.args.answer.now = subst (λ (m : ℕ). RoomFor (under m (content c.args.job.now)) c.args.work.now c.args.answer.now) (sym c.make_plan-plan.ensures.1) c.requires.room_for.0 in
-    let k : length c.settle_first.new.1.1.1.1.1.0 ≡ length c.args.work.now = c.settle_first.auto.1.1.1.1.1.0 in
+    let k : length c.settle_first.new.1.1.1.1.1.0 ≡ length c.args.work.now = c.settle_first.auto.work in
     (c.make_plan-plan.ensures.0, omega (arith, c.make_plan-plan.ensures.0.words), omega (arith, k, (room).work-fits))
 
 pub nofit_of-nofit-requires : goal.nofit_of-nofit-requires
@@ -62,14 +62,14 @@ walk_with_table-requires c =
     let shrunk : Shrunk (kind_count (content c.args.job.now).kinds) c.make_plan-plan.result.words c.make_plan-plan.result.words c.settle_first.new.1.1.1.1.1.0 c.shrink.result = rw (← c.make_plan-plan.ensures.0.types) c.shrink.ensures in
     record {
       computed = (record { viewed = c.requires.prepared.viewed; table = c.requires.prepared.turned; boxed = c.requires.prepared.boxes; plan = c.make_plan-plan.ensures.0; measures = c.nofit_of-nofit.ensures.0 }, omega (arith, c.nofit_of-nofit.ensures.1, c.nofit_of-nofit.ensures.0.small, c.room_for.ensures));
-      ready = begin_deep _ c.args.budget c.args.bound _ c.args.found _ _ _ (some_piece) (begun) c.make_plan-plan.ensures.0.words refl (room) _ c.settle_first.result c.settle_first.ensures (demanded c.args.job.now c.requires.prepared.viewed.accepted) c.if-not-settle_first.false c.shrink.result (shrunk) c.begin-start.result c.begin-start.ensures c.settle_first.auto.1.1.1.1.1.0;
+      ready = begin_deep _ c.args.budget c.args.bound _ c.args.found _ _ _ (some_piece) (begun) c.make_plan-plan.ensures.0.words refl (room) _ c.settle_first.result c.settle_first.ensures (demanded c.args.job.now c.requires.prepared.viewed.accepted) c.if-not-settle_first.false c.shrink.result (shrunk) c.begin-start.result c.begin-start.ensures c.settle_first.auto.work;
     }
 
 pub shape_of-work : goal.shape_of-work
-shape_of-work c = c.walk_with_table.auto.1.1.1.1.1.1.0 ∙ c.settle_first.auto.1.1.1.1.1.0
+shape_of-work c = c.walk_with_table.auto.work ∙ c.settle_first.auto.work
 
 pub shape_of-answer : goal.shape_of-answer
-shape_of-answer c = c.walk_with_table.auto.1.1.1.1.1.1.1.0
+shape_of-answer c = c.walk_with_table.auto.answer
 
 pub returns : goal.returns
 returns c =

@@ -78,7 +78,7 @@ walk-st-requires c =
     let begin : Option Layout = (let problem : Problem = problem_of c.args.job.now c.args.view in
     given_layout (problem) c.args.layout.now) in
     let holds : c.hold.new.1.1.1.1.0 ≡ with_layout (begin) c.args.answer.now = c.hold.ensures ∙ ap (λ (h : Option Layout). with_layout h c.args.answer.now) (c.requires.given_by.0.held c.requires.given_by.1) in
-    let k : length c.hold.new.1.1.1.1.0 ≡ length c.args.answer.now = c.hold.auto.1.1.1.1.0 in (
+    let k : length c.hold.new.1.1.1.1.0 ≡ length c.args.answer.now = c.hold.auto.answer in (
       record { work-fits = (room).work-fits; out-fits = omega (arith, k, (room).out-fits) },
       rw (holds) (begins c.args.job.now c.args.view.margin c.requires.prepared.viewed.accepted c.args.layout.now c.args.answer.now c.args.given c.requires.given_by.0 c.requires.given_by.1),
     )) in
@@ -96,7 +96,7 @@ clear-requires c =
     let problem : Problem = problem_of c.args.job.now c.args.view in
     let words_are : c.work_words-words.result ≡ work_words (problem) = c.work_words-words.ensures.0 in
     from-room (problem) (begin) c.args.budget c.args.work.now c.args.answer.now c.work_words-words.result (words_are) _ (numbers_are) (sym c.lacks_words.ensures ∙ c.if-lacks_words.false) (sym c.lacks_numbers.ensures ∙ c.if-lacks_numbers.false)) in
-    let k : length c.walk-st.new.1.1.1.1.1.1.1.0 ≡ length c.args.work.now = c.walk-st.auto.1.1.1.1.1.1.1.0 in
+    let k : length c.walk-st.new.1.1.1.1.1.1.1.0 ≡ length c.args.work.now = c.walk-st.auto.work in
     omega (arith, k, (room).work-fits, words_are)
 
 pub tell-requires : goal.tell-requires
@@ -113,10 +113,10 @@ tell-requires c =
     (left-within _ _ _ _ _ _ _ _ (walked), (c.requires.prepared.viewed.view.margin, omega (arith, (walked).lowered, short-board c.args.job.now c.requires.prepared.viewed.accepted)))
 
 pub shape_of-work : goal.shape_of-work
-shape_of-work c = c.clear.auto.0 ∙ c.walk-st.auto.1.1.1.1.1.1.1.0
+shape_of-work c = c.clear.auto.s ∙ c.walk-st.auto.work
 
 pub shape_of-answer : goal.shape_of-answer
-shape_of-answer c = c.walk-st.auto.1.1.1.1.1.1.1.1.0 ∙ c.hold.auto.1.1.1.1.0
+shape_of-answer c = c.walk-st.auto.answer ∙ c.hold.auto.answer
 
 pub returns : goal.returns
 returns c =

@@ -31,10 +31,10 @@ pub go_on-lower-span-requires : goal.go_on-lower-span-requires
 go_on-lower-span-requires t c = ((c.requires.1.known.plan, c.requires.1.ready.spans.within), (c.requires.1.ready.work-fits, lower-ready _ _ _ _ _ _ _ c.requires.1.ready (λ h. c.requires.1.taken.below) (c.if-level-plan.true ∙ c.requires.1.known.plan.pieces)))
 
 pub go_on-shape_of-work-then-level-plan : goal.go_on-shape_of-work-then-level-plan
-go_on-shape_of-work-then-level-plan t c = c.lower-span.auto.1.1.1.1.0
+go_on-shape_of-work-then-level-plan t c = c.lower-span.auto.work
 
 pub go_on-shape_of-out-then-level-plan : goal.go_on-shape_of-out-then-level-plan
-go_on-shape_of-out-then-level-plan t c = c.record_layout.auto.1.1.1.0
+go_on-shape_of-out-then-level-plan t c = c.record_layout.auto.out
 
 pub go_on-returns-then-level-plan : goal.go_on-returns-then-level-plan
 go_on-returns-then-level-plan t c =
@@ -50,13 +50,13 @@ go_on-settle-requires t c =
 pub go_on-try_piece-requires : goal.go_on-try_piece-requires
 go_on-try_piece-requires t c =
     let unplaced : c.args.level < piece_count (content c.args.job.now).kinds = unfinished c.args.level _ _ c.requires.1.taken.within c.requires.1.known.plan.pieces c.if-level-plan.false in
-    (omega (arith, c.requires.0), ((c.requires.1.known, unplaced), deep_ready _ _ _ _ _ _ _ c.requires.1.ready (λ h. c.requires.1.taken.below) _ c.settle.result c.if-settle.true c.settle.ensures c.settle.auto.1.1.1.1.1.1.1.1.0))
+    (omega (arith, c.requires.0), ((c.requires.1.known, unplaced), deep_ready _ _ _ _ _ _ _ c.requires.1.ready (λ h. c.requires.1.taken.below) _ c.settle.result c.if-settle.true c.settle.ensures c.settle.auto.work))
 
 pub go_on-shape_of-work-then-settle : goal.go_on-shape_of-work-then-settle
-go_on-shape_of-work-then-settle t c = c.try_piece.auto.1.1.1.1.1.0 ∙ c.settle.auto.1.1.1.1.1.1.1.1.0
+go_on-shape_of-work-then-settle t c = c.try_piece.auto.work ∙ c.settle.auto.work
 
 pub go_on-shape_of-out-then-settle : goal.go_on-shape_of-out-then-settle
-go_on-shape_of-out-then-settle t c = c.try_piece.auto.1.1.1.1.1.1.0
+go_on-shape_of-out-then-settle t c = c.try_piece.auto.out
 
 pub go_on-returns-then-settle : goal.go_on-returns-then-settle
 go_on-returns-then-settle t c =
@@ -64,7 +64,7 @@ go_on-returns-then-settle t c =
     go_deep _ _ _ _ _ _ _ c.requires.1.ready (λ h. c.requires.1.taken.below) _ _ _ c.try_piece.result c.settle.result (unplaced) c.if-settle.true c.settle.ensures c.try_piece.ensures
 
 pub go_on-shape_of-work : goal.go_on-shape_of-work
-go_on-shape_of-work t c = c.settle.auto.1.1.1.1.1.1.1.1.0
+go_on-shape_of-work t c = c.settle.auto.work
 
 pub go_on-returns : goal.go_on-returns
 go_on-returns t c =
@@ -121,15 +121,15 @@ try_piece-go_on-st-requires t c =
     (omega (arith, c.requires.0, c.requires.1.known.0.plan.pieces, c.requires.1.known.1), (c.requires.1.known.0, (taken-ready _ _ _ _ _ _ _ _ _ _ _ c.loop-plan.invariant.1 _ c.next_live-next.ensures c.if-not-next.false c.requires.1.known.1 (level_few) c.step.result c.step.ensures, taken-taken _ _ _ _ _ _ _ _ _ _ _ c.loop-plan.invariant.1 _ c.next_live-next.ensures c.if-not-next.false c.requires.1.known.1 (level_few) c.step.result c.step.ensures)))
 
 pub try_piece-shape_of-work-then-st : goal.try_piece-shape_of-work-then-st
-try_piece-shape_of-work-then-st t c = c.go_on-st.auto.1.1.1.1.1.0 ∙ c.loop-plan.invariant.0.0
+try_piece-shape_of-work-then-st t c = c.go_on-st.auto.work ∙ c.loop-plan.invariant.0.0
 
 pub try_piece-shape_of-out-then-st : goal.try_piece-shape_of-out-then-st
-try_piece-shape_of-out-then-st t c = c.go_on-st.auto.1.1.1.1.1.1.0 ∙ c.loop-plan.invariant.0.1
+try_piece-shape_of-out-then-st t c = c.go_on-st.auto.out ∙ c.loop-plan.invariant.0.1
 
 pub try_piece-returns-then-st : goal.try_piece-returns-then-st
 try_piece-returns-then-st t c =
     let level_few : c.args.level < 12 = omega (arith, c.requires.1.known.1, few-pieces c.args.job.now c.requires.1.known.0.plan.accepted) in
-    trying_ends _ _ _ _ _ _ _ _ _ _ _ c.loop-plan.invariant.1 _ c.next_live-next.ensures c.if-not-next.false c.requires.1.known.1 (level_few) _ _ c.go_on-st.result c.go_on-st.auto.1.1.1.1.1.0 c.go_on-st.auto.1.1.1.1.1.1.0 (positive c.loop-plan.st.left c.if-st-eq0.false) c.step.result c.step.ensures c.go_on-st.ensures c.if-st.true
+    trying_ends _ _ _ _ _ _ _ _ _ _ _ c.loop-plan.invariant.1 _ c.next_live-next.ensures c.if-not-next.false c.requires.1.known.1 (level_few) _ _ c.go_on-st.result c.go_on-st.auto.work c.go_on-st.auto.out (positive c.loop-plan.st.left c.if-st-eq0.false) c.step.result c.step.ensures c.go_on-st.ensures c.if-st.true
 
 pub try_piece-overflow_add-from : goal.try_piece-overflow_add-from
 try_piece-overflow_add-from t c =
@@ -142,4 +142,4 @@ try_piece-loop-plan-smaller t c = omega (arith, (c.next_live-next.ensures.found 
 pub try_piece-loop-plan-preserved : goal.try_piece-loop-plan-preserved
 try_piece-loop-plan-preserved t c =
     let level_few : c.args.level < 12 = omega (arith, c.requires.1.known.1, few-pieces c.args.job.now c.requires.1.known.0.plan.accepted) in
-    ((c.go_on-st.auto.1.1.1.1.1.0 ∙ c.loop-plan.invariant.0.0, c.go_on-st.auto.1.1.1.1.1.1.0 ∙ c.loop-plan.invariant.0.1), trying_goes _ _ _ _ _ _ _ _ _ _ _ c.loop-plan.invariant.1 _ c.next_live-next.ensures c.if-not-next.false c.requires.1.known.1 (level_few) _ _ c.go_on-st.result c.go_on-st.auto.1.1.1.1.1.0 c.go_on-st.auto.1.1.1.1.1.1.0 (positive c.loop-plan.st.left c.if-st-eq0.false) c.step.result c.step.ensures c.go_on-st.ensures c.if-st.false)
+    ((c.go_on-st.auto.work ∙ c.loop-plan.invariant.0.0, c.go_on-st.auto.out ∙ c.loop-plan.invariant.0.1), trying_goes _ _ _ _ _ _ _ _ _ _ _ c.loop-plan.invariant.1 _ c.next_live-next.ensures c.if-not-next.false c.requires.1.known.1 (level_few) _ _ c.go_on-st.result c.go_on-st.auto.work c.go_on-st.auto.out (positive c.loop-plan.st.left c.if-st-eq0.false) c.step.result c.step.ensures c.go_on-st.ensures c.if-st.false)
