@@ -9,7 +9,9 @@ use Rattle.bounding.specs.Trimmed.{Trimmed}
 use Rattle.bounding.proofs.trimming.trim.Given as goal
 
 abbrev pub invariant-loop-i : goal.invariant-loop-i
-invariant-loop-i l = ((l.i ≤ l.sets) × (l.sets ≡ piece_count (content l.job).kinds * kind_count (content l.job).kinds) × (l.sets ≤ 96)) × (length l.work ≡ length l.initial.work) × Trimmed (planned l.job l.plan) l.bound l.span l.i l.initial.work l.work
+invariant-loop-i l = ((l.i ≤ l.sets) × (l.sets ≡ piece_count (content l.job).kinds * kind_count (content l.job).kinds)
+    × (l.sets ≤ 96)) × (length l.work ≡ length l.initial.work) × Trimmed (planned l.job l.plan) l.bound l.span l.i
+    l.initial.work l.work
 
 abbrev pub decreases-loop-i : goal.decreases-loop-i
 decreases-loop-i l = l.sets - l.i

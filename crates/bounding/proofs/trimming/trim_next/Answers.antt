@@ -16,7 +16,8 @@ use Rattle.stepping.proofs.Limits.{few-pieces}
 use Rattle.bounding.proofs.Bounds.{some-kind, set-level, set-kind, set-trimmed, set-skipped}
 use Rattle.bounding.proofs.trimming.trim_next.Goals as goal
 
-module _ (s : List ℕ) (p : Plan) (o : PlanOf s p) (i : ℕ) (h : i < piece_count (content s).kinds * kind_count (content s).kinds) where
+module _ (s : List ℕ) (p : Plan) (o : PlanOf s p) (i : ℕ) (h : i < piece_count (content s).kinds * kind_count
+    (content s).kinds) where
   -- There is a kind; the level and the kind of the set are few.
   level : i / p.types < piece_count (content s).kinds
   level = rw (o.types) (set-level (planned s p) i h)
@@ -34,7 +35,8 @@ module _ (s : List ℕ) (p : Plan) (o : PlanOf s p) (i : ℕ) (h : i < piece_cou
 
   -- The table tells the copies left.
   told : get_or p.copies (i / p.types * 8 + i % p.types) 0
-      ≡ copies_left (i % kind_count (content s).kinds) (pieces_from (content s).kinds (i / kind_count (content s).kinds))
+      ≡ copies_left (i % kind_count (content s).kinds) (pieces_from (content s).kinds
+      (i / kind_count (content s).kinds))
   told =
       o.copies (i / p.types) (i % p.types) level few.1.0
       ∙ ap (λ (n : ℕ). copies_left (i % n) (pieces_from (content s).kinds (i / n))) o.types
@@ -46,7 +48,11 @@ pub nonzero_rem-i : goal.nonzero_rem-i
 nonzero_rem-i c = omega (arith, few c.args.job.now c.args.plan c.requires.plan_of.0 c.args.i c.requires.plan_of.2)
 
 pub nonzero_rem-i-then-copies-i-gt0 : goal.nonzero_rem-i-then-copies-i-gt0
-nonzero_rem-i-then-copies-i-gt0 c = omega (arith, few c.args.job.now c.args.plan c.requires.plan_of.0 c.args.i c.requires.plan_of.2)
+nonzero_rem-i-then-copies-i-gt0 c = omega (
+  arith,
+  few c.args.job.now c.args.plan c.requires.plan_of.0 c.args.i
+      c.requires.plan_of.2,
+)
 
 pub overflow_mul-i : goal.overflow_mul-i
 overflow_mul-i c = omega (arith, few c.args.job.now c.args.plan c.requires.plan_of.0 c.args.i c.requires.plan_of.2)
@@ -59,21 +65,34 @@ bounds-copies-i c = omega (arith, few c.args.job.now c.args.plan c.requires.plan
 
 pub overflow_mul-i-then-copies-i-gt0 : goal.overflow_mul-i-then-copies-i-gt0
 overflow_mul-i-then-copies-i-gt0 c =
-    omega (arith, mul-le-mul (few c.args.job.now c.args.plan c.requires.plan_of.0 c.args.i c.requires.plan_of.2).1.1 (words-few c.args.job.now c.args.plan c.requires.plan_of.0))
+    omega (
+      arith,
+      mul-le-mul (few c.args.job.now c.args.plan c.requires.plan_of.0 c.args.i c.requires.plan_of.2).1.1
+          (words-few c.args.job.now c.args.plan c.requires.plan_of.0),
+    )
 
 pub trim_set-requires : goal.trim_set-requires
 trim_set-requires c = (
   c.requires.plan_of.0,
   rw (c.requires.plan_of.0.types, c.requires.plan_of.0.words)
-      (c.requires.trimmable (omega (arith, c.if-copies-i-gt0.true, told c.args.job.now c.args.plan c.requires.plan_of.0 c.args.i c.requires.plan_of.2))),
+      (c.requires.trimmable (omega (
+        arith,
+        c.if-copies-i-gt0.true,
+        told c.args.job.now c.args.plan c.requires.plan_of.0 c.args.i c.requires.plan_of.2,
+      ))),
 )
 
 pub returns-then-copies-i-gt0 : goal.returns-then-copies-i-gt0
 returns-then-copies-i-gt0 c =
-    set-trimmed (planned c.args.job.now c.args.plan) c.args.i c.requires.plan_of.2 c.args.bound c.args.span c.requires.plan_of.1
+    set-trimmed (planned c.args.job.now c.args.plan) c.args.i c.requires.plan_of.2 c.args.bound c.args.span
+    c.requires.plan_of.1
     c.args.work.now _ _ _ c.requires.plan_of.0.types c.requires.plan_of.0.words c.trim_set.ensures
 
 pub returns-else-copies-i-gt0 : goal.returns-else-copies-i-gt0
 returns-else-copies-i-gt0 c =
     set-skipped (planned c.args.job.now c.args.plan) c.args.i c.requires.plan_of.2 _ _ _
-    (omega (arith, c.if-copies-i-gt0.false, told c.args.job.now c.args.plan c.requires.plan_of.0 c.args.i c.requires.plan_of.2))
+    (omega (
+      arith,
+      c.if-copies-i-gt0.false,
+      told c.args.job.now c.args.plan c.requires.plan_of.0 c.args.i c.requires.plan_of.2,
+    ))

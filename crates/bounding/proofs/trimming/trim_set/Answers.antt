@@ -12,7 +12,11 @@ use borrow.Author.Rules.{rules}
 use Rattle.bounding.proofs.trimming.trim_set.Goals as goal
 
 pub loop-k-init : goal.loop-k-init
-loop-k-init c = ((omega arith, refl, omega (arith, c.requires.1.fits, c.well_formed.1.1.1.1.0.0)), (λ i. (c.slice_known-1.given i).fits), filled-begin _ _ _)
+loop-k-init c = (
+  (omega arith, refl, omega (arith, c.requires.1.fits, c.well_formed.1.1.1.1.0.0)),
+  (λ i. (c.slice_known-1.given i).fits),
+  filled-begin _ _ _,
+)
 
 pub overflow_add-at : goal.overflow_add-at
 overflow_add-at c = omega (arith, c.loop-k.invariant.0)
@@ -36,7 +40,9 @@ pub trim_word-requires : goal.trim_word-requires
 trim_word-requires c = (
   c.requires.0,
   omega (arith, c.requires.1.few, c.loop-k.invariant.0),
-  word_admitted (planned c.args.job.now c.args.plan) c.args.bound c.args.u c.args.at c.args.words c.args.work.now c.loop-k.work c.requires.1 c.loop-k.k c.loop-k-test.true c.loop-k.invariant.2 c.get_u64-w.result c.get_u64-w.ensures c.loop-k.invariant.1,
+  word_admitted (planned c.args.job.now c.args.plan) c.args.bound c.args.u c.args.at c.args.words c.args.work.now
+      c.loop-k.work c.requires.1 c.loop-k.k c.loop-k-test.true c.loop-k.invariant.2 c.get_u64-w.result
+      c.get_u64-w.ensures c.loop-k.invariant.1,
 )
 
 pub put_u64-requires : goal.put_u64-requires
@@ -49,8 +55,11 @@ pub loop-k-preserved : goal.loop-k-preserved
 loop-k-preserved c = (
   (omega arith, c.put_u64.auto.s ∙ c.loop-k.invariant.0.1, c.loop-k.invariant.0.2),
   (λ i. (c.slice_known-in-loop-k-1.given i).fits),
-  subst (Filled c.args.at (c.loop-k.k + 1) (λ m. member c.args.work.now (c.args.at * 64 + m) && ends_below (planned c.args.job.now c.args.plan) c.args.bound c.args.u m) c.args.work.now) (sym c.put_u64.ensures)
-      (word_trimmed (planned c.args.job.now c.args.plan) c.args.bound c.args.u c.args.at c.args.words c.args.work.now c.loop-k.work c.requires.1 c.loop-k.k c.loop-k-test.true c.loop-k.invariant.2 c.get_u64-w.result c.get_u64-w.ensures c.trim_word.result c.trim_word.ensures (search rules) c.loop-k.invariant.0.1),
+  subst (Filled c.args.at (c.loop-k.k + 1) (λ m. member c.args.work.now (c.args.at * 64 + m) && ends_below
+      (planned c.args.job.now c.args.plan) c.args.bound c.args.u m) c.args.work.now) (sym c.put_u64.ensures)
+      (word_trimmed (planned c.args.job.now c.args.plan) c.args.bound c.args.u c.args.at c.args.words c.args.work.now
+      c.loop-k.work c.requires.1 c.loop-k.k c.loop-k-test.true c.loop-k.invariant.2 c.get_u64-w.result
+      c.get_u64-w.ensures c.trim_word.result c.trim_word.ensures (search rules) c.loop-k.invariant.0.1),
 )
 
 pub shape_of-work : goal.shape_of-work
@@ -59,4 +68,6 @@ shape_of-work c = c.loop-k.invariant.0.1
 pub returns : goal.returns
 returns c =
     let e : c.loop-k.k ≡ c.args.words = omega arith in
-    subst (λ (k : ℕ). Filled c.args.at k (λ m. member c.args.work.now (c.args.at * 64 + m) && ends_below (planned c.args.job.now c.args.plan) c.args.bound c.args.u m) c.args.work.now c.loop-k.work) e c.loop-k.invariant.2
+    subst (λ (k : ℕ). Filled c.args.at k (λ m. member c.args.work.now (c.args.at * 64 + m) && ends_below
+    (planned c.args.job.now c.args.plan) c.args.bound c.args.u m) c.args.work.now c.loop-k.work) e
+    c.loop-k.invariant.2

@@ -6,7 +6,8 @@ use Rattle.bounding.specs.Trimmed.{ends_below}
 use Rattle.bounding.proofs.trimming.trim_word.Given as goal
 
 abbrev pub invariant-loop-left : goal.invariant-loop-left
-invariant-loop-left l = ((l.left < 2 ^ 64) × (l.kept < 2 ^ 64)) × Sifted (λ i. ends_below (planned l.job l.plan) l.bound l.u (l.first + i)) l.w l.left l.kept
+invariant-loop-left l = ((l.left < 2 ^ 64) × (l.kept < 2 ^ 64)) × Sifted (λ i. ends_below (planned l.job l.plan) l.bound
+    l.u (l.first + i)) l.w l.left l.kept
 
 abbrev pub decreases-loop-left : goal.decreases-loop-left
 decreases-loop-left l = l.left

@@ -13,10 +13,15 @@ pub overflow_mul-span : goal.overflow_mul-span
 overflow_mul-span c = omega (arith, c.requires.plan_of.1)
 
 pub end_of-end-requires : goal.end_of-end-requires
-end_of-end-requires c = (c.requires.plan_of.0, c.requires.by_index c.next_member-n.result c.if-n-span.true (next_is_member _ _ _ _ c.next_member-n.ensures c.if-n-span.true))
+end_of-end-requires c = (
+  c.requires.plan_of.0,
+  c.requires.by_index c.next_member-n.result c.if-n-span.true
+      (next_is_member _ _ _ _ c.next_member-n.ensures c.if-n-span.true),
+)
 
 pub returns-then-n-span : goal.returns-then-n-span
-returns-then-n-span c = member-found _ _ _ _ _ _ _ c.next_member-n.ensures c.end_of-end.result _ c.if-n-span.true c.end_of-end.ensures c.larger.ensures
+returns-then-n-span c = member-found _ _ _ _ _ _ _ c.next_member-n.ensures c.end_of-end.result _ c.if-n-span.true
+    c.end_of-end.ensures c.larger.ensures
 
 pub returns : goal.returns
 returns c = member-none _ _ _ _ _ _ _ c.next_member-n.ensures c.if-n-span.false

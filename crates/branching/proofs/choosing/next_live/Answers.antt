@@ -25,7 +25,9 @@ bounds-kinds-level c = omega (arith, c.requires.plan_of.1, few-pieces c.args.job
 
 pub set_start-at-requires : goal.set_start-at-requires
 set_start-at-requires c =
-    let kind_below : get_or c.args.plan.kinds c.args.level 0 < kind_count (content c.args.job.now).kinds = (let kind_is : get_or c.args.plan.kinds c.args.level 0 ≡ piece_kind (content c.args.job.now).kinds c.args.level = c.requires.plan_of.0.kinds c.args.level c.requires.plan_of.1 in
+    let kind_below : get_or c.args.plan.kinds c.args.level 0 < kind_count (content c.args.job.now).kinds =
+    (let kind_is : get_or c.args.plan.kinds c.args.level 0 ≡ piece_kind (content c.args.job.now).kinds
+    c.args.level = c.requires.plan_of.0.kinds c.args.level c.requires.plan_of.1 in
     rw (kind_is) (piece_kind_lem (content c.args.job.now).kinds c.args.level c.requires.plan_of.1)) in
     (c.requires.plan_of.0, c.requires.plan_of.1, kind_below)
 
@@ -34,36 +36,66 @@ overflow_mul-at c = omega (arith, c.set_start-at.ensures.few)
 
 pub slice_bounds-next_in-count : goal.slice_bounds-next_in-count
 slice_bounds-next_in-count c =
-    let room : c.set_start-at.result * 8 + c.args.plan.words * 8 ≤ length c.args.work.now = omega (arith, c.set_start-at.ensures.within, c.requires.plan_of.0.words, c.requires.plan_of.2) in
+    let room : c.set_start-at.result * 8 + c.args.plan.words * 8 ≤ length c.args.work.now =
+    omega (arith, c.set_start-at.ensures.within, c.requires.plan_of.0.words, c.requires.plan_of.2) in
     omega (arith, room)
 
 pub slice_bounds-next_in-start : goal.slice_bounds-next_in-start
 slice_bounds-next_in-start c =
-    let room : c.set_start-at.result * 8 + c.args.plan.words * 8 ≤ length c.args.work.now = omega (arith, c.set_start-at.ensures.within, c.requires.plan_of.0.words, c.requires.plan_of.2) in
+    let room : c.set_start-at.result * 8 + c.args.plan.words * 8 ≤ length c.args.work.now =
+    omega (arith, c.set_start-at.ensures.within, c.requires.plan_of.0.words, c.requires.plan_of.2) in
     omega (arith, room)
 
 pub next_in-requires : goal.next_in-requires
 unfolding slot_of
 next_in-requires c =
-    let room : c.set_start-at.result * 8 + c.args.plan.words * 8 ≤ length c.args.work.now = omega (arith, c.set_start-at.ensures.within, c.requires.plan_of.0.words, c.requires.plan_of.2) in
-    let kept : Keeps (planned c.args.job.now c.args.plan) (placed_of (planned c.args.job.now c.args.plan) c.args.numbers c.args.level) c.args.state.bound c.args.state.span (get_or c.args.plan.kinds c.args.level 0)
-    (take (length c.args.work.now - c.set_start-at.result * 8) (drop (c.set_start-at.result * 8) c.args.work.now)) = (let kind_is : get_or c.args.plan.kinds c.args.level 0 ≡ piece_kind (content c.args.job.now).kinds c.args.level = c.requires.plan_of.0.kinds c.args.level c.requires.plan_of.1 in
-    subst (Keeps (planned c.args.job.now c.args.plan) (placed_of (planned c.args.job.now c.args.plan) c.args.numbers c.args.level) c.args.state.bound c.args.state.span (get_or c.args.plan.kinds c.args.level 0))
-    (ap (λ (a : ℕ). drop (a * 8) c.args.work.now) (sym c.set_start-at.ensures.place) ∙ sym (part-rest (c.set_start-at.result * 8) c.args.work.now))
-    (subst (λ (u : ℕ). Keeps (planned c.args.job.now c.args.plan) (placed_of (planned c.args.job.now c.args.plan) c.args.numbers c.args.level) c.args.state.bound c.args.state.span u (slot_of (planned c.args.job.now c.args.plan) c.args.work.now c.args.level u)) (sym (kind_is)) c.requires.spans.1)) in
+    let room : c.set_start-at.result * 8 + c.args.plan.words * 8 ≤ length c.args.work.now =
+    omega (arith, c.set_start-at.ensures.within, c.requires.plan_of.0.words, c.requires.plan_of.2) in
+    let kept : Keeps (planned c.args.job.now c.args.plan) (placed_of (planned c.args.job.now c.args.plan) c.args.numbers
+    c.args.level) c.args.state.bound c.args.state.span (get_or c.args.plan.kinds c.args.level 0)
+    (take (length c.args.work.now - c.set_start-at.result * 8) (drop (c.set_start-at.result * 8) c.args.work.now)) =
+    (let kind_is : get_or c.args.plan.kinds c.args.level 0 ≡ piece_kind (content c.args.job.now).kinds
+    c.args.level = c.requires.plan_of.0.kinds c.args.level c.requires.plan_of.1 in
+    subst (Keeps (planned c.args.job.now c.args.plan) (placed_of (planned c.args.job.now c.args.plan) c.args.numbers
+    c.args.level) c.args.state.bound c.args.state.span (get_or c.args.plan.kinds c.args.level 0))
+    (ap (λ (a : ℕ). drop (a * 8) c.args.work.now) (sym c.set_start-at.ensures.place)
+    ∙ sym (part-rest (c.set_start-at.result * 8) c.args.work.now))
+    (subst (λ (u : ℕ). Keeps (planned c.args.job.now c.args.plan) (placed_of (planned c.args.job.now c.args.plan)
+    c.args.numbers c.args.level) c.args.state.bound c.args.state.span u
+    (slot_of (planned c.args.job.now c.args.plan) c.args.work.now c.args.level u)) (sym (kind_is))
+    c.requires.spans.1)) in
     record {
-      plan_of = (c.requires.plan_of.0, omega (arith, c.requires.spans.0.within, few_words c.args.job.now c.requires.plan_of.0.accepted), rw (part-rest (c.set_start-at.result * 8) c.args.work.now) (simp length-drop (omega (arith, room, c.requires.plan_of.0.words, c.requires.spans.0.within))));
+      plan_of = (
+        c.requires.plan_of.0,
+        omega (
+          arith,
+          c.requires.spans.0.within,
+          few_words c.args.job.now c.requires.plan_of.0.accepted,
+        ),
+        rw (part-rest (c.set_start-at.result * 8) c.args.work.now)
+            (simp length-drop (omega (arith, room, c.requires.plan_of.0.words, c.requires.spans.0.within))),
+      );
       by_index = λ m h. kept-candidate (planned c.args.job.now c.args.plan) _ _ _ _ _ (kept) m h;
     }
 
 pub returns : goal.returns
 unfolding slot_of
 returns c =
-    let kind_is : get_or c.args.plan.kinds c.args.level 0 ≡ piece_kind (content c.args.job.now).kinds c.args.level = c.requires.plan_of.0.kinds c.args.level c.requires.plan_of.1 in
-    let kept : Keeps (planned c.args.job.now c.args.plan) (placed_of (planned c.args.job.now c.args.plan) c.args.numbers c.args.level) c.args.state.bound c.args.state.span (get_or c.args.plan.kinds c.args.level 0)
-    (take (length c.args.work.now - c.set_start-at.result * 8) (drop (c.set_start-at.result * 8) c.args.work.now)) = (let kind_is : get_or c.args.plan.kinds c.args.level 0 ≡ piece_kind (content c.args.job.now).kinds c.args.level = c.requires.plan_of.0.kinds c.args.level c.requires.plan_of.1 in
-    subst (Keeps (planned c.args.job.now c.args.plan) (placed_of (planned c.args.job.now c.args.plan) c.args.numbers c.args.level) c.args.state.bound c.args.state.span (get_or c.args.plan.kinds c.args.level 0))
-    (ap (λ (a : ℕ). drop (a * 8) c.args.work.now) (sym c.set_start-at.ensures.place) ∙ sym (part-rest (c.set_start-at.result * 8) c.args.work.now))
-    (subst (λ (u : ℕ). Keeps (planned c.args.job.now c.args.plan) (placed_of (planned c.args.job.now c.args.plan) c.args.numbers c.args.level) c.args.state.bound c.args.state.span u (slot_of (planned c.args.job.now c.args.plan) c.args.work.now c.args.level u)) (sym (kind_is)) c.requires.spans.1)) in
-    subst (λ (u : ℕ). NextLive (planned c.args.job.now c.args.plan) (placed_of (planned c.args.job.now c.args.plan) c.args.numbers c.args.level) c.args.state.bound u c.args.extent c.args.from c.next_in.result) (kind_is)
+    let kind_is : get_or c.args.plan.kinds c.args.level 0 ≡ piece_kind (content c.args.job.now).kinds c.args.level =
+    c.requires.plan_of.0.kinds c.args.level c.requires.plan_of.1 in
+    let kept : Keeps (planned c.args.job.now c.args.plan) (placed_of (planned c.args.job.now c.args.plan) c.args.numbers
+    c.args.level) c.args.state.bound c.args.state.span (get_or c.args.plan.kinds c.args.level 0)
+    (take (length c.args.work.now - c.set_start-at.result * 8) (drop (c.set_start-at.result * 8) c.args.work.now)) =
+    (let kind_is : get_or c.args.plan.kinds c.args.level 0 ≡ piece_kind (content c.args.job.now).kinds
+    c.args.level = c.requires.plan_of.0.kinds c.args.level c.requires.plan_of.1 in
+    subst (Keeps (planned c.args.job.now c.args.plan) (placed_of (planned c.args.job.now c.args.plan) c.args.numbers
+    c.args.level) c.args.state.bound c.args.state.span (get_or c.args.plan.kinds c.args.level 0))
+    (ap (λ (a : ℕ). drop (a * 8) c.args.work.now) (sym c.set_start-at.ensures.place)
+    ∙ sym (part-rest (c.set_start-at.result * 8) c.args.work.now))
+    (subst (λ (u : ℕ). Keeps (planned c.args.job.now c.args.plan) (placed_of (planned c.args.job.now c.args.plan)
+    c.args.numbers c.args.level) c.args.state.bound c.args.state.span u
+    (slot_of (planned c.args.job.now c.args.plan) c.args.work.now c.args.level u)) (sym (kind_is))
+    c.requires.spans.1)) in
+    subst (λ (u : ℕ). NextLive (planned c.args.job.now c.args.plan) (placed_of (planned c.args.job.now c.args.plan)
+    c.args.numbers c.args.level) c.args.state.bound u c.args.extent c.args.from c.next_in.result) (kind_is)
     (live-member _ _ _ _ _ _ _ _ c.requires.spans.0 (kept) _ c.if-state-extent.false c.next_in.ensures)

@@ -7,7 +7,8 @@ use Rattle.live_sets.proofs.Meeting.{stays-not_above, stays-conflict}
 use Rattle.live_sets.proofs.board.still_live.Goals as goal
 
 pub returns-then-t-u : goal.returns-then-t-u
-returns-then-t-u c = stays-not_above (planned c.args.job.now c.args.plan) c.args.t c.args.n c.args.u c.args.m c.if-t-u.true
+returns-then-t-u c = stays-not_above (planned c.args.job.now c.args.plan) c.args.t c.args.n c.args.u c.args.m
+    c.if-t-u.true
 
 pub placed_of-place-requires : goal.placed_of-place-requires
 placed_of-place-requires c = some-row c.args.job.now c.args.plan c.requires.plan_of.0.0

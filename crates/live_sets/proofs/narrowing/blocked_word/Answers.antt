@@ -32,30 +32,49 @@ pub above_start-requires : goal.above_start-requires
 above_start-requires c = laid_sought _ _ _ _ _ _ _ _ c.requires.0
 
 pub overflow_add-above_start : goal.overflow_add-above_start
-overflow_add-above_start c = omega (arith, c.above_start.ensures.1, at_room _ _ _ _ _ _ _ _ c.requires.0 c.requires.1, c.requires.0.table.measures.small.1)
+overflow_add-above_start c = omega (
+  arith,
+  c.above_start.ensures.1,
+  at_room _ _ _ _ _ _ _ _ c.requires.0 c.requires.1,
+  c.requires.0.table.measures.small.1,
+)
 
 pub bits_at-above-requires : goal.bits_at-above-requires
-bits_at-above-requires c = above-room _ _ _ _ _ _ _ _ c.requires.0 c.requires.1 c.above_start.result c.above_start.ensures.0
+bits_at-above-requires c = above-room _ _ _ _ _ _ _ _ c.requires.0 c.requires.1 c.above_start.result
+    c.above_start.ensures.0
 
 pub below_start-requires : goal.below_start-requires
 below_start-requires c = laid_sought _ _ _ _ _ _ _ _ c.requires.0
 
 pub overflow_add-below_start : goal.overflow_add-below_start
-overflow_add-below_start c = omega (arith, c.below_start.ensures.1, at_room _ _ _ _ _ _ _ _ c.requires.0 c.requires.1, c.requires.0.table.measures.small.1)
+overflow_add-below_start c = omega (
+  arith,
+  c.below_start.ensures.1,
+  at_room _ _ _ _ _ _ _ _ c.requires.0 c.requires.1,
+  c.requires.0.table.measures.small.1,
+)
 
 pub overflow_mul-nofit : goal.overflow_mul-nofit
 overflow_mul-nofit c = omega (arith, span_small _ _ _ _ _ _ _ _ c.requires.0)
 
 pub overflow_add-below_start-2 : goal.overflow_add-below_start-2
-overflow_add-below_start-2 c = omega (arith, c.below_start.ensures.1, at_room _ _ _ _ _ _ _ _ c.requires.0 c.requires.1, c.requires.0.table.measures.small.1)
+overflow_add-below_start-2 c = omega (
+  arith,
+  c.below_start.ensures.1,
+  at_room _ _ _ _ _ _ _ _ c.requires.0 c.requires.1,
+  c.requires.0.table.measures.small.1,
+)
 
 pub bits_at-below-requires : goal.bits_at-below-requires
-bits_at-below-requires c = below-room _ _ _ _ _ _ _ _ c.requires.0 c.requires.1 c.below_start.result c.below_start.ensures.0
+bits_at-below-requires c = below-room _ _ _ _ _ _ _ _ c.requires.0 c.requires.1 c.below_start.result
+    c.below_start.ensures.0
 
 pub rows_from-here-requires : goal.rows_from-here-requires
 rows_from-here-requires c = laid_rows _ _ _ _ _ _ _ _ c.requires.0
 
 pub returns : goal.returns
 returns c =
-    blocked-bits _ _ _ _ _ _ _ _ c.requires.0 c.requires.1 c.above_start.result c.below_start.result c.bits_at-above.result c.bits_at-below.result c.rows_from-here.result
-    c.above_start.ensures.0 c.below_start.ensures.0 c.bits_at-above.ensures c.bits_at-below.ensures (search rules) c.rows_from-here.ensures
+    blocked-bits _ _ _ _ _ _ _ _ c.requires.0 c.requires.1 c.above_start.result c.below_start.result
+    c.bits_at-above.result c.bits_at-below.result c.rows_from-here.result
+    c.above_start.ensures.0 c.below_start.ensures.0 c.bits_at-above.ensures c.bits_at-below.ensures (search rules)
+    c.rows_from-here.ensures

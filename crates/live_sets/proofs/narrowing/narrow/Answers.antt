@@ -10,7 +10,11 @@ use borrow.Author.Rules.{rules}
 use Rattle.live_sets.proofs.narrowing.narrow.Goals as goal
 
 pub loop-k-init : goal.loop-k-init
-loop-k-init c = ((omega arith, refl, omega (arith, c.requires.narrowable.fits, c.well_formed.1.1.1.1.1.1.1.1.1.0.0)), (λ i. (c.slice_known-1.given i).fits), filled-begin _ _ _)
+loop-k-init c = (
+  (omega arith, refl, omega (arith, c.requires.narrowable.fits, c.well_formed.1.1.1.1.1.1.1.1.1.0.0)),
+  (λ i. (c.slice_known-1.given i).fits),
+  filled-begin _ _ _,
+)
 
 pub overflow_add-from : goal.overflow_add-from
 overflow_add-from c = omega (arith, c.requires.narrowable.behind, c.loop-k.invariant.0)
@@ -28,7 +32,9 @@ pub narrow_word-kept-requires : goal.narrow_word-kept-requires
 narrow_word-kept-requires c = record {
   known = c.requires.known;
   n_value = (c.requires.narrowable.placed, omega (arith, c.requires.narrowable.within, c.loop-k.invariant.0));
-  bits_admitted = word_admitted (planned c.args.job.now c.args.plan) c.args.t c.args.n c.args.u c.args.from c.args.to c.args.words c.args.work.now c.loop-k.work c.requires.narrowable c.loop-k.k c.loop-k-test.true c.loop-k.invariant.2 c.get_u64-w.result c.get_u64-w.ensures c.loop-k.invariant.1;
+  bits_admitted = word_admitted (planned c.args.job.now c.args.plan) c.args.t c.args.n c.args.u c.args.from c.args.to
+      c.args.words c.args.work.now c.loop-k.work c.requires.narrowable c.loop-k.k c.loop-k-test.true
+      c.loop-k.invariant.2 c.get_u64-w.result c.get_u64-w.ensures c.loop-k.invariant.1;
 }
 
 pub overflow_add-to : goal.overflow_add-to
@@ -47,8 +53,12 @@ pub loop-k-preserved : goal.loop-k-preserved
 loop-k-preserved c = (
   (omega arith, c.put_u64.auto.s ∙ c.loop-k.invariant.0.1, c.loop-k.invariant.0.2),
   (λ i. (c.slice_known-in-loop-k-1.given i).fits),
-  subst (Filled c.args.to (c.loop-k.k + 1) (λ m. member c.args.work.now (c.args.from * 64 + m) && stays (planned c.args.job.now c.args.plan) c.args.t c.args.n c.args.u m) c.args.work.now) (sym c.put_u64.ensures)
-      (word_narrowed (planned c.args.job.now c.args.plan) c.args.t c.args.n c.args.u c.args.from c.args.to c.args.words c.args.work.now c.loop-k.work c.requires.narrowable c.loop-k.k c.loop-k-test.true c.loop-k.invariant.2 c.get_u64-w.result c.get_u64-w.ensures c.narrow_word-kept.result c.narrow_word-kept.ensures (search rules) c.loop-k.invariant.0.1),
+  subst (Filled c.args.to (c.loop-k.k + 1) (λ m. member c.args.work.now (c.args.from * 64 + m) && stays
+      (planned c.args.job.now c.args.plan) c.args.t c.args.n c.args.u m) c.args.work.now) (sym c.put_u64.ensures)
+      (word_narrowed (planned c.args.job.now c.args.plan) c.args.t c.args.n c.args.u c.args.from c.args.to c.args.words
+      c.args.work.now c.loop-k.work c.requires.narrowable c.loop-k.k c.loop-k-test.true c.loop-k.invariant.2
+      c.get_u64-w.result c.get_u64-w.ensures c.narrow_word-kept.result c.narrow_word-kept.ensures (search rules)
+      c.loop-k.invariant.0.1),
 )
 
 pub shape_of-work : goal.shape_of-work
@@ -57,4 +67,6 @@ shape_of-work c = c.loop-k.invariant.0.1
 pub returns : goal.returns
 returns c =
     let e : c.loop-k.k ≡ c.args.words = omega arith in
-    subst (λ (k : ℕ). Filled c.args.to k (λ m. member c.args.work.now (c.args.from * 64 + m) && stays (planned c.args.job.now c.args.plan) c.args.t c.args.n c.args.u m) c.args.work.now c.loop-k.work) e c.loop-k.invariant.2
+    subst (λ (k : ℕ). Filled c.args.to k (λ m. member c.args.work.now (c.args.from * 64 + m) && stays
+    (planned c.args.job.now c.args.plan) c.args.t c.args.n c.args.u m) c.args.work.now c.loop-k.work) e
+    c.loop-k.invariant.2

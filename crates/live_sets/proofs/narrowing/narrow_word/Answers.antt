@@ -34,12 +34,20 @@ strain_word-requires c = (
 pub returns-then-t-u : goal.returns-then-t-u
 returns-then-t-u c i =
     c.strain_word.ensures i
-    ∙ ap (λ (b : Bool). test_bit c.args.w i && b) (stays-any-margin 0 c.args.plan.margin (content c.args.job.now) c.args.t c.args.n c.args.u (c.args.first + i))
+    ∙ ap (λ (b : Bool). test_bit c.args.w i && b) (stays-any-margin 0 c.args.plan.margin (content c.args.job.now)
+    c.args.t c.args.n c.args.u (c.args.first + i))
 
 pub sift_word-requires : goal.sift_word-requires
 sift_word-requires c = record {
   plan_of = ((c.requires.known.0.plan, c.requires.known.0.table), c.requires.known.1);
-  n_value = (c.requires.n_value.0, omega (arith, c.requires.n_value.1, few_words c.args.job.now c.requires.known.0.plan.accepted));
+  n_value = (
+    c.requires.n_value.0,
+    omega (
+      arith,
+      c.requires.n_value.1,
+      few_words c.args.job.now c.requires.known.0.plan.accepted,
+    ),
+  );
   bits_admitted = c.requires.bits_admitted;
 }
 

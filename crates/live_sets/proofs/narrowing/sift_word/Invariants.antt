@@ -6,7 +6,8 @@ use Rattle.live_sets.proofs.Sifting.{Sifted}
 use Rattle.live_sets.proofs.narrowing.sift_word.Given as goal
 
 abbrev pub invariant-loop-left : goal.invariant-loop-left
-invariant-loop-left l = ((l.left < 2 ^ 64) × (l.kept < 2 ^ 64)) × Sifted (λ i. stays (planned l.job l.plan) l.t l.n l.u (l.first + i)) l.w l.left l.kept
+invariant-loop-left l = ((l.left < 2 ^ 64) × (l.kept < 2 ^ 64)) × Sifted (λ i. stays (planned l.job l.plan) l.t l.n l.u
+    (l.first + i)) l.w l.left l.kept
 
 abbrev pub decreases-loop-left : goal.decreases-loop-left
 decreases-loop-left l = l.left

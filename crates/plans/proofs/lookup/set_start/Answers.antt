@@ -12,22 +12,30 @@ use Rattle.plans.proofs.lookup.set_start.Goals as goal
 
 pub overflow_mul-result : goal.overflow_mul-result
 overflow_mul-result c =
-    let sets_few : c.args.l * c.args.plan.types + c.args.u ≤ 96 = (let few_kinds : c.args.plan.types ≤ 8 = omega (arith, c.requires.0.types, (accepted-kinds c.args.job.now c.requires.0.accepted).few-kinds) in
+    let sets_few : c.args.l * c.args.plan.types + c.args.u ≤ 96 = (let few_kinds : c.args.plan.types ≤ 8 =
+    omega (arith, c.requires.0.types, (accepted-kinds c.args.job.now c.requires.0.accepted).few-kinds) in
     let level_few : c.args.l ≤ 11 = omega (arith, c.requires.1, few-pieces c.args.job.now c.requires.0.accepted) in
     omega (arith, mul-le-mul (level_few) (few_kinds), c.requires.2, c.requires.0.types, few_kinds)) in
     omega (arith, sets_few)
 
 pub overflow_add-result : goal.overflow_add-result
 overflow_add-result c =
-    let sets_few : c.args.l * c.args.plan.types + c.args.u ≤ 96 = (let few_kinds : c.args.plan.types ≤ 8 = omega (arith, c.requires.0.types, (accepted-kinds c.args.job.now c.requires.0.accepted).few-kinds) in
+    let sets_few : c.args.l * c.args.plan.types + c.args.u ≤ 96 = (let few_kinds : c.args.plan.types ≤ 8 =
+    omega (arith, c.requires.0.types, (accepted-kinds c.args.job.now c.requires.0.accepted).few-kinds) in
     let level_few : c.args.l ≤ 11 = omega (arith, c.requires.1, few-pieces c.args.job.now c.requires.0.accepted) in
     omega (arith, mul-le-mul (level_few) (few_kinds), c.requires.2, c.requires.0.types, few_kinds)) in
     omega (arith, sets_few)
 
 pub overflow_mul-result-2 : goal.overflow_mul-result-2
 overflow_mul-result-2 c =
-    let start_few : (c.args.l * c.args.plan.types + c.args.u) * c.args.plan.words ≤ 6144 = (let words_few : c.args.plan.words ≤ 64 = omega (arith, c.requires.0.words, few_words c.args.job.now c.requires.0.accepted) in
-    let sets_few : c.args.l * c.args.plan.types + c.args.u ≤ 96 = (let few_kinds : c.args.plan.types ≤ 8 = omega (arith, c.requires.0.types, (accepted-kinds c.args.job.now c.requires.0.accepted).few-kinds) in
+    let start_few : (c.args.l * c.args.plan.types + c.args.u) * c.args.plan.words ≤ 6144 =
+    (let words_few : c.args.plan.words ≤ 64 = omega (
+      arith,
+      c.requires.0.words,
+      few_words c.args.job.now c.requires.0.accepted,
+    ) in
+    let sets_few : c.args.l * c.args.plan.types + c.args.u ≤ 96 = (let few_kinds : c.args.plan.types ≤ 8 =
+    omega (arith, c.requires.0.types, (accepted-kinds c.args.job.now c.requires.0.accepted).few-kinds) in
     let level_few : c.args.l ≤ 11 = omega (arith, c.requires.1, few-pieces c.args.job.now c.requires.0.accepted) in
     omega (arith, mul-le-mul (level_few) (few_kinds), c.requires.2, c.requires.0.types, few_kinds)) in
     mul-le-mul (sets_few) (words_few)) in
@@ -36,13 +44,24 @@ overflow_mul-result-2 c =
 pub returns : goal.returns
 unfolding set_start
 returns c =
-    let start_few : (c.args.l * c.args.plan.types + c.args.u) * c.args.plan.words ≤ 6144 = (let words_few : c.args.plan.words ≤ 64 = omega (arith, c.requires.0.words, few_words c.args.job.now c.requires.0.accepted) in
-    let sets_few : c.args.l * c.args.plan.types + c.args.u ≤ 96 = (let few_kinds : c.args.plan.types ≤ 8 = omega (arith, c.requires.0.types, (accepted-kinds c.args.job.now c.requires.0.accepted).few-kinds) in
+    let start_few : (c.args.l * c.args.plan.types + c.args.u) * c.args.plan.words ≤ 6144 =
+    (let words_few : c.args.plan.words ≤ 64 = omega (
+      arith,
+      c.requires.0.words,
+      few_words c.args.job.now c.requires.0.accepted,
+    ) in
+    let sets_few : c.args.l * c.args.plan.types + c.args.u ≤ 96 = (let few_kinds : c.args.plan.types ≤ 8 =
+    omega (arith, c.requires.0.types, (accepted-kinds c.args.job.now c.requires.0.accepted).few-kinds) in
     let level_few : c.args.l ≤ 11 = omega (arith, c.requires.1, few-pieces c.args.job.now c.requires.0.accepted) in
     omega (arith, mul-le-mul (level_few) (few_kinds), c.requires.2, c.requires.0.types, few_kinds)) in
     mul-le-mul (sets_few) (words_few)) in
     let s = c.args.job.now in
     let k = c.requires.0.types in
     let w = c.requires.0.words in
-    let e : (c.args.l * c.args.plan.types + c.args.u) * c.args.plan.words ≡ set_start (planned s c.args.plan) c.args.l c.args.u = rw (k, w) in
-    record { place = e; within = rw e (start_fits (planned s c.args.plan) c.args.l c.args.u c.requires.1 c.requires.2); few = start_few }
+    let e : (c.args.l * c.args.plan.types + c.args.u) * c.args.plan.words ≡ set_start (planned s c.args.plan) c.args.l
+    c.args.u = rw (k, w) in
+    record {
+      place = e;
+      within = rw e (start_fits (planned s c.args.plan) c.args.l c.args.u c.requires.1 c.requires.2);
+      few = start_few;
+    }

@@ -9,7 +9,8 @@ use Rattle.stepping.specs.Levels.{pieces_from}
 use Rattle.plans.proofs.plan.copies_table.Given as goal
 
 abbrev pub invariant-loop-x : goal.invariant-loop-x
-invariant-loop-x l = ((l.x ≤ l.pieces * 8) × (l.pieces ≡ piece_count (content l.job).kinds) × (l.pieces ≤ 12) × (length l.copies ≡ 96))
+invariant-loop-x l = ((l.x ≤ l.pieces * 8) × (l.pieces ≡ piece_count (content l.job).kinds) × (l.pieces ≤ 12)
+    × (length l.copies ≡ 96))
     × ((i : ℕ) → i < l.x → get_or l.copies i 0 ≡ copies_left (i % 8) (pieces_from (content l.job).kinds (i / 8)))
 
 abbrev pub decreases-loop-x : goal.decreases-loop-x

@@ -8,7 +8,9 @@ use Rattle.stepping.specs.Levels.{pieces_from}
 use Rattle.plans.proofs.plan.count_copies.Given as goal
 
 abbrev pub invariant-loop-i : goal.invariant-loop-i
-invariant-loop-i l = ((l.pieces ≡ piece_count (content l.job).kinds) × (l.pieces ≤ 12)) × (l.i ≤ l.pieces) × (l.count ≤ l.i) × (l.count + copies_left l.u (pieces_from (content l.job).kinds l.i) ≡ copies_left l.u (pieces_from (content l.job).kinds l.l))
+invariant-loop-i l = ((l.pieces ≡ piece_count (content l.job).kinds) × (l.pieces ≤ 12)) × (l.i ≤ l.pieces)
+    × (l.count ≤ l.i) × (l.count + copies_left l.u (pieces_from (content l.job).kinds l.i) ≡ copies_left l.u
+    (pieces_from (content l.job).kinds l.l))
 
 abbrev pub decreases-loop-i : goal.decreases-loop-i
 decreases-loop-i l = l.pieces - l.i

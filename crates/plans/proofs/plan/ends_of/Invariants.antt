@@ -7,7 +7,8 @@ use Rattle.shapes.specs.Boxes.{no_box}
 use Rattle.plans.proofs.plan.ends_of.Given as goal
 
 abbrev pub invariant-loop-x : goal.invariant-loop-x
-invariant-loop-x l = (l.x ≤ 32) × (length l.ends ≡ 32) × ((i : ℕ) → i < l.x → get_or l.ends i (pos 0) ≡ (get_or l.of i no_box).max_x)
+invariant-loop-x l = (l.x ≤ 32) × (length l.ends ≡ 32) × ((i : ℕ) → i < l.x
+    → get_or l.ends i (pos 0) ≡ (get_or l.of i no_box).max_x)
 
 abbrev pub decreases-loop-x : goal.decreases-loop-x
 decreases-loop-x l = 32 - l.x

@@ -18,12 +18,14 @@ use Rattle.shapes.proofs.ViewLaws.{kind-in}
 use Rattle.plans.proofs.plan.make_plan.Goals as goal
 
 -- The bit of two kinds, where the numbers of all were compared.
-shared_at : (w t u : ℕ) (v : View) → w ≡ bits_where 64 (λ x. same_cut (get_or v.cuts (x / 8) 0) (get_or v.cuts (x % 8) 0)) → t < 8 → u < 8
+shared_at : (w t u : ℕ) (v : View) → w ≡ bits_where 64 (λ x. same_cut (get_or v.cuts (x / 8) 0) (get_or v.cuts (x % 8)
+    0)) → t < 8 → u < 8
     → test_bit w (t * 8 + u) ≡ same_cut (get_or v.cuts t 0) (get_or v.cuts u 0)
 shared_at w t u v e h l =
     let q : (t * 8 + u) / 8 ≡ t = omega arith in
     let r : (t * 8 + u) % 8 ≡ u = omega arith in
-    ap (λ w. test_bit w (t * 8 + u)) e ∙ test_bit-bits_where 64 (λ x. same_cut (get_or v.cuts (x / 8) 0) (get_or v.cuts (x % 8) 0)) (t * 8 + u) (omega arith)
+    ap (λ w. test_bit w (t * 8 + u)) e ∙ test_bit-bits_where 64 (λ x. same_cut (get_or v.cuts (x / 8) 0)
+    (get_or v.cuts (x % 8) 0)) (t * 8 + u) (omega arith)
     ∙ ap₂ (λ i j. same_cut (get_or v.cuts i 0) (get_or v.cuts j 0)) q r
 
 pub piece_kinds-kinds-requires : goal.piece_kinds-kinds-requires
@@ -32,14 +34,18 @@ piece_kinds-kinds-requires c = c.requires.0
 pub overflow_mul-result : goal.overflow_mul-result
 unfolding dots
 overflow_mul-result c =
-    let few : c.args.view.columns * c.args.view.rows ≤ 1024 = (let all_dots : c.args.view.columns * c.args.view.rows ≡ dots (content c.args.job.now).sheet = rw (c.requires.0.view.columns, c.requires.0.view.rows) in
+    let few : c.args.view.columns * c.args.view.rows ≤ 1024 =
+    (let all_dots : c.args.view.columns * c.args.view.rows ≡ dots (content c.args.job.now).sheet =
+    rw (c.requires.0.view.columns, c.requires.0.view.rows) in
     rw (all_dots) (accepted-dots c.args.job.now c.requires.0.accepted)) in
     omega (arith, few)
 
 pub overflow_add-result : goal.overflow_add-result
 unfolding dots
 overflow_add-result c =
-    let few : c.args.view.columns * c.args.view.rows ≤ 1024 = (let all_dots : c.args.view.columns * c.args.view.rows ≡ dots (content c.args.job.now).sheet = rw (c.requires.0.view.columns, c.requires.0.view.rows) in
+    let few : c.args.view.columns * c.args.view.rows ≤ 1024 =
+    (let all_dots : c.args.view.columns * c.args.view.rows ≡ dots (content c.args.job.now).sheet =
+    rw (c.requires.0.view.columns, c.requires.0.view.rows) in
     rw (all_dots) (accepted-dots c.args.job.now c.requires.0.accepted)) in
     omega (arith, few)
 
@@ -58,7 +64,8 @@ bytes_of-requires c =
 pub bytes_of-requires-2 : goal.bytes_of-requires-2
 bytes_of-requires-2 c =
     let bounds : Bounded c.args.view = bounded c.args.job.now c.args.view c.requires.0 in
-    let kind : (t : ℕ) → t < kind_count (content c.args.job.now).kinds → KindIn c.args.job.now c.args.view t (kind_at (content c.args.job.now).kinds t) = kind-in c.args.job.now c.args.view c.requires.0 in (
+    let kind : (t : ℕ) → t < kind_count (content c.args.job.now).kinds → KindIn c.args.job.now c.args.view t
+    (kind_at (content c.args.job.now).kinds t) = kind-in c.args.job.now c.args.view c.requires.0 in (
       (bounds).kinds,
       λ t h.
           let k = kind t (omega (arith, c.requires.0.view.kinds)) in
@@ -71,9 +78,11 @@ sizes_of-requires c = c.requires.0
 pub returns : goal.returns
 unfolding dots set_words
 returns c =
-    let all_dots : c.args.view.columns * c.args.view.rows ≡ dots (content c.args.job.now).sheet = rw (c.requires.0.view.columns, c.requires.0.view.rows) in
+    let all_dots : c.args.view.columns * c.args.view.rows ≡ dots (content c.args.job.now).sheet =
+    rw (c.requires.0.view.columns, c.requires.0.view.rows) in
     let bounds : Bounded c.args.view = bounded c.args.job.now c.args.view c.requires.0 in
-    let kind : (t : ℕ) → t < kind_count (content c.args.job.now).kinds → KindIn c.args.job.now c.args.view t (kind_at (content c.args.job.now).kinds t) = kind-in c.args.job.now c.args.view c.requires.0 in (
+    let kind : (t : ℕ) → t < kind_count (content c.args.job.now).kinds → KindIn c.args.job.now c.args.view t
+    (kind_at (content c.args.job.now).kinds t) = kind-in c.args.job.now c.args.view c.requires.0 in (
       record {
         accepted = c.requires.0.accepted;
         view = c.args.view;
@@ -90,7 +99,9 @@ returns c =
         ends = c.ends_of.ensures;
         gaps = λ t h. c.bytes_of.ensures t (omega (arith, c.requires.0.view.kinds)) ∙ (kind t h).gap;
         shared = λ t u h l.
-            shared_at c.shared_cuts.result t u c.args.view c.shared_cuts.ensures (omega (arith, h, (bounds).kinds, c.requires.0.view.kinds)) (omega (arith, l, (bounds).kinds, c.requires.0.view.kinds))
+            shared_at c.shared_cuts.result t u c.args.view c.shared_cuts.ensures
+            (omega (arith, h, (bounds).kinds, c.requires.0.view.kinds))
+            (omega (arith, l, (bounds).kinds, c.requires.0.view.kinds))
             ∙ shares_cut c.args.job.now c.args.view c.requires.0 t u h l;
         parts = λ t h. c.bytes_of-2.ensures t (omega (arith, c.requires.0.view.kinds)) ∙ (kind t h).parts;
         sizes = c.sizes_of.ensures;

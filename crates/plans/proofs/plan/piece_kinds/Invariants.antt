@@ -9,8 +9,10 @@ use Rattle.stepping.proofs.PieceOrder.{At}
 use Rattle.plans.proofs.plan.piece_kinds.Given as goal
 
 abbrev pub invariant-loop-l : goal.invariant-loop-l
-invariant-loop-l l = ((l.l ≤ l.pieces) × (l.pieces ≡ piece_count (content l.job).kinds) × (l.pieces ≤ 12) × (length l.kinds ≡ 12))
-    × ((l.t < kind_count (content l.job).kinds) × (kind_count (content l.job).kinds ≤ 8)) × At (content l.job).kinds l.l l.t l.left
+invariant-loop-l l = ((l.l ≤ l.pieces) × (l.pieces ≡ piece_count (content l.job).kinds) × (l.pieces ≤ 12)
+    × (length l.kinds ≡ 12))
+    × ((l.t < kind_count (content l.job).kinds) × (kind_count (content l.job).kinds ≤ 8))
+    × At (content l.job).kinds l.l l.t l.left
     × ((i : ℕ) → i < l.l → get_or l.kinds i 0 ≡ piece_kind (content l.job).kinds i)
 
 abbrev pub decreases-loop-l : goal.decreases-loop-l

@@ -27,4 +27,5 @@ loop-x-preserved c =
 pub returns : goal.returns
 returns c =
     let n : c.loop-x.x ≡ 64 = omega arith in
-    c.loop-x.invariant.1 ∙ ap (λ m. bits_where m (λ y. same_cut (get_or c.args.view.cuts (y / 8) 0) (get_or c.args.view.cuts (y % 8) 0))) n
+    c.loop-x.invariant.1 ∙ ap (λ m. bits_where m (λ y. same_cut (get_or c.args.view.cuts (y / 8) 0)
+    (get_or c.args.view.cuts (y % 8) 0))) n

@@ -31,12 +31,19 @@ pub loop-x-preserved : goal.loop-x-preserved
 loop-x-preserved c =
     let x = c.loop-x.x in
     let piece = c.piece_of.ensures in (
-      (c.loop-x.invariant.0.0, omega (arith, c.loop-x.invariant), omega (arith, c.loop-x.invariant), simp length-set c.loop-x.invariant.0.3),
+      (
+        c.loop-x.invariant.0.0,
+        omega (arith, c.loop-x.invariant),
+        omega (arith, c.loop-x.invariant),
+        simp length-set c.loop-x.invariant.0.3,
+      ),
       below_more _ x
-          (λ i g q. get_or-set_other c.loop-x.sizes x i c.size_of.result 0 (λ w. omega arith) ∙ c.loop-x.invariant.1 i g q)
+          (λ i g q. get_or-set_other c.loop-x.sizes x i c.size_of.result 0 (λ w. omega arith)
+          ∙ c.loop-x.invariant.1 i g q)
           (λ q.
           let l : x % 6 < c.piece_of.result.count = rw piece.count q in
-          get_or-set_same c.loop-x.sizes x c.size_of.result 0 (omega (arith, c.loop-x.invariant)) ∙ c.size_of.ensures l ∙ piece.size (x % 6) l),
+          get_or-set_same c.loop-x.sizes x c.size_of.result 0 (omega (arith, c.loop-x.invariant)) ∙ c.size_of.ensures l
+          ∙ piece.size (x % 6) l),
     )
 
 pub returns : goal.returns

@@ -8,8 +8,10 @@ use Rattle.model.specs.Format.{content}
 use Rattle.plans.proofs.plan.sizes_of.Given as goal
 
 abbrev pub invariant-loop-x : goal.invariant-loop-x
-invariant-loop-x l = ((l.kinds ≡ kind_count (content l.job).kinds) × (l.kinds ≤ 8) × (l.x ≤ l.kinds * 6) × (length l.sizes ≡ 48))
-    × ((i : ℕ) → i < l.x → i % 6 < length (kind_at (content l.job).kinds (i / 6)).parts → get_or l.sizes i 0 ≡ length (get_or (kind_at (content l.job).kinds (i / 6)).parts (i % 6) []))
+invariant-loop-x l = ((l.kinds ≡ kind_count (content l.job).kinds) × (l.kinds ≤ 8) × (l.x ≤ l.kinds * 6)
+    × (length l.sizes ≡ 48))
+    × ((i : ℕ) → i < l.x → i % 6 < length (kind_at (content l.job).kinds (i / 6)).parts
+    → get_or l.sizes i 0 ≡ length (get_or (kind_at (content l.job).kinds (i / 6)).parts (i % 6) []))
 
 abbrev pub decreases-loop-x : goal.decreases-loop-x
 decreases-loop-x l = l.kinds * 6 - l.x

@@ -7,7 +7,8 @@ use Rattle.plans.proofs.Writing.{written}
 use Rattle.plans.proofs.recording.copy_layout.Given as goal
 
 abbrev pub invariant-loop-i : goal.invariant-loop-i
-invariant-loop-i l = ((l.i ≤ l.pieces) × (l.pieces ≤ 12)) × ((length l.out ≡ length l.initial.out) × (l.pieces * 8 ≤ length l.out)) × (l.out ≡ written (entry_in l.layout) l.i l.initial.out)
+invariant-loop-i l = ((l.i ≤ l.pieces) × (l.pieces ≤ 12)) × ((length l.out ≡ length l.initial.out)
+    × (l.pieces * 8 ≤ length l.out)) × (l.out ≡ written (entry_in l.layout) l.i l.initial.out)
 
 abbrev pub decreases-loop-i : goal.decreases-loop-i
 decreases-loop-i l = l.pieces - l.i

@@ -21,8 +21,11 @@ use Rattle.plans.proofs.recording.record_layout.Goals as goal
 pub loop-i-init : goal.loop-i-init
 unfolding numbers_in count
 loop-i-init c =
-    let e = c.requires.0.pieces in
-    ((omega arith, e, omega (arith, e, few-pieces c.args.job.now c.requires.0.accepted)), (refl, omega (arith, e, c.requires.1.fits)), sym (written_none _ _))
+    let e = c.requires.0.pieces in (
+      (omega arith, e, omega (arith, e, few-pieces c.args.job.now c.requires.0.accepted)),
+      (refl, omega (arith, e, c.requires.1.fits)),
+      sym (written_none _ _),
+    )
 
 pub overflow_mul-i : goal.overflow_mul-i
 overflow_mul-i c = omega (arith, c.loop-i.invariant.0)
@@ -38,7 +41,8 @@ bounds-candidates-i c = omega (arith, c.loop-i.invariant.0)
 
 pub entry_word-requires : goal.entry_word-requires
 entry_word-requires c =
-    let rows_are : c.args.plan.rows ≡ rows (content c.args.job.now).sheet = c.requires.0.rows ∙ c.requires.0.viewed.rows in
+    let rows_are : c.args.plan.rows ≡ rows (content c.args.job.now).sheet = c.requires.0.rows
+    ∙ c.requires.0.viewed.rows in
     let inside : c.loop-i.i < piece_count (content c.args.job.now).kinds = omega (arith, c.loop-i.invariant.0) in
     (omega (arith, rows_are, rows-positive (content c.args.job.now).sheet), c.requires.1.small c.loop-i.i (inside))
 
@@ -54,15 +58,24 @@ loop-i-smaller c = omega (arith, c.loop-i.invariant.0)
 pub loop-i-preserved : goal.loop-i-preserved
 unfolding entry_of
 loop-i-preserved c =
-    let rows_are : c.args.plan.rows ≡ rows (content c.args.job.now).sheet = c.requires.0.rows ∙ c.requires.0.viewed.rows in
-    let kind_small : (i : ℕ) → i < piece_count (content c.args.job.now).kinds → piece_kind (content c.args.job.now).kinds i < 8 = λ i h. omega (arith, piece_kind_lem (content c.args.job.now).kinds i h, (accepted-kinds c.args.job.now c.requires.0.accepted).few-kinds) in
+    let rows_are : c.args.plan.rows ≡ rows (content c.args.job.now).sheet = c.requires.0.rows
+    ∙ c.requires.0.viewed.rows in
+    let kind_small : (i : ℕ) → i < piece_count (content c.args.job.now).kinds
+    → piece_kind (content c.args.job.now).kinds i < 8 =
+    λ i h. omega (
+      arith,
+      piece_kind_lem (content c.args.job.now).kinds i h,
+      (accepted-kinds c.args.job.now c.requires.0.accepted).few-kinds,
+    ) in
     let inside : c.loop-i.i < piece_count (content c.args.job.now).kinds = omega (arith, c.loop-i.invariant.0) in
     let k : length c.put_u64.new.s ≡ length c.loop-i.out = c.put_u64.auto.s in (
       (omega (arith, c.loop-i.invariant.0), c.loop-i.invariant.0.1, c.loop-i.invariant.0.2),
       (k ∙ c.loop-i.invariant.1.0, omega (arith, k, c.loop-i.invariant.1)),
       c.put_u64.ensures ∙ ap (with_number 8 c.loop-i.out (c.loop-i.i * 8)) c.entry_word.ensures
-          ∙ entry-written (planned c.args.job.now c.args.plan) c.args.candidates c.args.out.now c.loop-i.out c.loop-i.i _ _ _
-          (kind_small c.loop-i.i (inside)) (c.requires.1.small c.loop-i.i (inside)) (c.requires.0.kinds c.loop-i.i (inside)) refl (rows_are) c.loop-i.invariant.2,
+          ∙ entry-written (planned c.args.job.now c.args.plan) c.args.candidates c.args.out.now c.loop-i.out c.loop-i.i
+          _ _ _
+          (kind_small c.loop-i.i (inside)) (c.requires.1.small c.loop-i.i (inside)) (c.requires.0.kinds c.loop-i.i
+          (inside)) refl (rows_are) c.loop-i.invariant.2,
     )
 
 pub shape_of-out : goal.shape_of-out
@@ -72,4 +85,5 @@ pub returns : goal.returns
 unfolding with_layout layout_of entry_of
 returns c =
     let e : c.loop-i.i ≡ piece_count (content c.args.job.now).kinds = omega (arith, c.loop-i.invariant.0) in
-    c.loop-i.invariant.2 ∙ ap (λ (i : ℕ). written (λ l. entry (piece_kind (content c.args.job.now).kinds l) (placement_of (content c.args.job.now).sheet (numbers_at c.args.candidates l))) i c.args.out.now) e
+    c.loop-i.invariant.2 ∙ ap (λ (i : ℕ). written (λ l. entry (piece_kind (content c.args.job.now).kinds l)
+    (placement_of (content c.args.job.now).sheet (numbers_at c.args.candidates l))) i c.args.out.now) e

@@ -11,8 +11,10 @@ use Rattle.plans.proofs.Writing.{written}
 use Rattle.plans.proofs.recording.record_layout.Given as goal
 
 abbrev pub invariant-loop-i : goal.invariant-loop-i
-invariant-loop-i l = ((l.i ≤ l.pieces) × (l.pieces ≡ piece_count (content l.job).kinds) × (l.pieces ≤ 12)) × ((length l.out ≡ length l.initial.out) × (l.pieces * 8 ≤ length l.out))
-    × (l.out ≡ written (λ i. entry (piece_kind (content l.job).kinds i) (placement_of (content l.job).sheet (numbers_at l.candidates i))) l.i l.initial.out)
+invariant-loop-i l = ((l.i ≤ l.pieces) × (l.pieces ≡ piece_count (content l.job).kinds) × (l.pieces ≤ 12))
+    × ((length l.out ≡ length l.initial.out) × (l.pieces * 8 ≤ length l.out))
+    × (l.out ≡ written (λ i. entry (piece_kind (content l.job).kinds i) (placement_of (content l.job).sheet
+    (numbers_at l.candidates i))) l.i l.initial.out)
 
 abbrev pub decreases-loop-i : goal.decreases-loop-i
 decreases-loop-i l = l.pieces - l.i
