@@ -1,5 +1,5 @@
 // A line of the input has a word in five columns, and then numbers in three columns each: a space and two hexadecimal digits.
-ghost use Rattle.std.specs.Prelude.{◌+◌, ◌≤◌, length};
+ghost use Rattle.std.specs.Prelude.{ℕ, ◌+◌, ◌<◌, ◌≡◌, ◌≢◌, ◌≤◌, length, slice_index};
 
 // The numbers of a line, a byte each, and how many there are.
 #[derive(Clone, Copy)]
@@ -42,4 +42,19 @@ pub fn margin_at(text: &[u8], from: usize) -> usize
     let given = numbers_at(text, from);
     let bytes = given.bytes;
     bytes[0] as usize
+}
+
+// Where a line that goes on at `from` ends: the place of the first line feed from there on, or else the end of the text.
+pub fn line_end(text: &[u8], from: usize) -> usize
+    requires { from ≤ length text.now }
+    ensures begins { from ≤ result }
+    ensures within { result ≤ length text.now }
+    ensures before { (k : ℕ) → from ≤ k → k < result → slice_index text.now k ≢ 10 }
+    ensures found { result < length text.now → slice_index text.now result ≡ 10 }
+{
+    let mut end = from;
+    while end < text.len() && text[end] != b'\n' {
+        end += 1;
+    }
+    end
 }

@@ -5,7 +5,8 @@
 ghost use Rattle.std.specs.Prelude.{◌≤◌, length};
 
 use input::Numbers;
-use libc::{STDIN_FILENO, STDOUT_FILENO};
+use std::io;
+use std::io::Read;
 
 mod input;
 mod show;
@@ -31,7 +32,7 @@ fn behind_budget(given: usize) -> usize
 
 // The question of this word about a job under a margin: read, write, row, check, run from a given layout or run from none; or, where the bytes are an
 // outline, split it into triangles. It is told by its second letter.
-fn ask(word: u8, margin: usize, job: Numbers, asked: Numbers)
+fn ask(rt: &impl Print, word: u8, margin: usize, job: Numbers, asked: Numbers) -> io::Result<()>
     requires { (job.count ≤ length job.bytes) × (asked.count ≤ length asked.bytes) }
 {
     let bytes = job.bytes;
@@ -40,39 +41,49 @@ fn ask(word: u8, margin: usize, job: Numbers, asked: Numbers)
     let count = asked.count;
     let job = &bytes[0..size];
     match word {
-        b'e' => show::read(job),
-        b'r' => show::save(job, room_of(count, given[0])),
-        b'p' => show::cut(job, room_of(count, given[0])),
-        b'o' => show::row(job, margin, given[0]),
-        b'h' => show::check(job, margin, &given[0..count]),
+        b'e' => show::read(rt, job),
+        b'r' => show::save(rt, job, room_of(count, given[0])),
+        b'p' => show::cut(rt, job, room_of(count, given[0])),
+        b'o' => show::row(rt, job, margin, given[0]),
+        b'h' => show::check(rt, job, margin, &given[0..count]),
         b'i' => show::run(
+            rt,
             job,
             margin,
             given[0] as u32,
             &given[behind_budget(count)..count],
         ),
-        _ => show::run(job, margin, budget_of(count, given[0]), &given[0..0]),
+        _ => show::run(rt, job, margin, budget_of(count, given[0]), &given[0..0]),
     }
 }
 
 // The answer to the question at `at`, behind the name of its board. The bytes of the job are in the line below the name.
-fn answer(text: &[u8], name: usize, margin: usize, at: usize, word: u8)
+fn answer(
+    rt: &impl Print,
+    text: &[u8],
+    name: usize,
+    margin: usize,
+    at: usize,
+    word: u8,
+) -> io::Result<()>
     requires { (name ≤ length text.now) × (at ≤ length text.now) }
 {
-    let end = bytes::scan::find(text, name, text.len(), b'\n');
+    let end = input::line_end(text, name);
     if name + 5 <= end {
-        io::write_all(STDOUT_FILENO, &text[name + 5..end]);
+        rt.write_all(&text[name + 5..end])?;
         ask(
+            rt,
             word,
             margin,
             input::numbers_at(text, end + 6),
             input::numbers_at(text, at + 5),
-        );
+        )?;
     }
+    Ok(())
 }
 
 // Each line is the name of a board, the bytes of its job, the margin by which it is clamped from here on, a question, or a remark. A new board is not clamped.
-fn answer_all(text: &[u8]) {
+fn answer_all(rt: &impl Print, text: &[u8]) -> io::Result<()> {
     let mut name = 0;
     let mut margin = 0;
     let mut at = 0;
@@ -84,15 +95,18 @@ fn answer_all(text: &[u8]) {
                 margin = 0;
             }
             b'l' => margin = input::margin_at(text, at + 5),
-            b'e' | b'r' | b'p' | b'o' | b'h' | b'i' | b'u' => answer(text, name, margin, at, word),
+            b'e' | b'r' | b'p' | b'o' | b'h' | b'i' | b'u' => {
+                answer(rt, text, name, margin, at, word)?;
+            }
             _ => (),
         }
-        at = bytes::scan::find(text, at, text.len(), b'\n') + 1;
+        at = input::line_end(text, at) + 1;
     }
+    Ok(())
 }
 
-fn main() {
-    let mut input = [0u8; 32768];
-    io::read_full(STDIN_FILENO, &mut input);
-    answer_all(&input);
+fn main(rt: HostRuntime) -> io::Result<()> {
+    let mut text = Vec::new(rt.alloc());
+    rt.stdin().take(32768).read_to_end(&mut text)?;
+    answer_all(&rt, &text)
 }
