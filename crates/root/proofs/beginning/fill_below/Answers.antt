@@ -19,8 +19,8 @@ fill-requires c = record {
 
 pub trim_set-requires : goal.trim_set-requires
 trim_set-requires c =
-    let filled : Filled c.args.to c.args.plan.words (is_candidate (planned c.args.job.now c.args.plan) c.args.u) c.args.work.now c.fill.new.1.1.1.1.0 = subst (λ (m : ℕ). Filled c.args.to c.args.plan.words (is_candidate (under m (content c.args.job.now)) c.args.u) c.args.work.now c.fill.new.1.1.1.1.0) (sym c.requires.viewed.1) c.fill.ensures in
-    let k : length c.fill.new.1.1.1.1.0 ≡ length c.args.work.now = c.fill.auto.work in
+    let filled : Filled c.args.to c.args.plan.words (is_candidate (planned c.args.job.now c.args.plan) c.args.u) c.args.work.now c.fill.new.work = subst (λ (m : ℕ). Filled c.args.to c.args.plan.words (is_candidate (under m (content c.args.job.now)) c.args.u) c.args.work.now c.fill.new.work) (sym c.requires.viewed.1) c.fill.ensures in
+    let k : length c.fill.new.work ≡ length c.args.work.now = c.fill.auto.work in
     (c.requires.viewed.0.2, trimmable _ c.args.bound c.args.u c.args.to c.args.plan.words _ _ (filled) c.requires.fillable.few (omega (arith, k, c.requires.fillable.fits)))
 
 pub shape_of-work-then-bound-view : goal.shape_of-work-then-bound-view
@@ -28,7 +28,7 @@ shape_of-work-then-bound-view c = c.trim_set.auto.work ∙ c.fill.auto.work
 
 pub returns-then-bound-view : goal.returns-then-bound-view
 returns-then-bound-view c =
-    let filled : Filled c.args.to c.args.plan.words (is_candidate (planned c.args.job.now c.args.plan) c.args.u) c.args.work.now c.fill.new.1.1.1.1.0 = subst (λ (m : ℕ). Filled c.args.to c.args.plan.words (is_candidate (under m (content c.args.job.now)) c.args.u) c.args.work.now c.fill.new.1.1.1.1.0) (sym c.requires.viewed.1) c.fill.ensures in
+    let filled : Filled c.args.to c.args.plan.words (is_candidate (planned c.args.job.now c.args.plan) c.args.u) c.args.work.now c.fill.new.work = subst (λ (m : ℕ). Filled c.args.to c.args.plan.words (is_candidate (under m (content c.args.job.now)) c.args.u) c.args.work.now c.fill.new.work) (sym c.requires.viewed.1) c.fill.ensures in
     filled-trimmed _ c.args.bound c.args.u c.args.to c.args.plan.words _ _ (filled) _ c.trim_set.ensures
 
 pub shape_of-work-else-bound-view : goal.shape_of-work-else-bound-view
@@ -36,5 +36,5 @@ shape_of-work-else-bound-view c = c.fill.auto.work
 
 pub returns-else-bound-view : goal.returns-else-bound-view
 returns-else-bound-view c =
-    let filled : Filled c.args.to c.args.plan.words (is_candidate (planned c.args.job.now c.args.plan) c.args.u) c.args.work.now c.fill.new.1.1.1.1.0 = subst (λ (m : ℕ). Filled c.args.to c.args.plan.words (is_candidate (under m (content c.args.job.now)) c.args.u) c.args.work.now c.fill.new.1.1.1.1.0) (sym c.requires.viewed.1) c.fill.ensures in
+    let filled : Filled c.args.to c.args.plan.words (is_candidate (planned c.args.job.now c.args.plan) c.args.u) c.args.work.now c.fill.new.work = subst (λ (m : ℕ). Filled c.args.to c.args.plan.words (is_candidate (under m (content c.args.job.now)) c.args.u) c.args.work.now c.fill.new.work) (sym c.requires.viewed.1) c.fill.ensures in
     filled-all _ c.args.bound c.args.u c.args.to c.args.plan.words _ _ (filled) (omega (arith, c.if-bound-view.false, c.requires.viewed.0.0.view.len))

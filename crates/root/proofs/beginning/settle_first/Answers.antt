@@ -42,25 +42,25 @@ bounds-copies-u c = omega (arith, c.loop-u.invariant.0)
 pub has_members-requires : goal.has_members-requires
 has_members-requires c =
     let within : (c.set_start-to.result + c.args.plan.words) * 8 ≤ length c.args.work.now = omega (arith, c.requires.viewed.0.2.words, c.set_start-to.ensures.within, c.requires.plan_in_bounds) in
-    let room : length c.fill_below.new.1.1.1.1.1.1.0 ≡ length c.args.work.now = c.fill_below.auto.work ∙ c.loop-u.invariant.1 in
+    let room : length c.fill_below.new.work ≡ length c.args.work.now = c.fill_below.auto.work ∙ c.loop-u.invariant.1 in
     (words-few c.args.job.now c.args.plan c.requires.viewed.0.2, c.set_start-to.ensures.few, omega (arith, within, room))
 
 pub shape_of-work-then-not-has_members : goal.shape_of-work-then-not-has_members
 shape_of-work-then-not-has_members c =
-    let room : length c.fill_below.new.1.1.1.1.1.1.0 ≡ length c.args.work.now = c.fill_below.auto.work ∙ c.loop-u.invariant.1 in
+    let room : length c.fill_below.new.work ≡ length c.args.work.now = c.fill_below.auto.work ∙ c.loop-u.invariant.1 in
     room
 
 pub returns-then-not-has_members : goal.returns-then-not-has_members
 returns-then-not-has_members c =
     let kind : c.loop-u.u < kind_count (content c.args.job.now).kinds = omega (arith, c.loop-u.invariant.0) in
-    let settled : KindSettled (planned c.args.job.now c.args.plan) (replicate 12 0) 0 c.args.bound (set_words (content c.args.job.now).sheet) c.loop-u.u c.loop-u.work c.fill_below.new.1.1.1.1.1.1.0 c.has_members.result = (let some_piece : 0 < piece_count (content c.args.job.now).kinds = (accepted-sensible c.args.job.now c.args.plan.margin c.requires.viewed.0.0.accepted).pieced in
+    let settled : KindSettled (planned c.args.job.now c.args.plan) (replicate 12 0) 0 c.args.bound (set_words (content c.args.job.now).sheet) c.loop-u.u c.loop-u.work c.fill_below.new.work c.has_members.result = (let some_piece : 0 < piece_count (content c.args.job.now).kinds = (accepted-sensible c.args.job.now c.args.plan.margin c.requires.viewed.0.0.accepted).pieced in
     let kind : c.loop-u.u < kind_count (content c.args.job.now).kinds = omega (arith, c.loop-u.invariant.0) in
     let told : get_or c.args.plan.copies c.loop-u.u 0 ≡ copies_left c.loop-u.u (pieces_from (content c.args.job.now).kinds 0) = (let some_piece : 0 < piece_count (content c.args.job.now).kinds = (accepted-sensible c.args.job.now c.args.plan.margin c.requires.viewed.0.0.accepted).pieced in
     subst (λ (x : ℕ). get_or c.args.plan.copies x 0 ≡ copies_left c.loop-u.u (pieces_from (content c.args.job.now).kinds 0)) (omega arith)
     (c.requires.viewed.0.2.copies 0 c.loop-u.u (some_piece) (omega (arith, c.loop-u.invariant.0)))) in
-    kind-made (planned c.args.job.now c.args.plan) (replicate 12 0) 0 c.args.bound (set_words (content c.args.job.now).sheet) c.loop-u.u c.set_start-to.result c.args.plan.words (get_or c.args.plan.copies c.loop-u.u 0) c.loop-u.work c.fill_below.new.1.1.1.1.1.1.0 c.has_members.result c.set_start-to.ensures.place c.requires.viewed.0.2.words (spans_all _ _)
+    kind-made (planned c.args.job.now c.args.plan) (replicate 12 0) 0 c.args.bound (set_words (content c.args.job.now).sheet) c.loop-u.u c.set_start-to.result c.args.plan.words (get_or c.args.plan.copies c.loop-u.u 0) c.loop-u.work c.fill_below.new.work c.has_members.result c.set_start-to.ensures.place c.requires.viewed.0.2.words (spans_all _ _)
     (told)
-    (made_first (planned c.args.job.now c.args.plan) (replicate 12 0) c.args.bound c.loop-u.u c.set_start-to.result c.args.plan.words c.loop-u.work c.fill_below.new.1.1.1.1.1.1.0 c.set_start-to.ensures.place c.requires.viewed.0.2.words (some_piece) (kind) c.fill_below.ensures)
+    (made_first (planned c.args.job.now c.args.plan) (replicate 12 0) c.args.bound c.loop-u.u c.set_start-to.result c.args.plan.words c.loop-u.work c.fill_below.new.work c.set_start-to.ensures.place c.requires.viewed.0.2.words (some_piece) (kind) c.fill_below.ensures)
     c.has_members.ensures) in
     settled_few (planned c.args.job.now c.args.plan) _ _ _ _ c.loop-u.u c.args.work.now c.loop-u.work _ c.has_members.result c.if-not-has_members.true (kind) c.loop-u.invariant.2 (settled)
 
@@ -72,15 +72,15 @@ loop-u-smaller c = omega (arith, c.loop-u.invariant.0)
 
 pub loop-u-preserved : goal.loop-u-preserved
 loop-u-preserved c =
-    let room : length c.fill_below.new.1.1.1.1.1.1.0 ≡ length c.args.work.now = c.fill_below.auto.work ∙ c.loop-u.invariant.1 in
-    let settled : KindSettled (planned c.args.job.now c.args.plan) (replicate 12 0) 0 c.args.bound (set_words (content c.args.job.now).sheet) c.loop-u.u c.loop-u.work c.fill_below.new.1.1.1.1.1.1.0 c.has_members.result = (let some_piece : 0 < piece_count (content c.args.job.now).kinds = (accepted-sensible c.args.job.now c.args.plan.margin c.requires.viewed.0.0.accepted).pieced in
+    let room : length c.fill_below.new.work ≡ length c.args.work.now = c.fill_below.auto.work ∙ c.loop-u.invariant.1 in
+    let settled : KindSettled (planned c.args.job.now c.args.plan) (replicate 12 0) 0 c.args.bound (set_words (content c.args.job.now).sheet) c.loop-u.u c.loop-u.work c.fill_below.new.work c.has_members.result = (let some_piece : 0 < piece_count (content c.args.job.now).kinds = (accepted-sensible c.args.job.now c.args.plan.margin c.requires.viewed.0.0.accepted).pieced in
     let kind : c.loop-u.u < kind_count (content c.args.job.now).kinds = omega (arith, c.loop-u.invariant.0) in
     let told : get_or c.args.plan.copies c.loop-u.u 0 ≡ copies_left c.loop-u.u (pieces_from (content c.args.job.now).kinds 0) = (let some_piece : 0 < piece_count (content c.args.job.now).kinds = (accepted-sensible c.args.job.now c.args.plan.margin c.requires.viewed.0.0.accepted).pieced in
     subst (λ (x : ℕ). get_or c.args.plan.copies x 0 ≡ copies_left c.loop-u.u (pieces_from (content c.args.job.now).kinds 0)) (omega arith)
     (c.requires.viewed.0.2.copies 0 c.loop-u.u (some_piece) (omega (arith, c.loop-u.invariant.0)))) in
-    kind-made (planned c.args.job.now c.args.plan) (replicate 12 0) 0 c.args.bound (set_words (content c.args.job.now).sheet) c.loop-u.u c.set_start-to.result c.args.plan.words (get_or c.args.plan.copies c.loop-u.u 0) c.loop-u.work c.fill_below.new.1.1.1.1.1.1.0 c.has_members.result c.set_start-to.ensures.place c.requires.viewed.0.2.words (spans_all _ _)
+    kind-made (planned c.args.job.now c.args.plan) (replicate 12 0) 0 c.args.bound (set_words (content c.args.job.now).sheet) c.loop-u.u c.set_start-to.result c.args.plan.words (get_or c.args.plan.copies c.loop-u.u 0) c.loop-u.work c.fill_below.new.work c.has_members.result c.set_start-to.ensures.place c.requires.viewed.0.2.words (spans_all _ _)
     (told)
-    (made_first (planned c.args.job.now c.args.plan) (replicate 12 0) c.args.bound c.loop-u.u c.set_start-to.result c.args.plan.words c.loop-u.work c.fill_below.new.1.1.1.1.1.1.0 c.set_start-to.ensures.place c.requires.viewed.0.2.words (some_piece) (kind) c.fill_below.ensures)
+    (made_first (planned c.args.job.now c.args.plan) (replicate 12 0) c.args.bound c.loop-u.u c.set_start-to.result c.args.plan.words c.loop-u.work c.fill_below.new.work c.set_start-to.ensures.place c.requires.viewed.0.2.words (some_piece) (kind) c.fill_below.ensures)
     c.has_members.ensures) in
     (
   (omega (arith, c.loop-u.invariant.0), c.loop-u.invariant.0.1, c.loop-u.invariant.0.2),

@@ -1,4 +1,5 @@
 -- `root::walking::walk` meets its contract.
+use mathlib.Core.Bool.{Bool}
 use mathlib.Core.List.{List}
 use mathlib.Core.Path.{◌≡◌, refl, sym, ◌∙◌, subst}
 use Prim.Native.Nat.{ℕ, ◌<◌}
@@ -20,6 +21,13 @@ use Rattle.root.specs.Walked.{RoomFor, Begun, Walked}
 use Rattle.root.proofs.Rooted.{begin_back, begin_deep, begin_walks}
 use Rattle.root.proofs.walking.walk.Goals as goal
 
+-- What the walk leaves at one margin, it leaves at one that is equal.
+as_viewed : (s : List ℕ) (m n : ℕ) → m ≡ n → (found : Bool) (answer : List ℕ) (budget : ℕ) (work out work' out' : List ℕ) (st : Progress)
+    → Walked (under m (content s)) (held_of (under m (content s)) found answer) budget work out work' out' st
+    → Walked (under n (content s)) (held_of (under n (content s)) found answer) budget work out work' out' st
+as_viewed s m n e found answer budget work out work' out' st w =
+    subst (λ (k : ℕ). Walked (under k (content s)) (held_of (under k (content s)) found answer) budget work out work' out' st) e w
+
 pub make_plan-plan-requires : goal.make_plan-plan-requires
 make_plan-plan-requires c = (c.requires.prepared.viewed, c.requires.prepared.boxes)
 
@@ -39,16 +47,13 @@ returns-then-not-settle_first c =
     let some_piece : 0 < piece_count (content c.args.job.now).kinds = (accepted-sensible c.args.job.now c.args.view.margin c.requires.prepared.viewed.accepted).pieced in
     let room : RoomFor (planned c.args.job.now c.make_plan-plan.result) c.args.work.now c.args.answer.now = subst (λ (m : ℕ). RoomFor (under m (content c.args.job.now)) c.args.work.now c.args.answer.now) (sym c.make_plan-plan.ensures.1) c.requires.room_for.0 in
     let begun : Begun (planned c.args.job.now c.make_plan-plan.result) c.args.bound c.args.found c.args.answer.now = subst (λ (m : ℕ). Begun (under m (content c.args.job.now)) c.args.bound c.args.found c.args.answer.now) (sym c.make_plan-plan.ensures.1) c.requires.room_for.1 in
-    let as_viewed : {work out work' out' : List ℕ} {st : Progress}
-    → Walked (planned c.args.job.now c.make_plan-plan.result) (held_of (planned c.args.job.now c.make_plan-plan.result) c.args.found c.args.answer.now) c.args.budget work out work' out' st
-    → Walked (problem_of c.args.job.now c.args.view) (held_of (problem_of c.args.job.now c.args.view) c.args.found c.args.answer.now) c.args.budget work out work' out' st = λ {work} {out} {work'} {out'} {st} w. subst (λ (m : ℕ). Walked (under m (content c.args.job.now)) (held_of (under m (content c.args.job.now)) c.args.found c.args.answer.now) c.args.budget work out work' out' st) c.make_plan-plan.ensures.1 w in
-    as_viewed
+    as_viewed c.args.job.now _ _ c.make_plan-plan.ensures.1 c.args.found c.args.answer.now c.args.budget _ _ _ _ _
     (begin_back _ c.args.budget c.args.bound _ c.args.found _ _ _ (some_piece) (begun) c.make_plan-plan.ensures.0.words refl (room) _ c.settle_first.result c.settle_first.ensures c.begin.result c.begin.ensures c.if-not-settle_first.true)
 
 pub shrink-requires : goal.shrink-requires
 shrink-requires c =
     let room : RoomFor (planned c.args.job.now c.make_plan-plan.result) c.args.work.now c.args.answer.now = subst (λ (m : ℕ). RoomFor (under m (content c.args.job.now)) c.args.work.now c.args.answer.now) (sym c.make_plan-plan.ensures.1) c.requires.room_for.0 in
-    let k : length c.settle_first.new.1.1.1.1.1.0 ≡ length c.args.work.now = c.settle_first.auto.work in
+    let k : length c.settle_first.new.work ≡ length c.args.work.now = c.settle_first.auto.work in
     (c.make_plan-plan.ensures.0, omega (arith, c.make_plan-plan.ensures.0.words), omega (arith, k, (room).work-fits))
 
 pub nofit_of-nofit-requires : goal.nofit_of-nofit-requires
@@ -59,7 +64,7 @@ walk_with_table-requires c =
     let some_piece : 0 < piece_count (content c.args.job.now).kinds = (accepted-sensible c.args.job.now c.args.view.margin c.requires.prepared.viewed.accepted).pieced in
     let room : RoomFor (planned c.args.job.now c.make_plan-plan.result) c.args.work.now c.args.answer.now = subst (λ (m : ℕ). RoomFor (under m (content c.args.job.now)) c.args.work.now c.args.answer.now) (sym c.make_plan-plan.ensures.1) c.requires.room_for.0 in
     let begun : Begun (planned c.args.job.now c.make_plan-plan.result) c.args.bound c.args.found c.args.answer.now = subst (λ (m : ℕ). Begun (under m (content c.args.job.now)) c.args.bound c.args.found c.args.answer.now) (sym c.make_plan-plan.ensures.1) c.requires.room_for.1 in
-    let shrunk : Shrunk (kind_count (content c.args.job.now).kinds) c.make_plan-plan.result.words c.make_plan-plan.result.words c.settle_first.new.1.1.1.1.1.0 c.shrink.result = rw (← c.make_plan-plan.ensures.0.types) c.shrink.ensures in
+    let shrunk : Shrunk (kind_count (content c.args.job.now).kinds) c.make_plan-plan.result.words c.make_plan-plan.result.words c.settle_first.new.work c.shrink.result = rw (← c.make_plan-plan.ensures.0.types) c.shrink.ensures in
     record {
       computed = (record { viewed = c.requires.prepared.viewed; table = c.requires.prepared.turned; boxed = c.requires.prepared.boxes; plan = c.make_plan-plan.ensures.0; measures = c.nofit_of-nofit.ensures.0 }, omega (arith, c.nofit_of-nofit.ensures.1, c.nofit_of-nofit.ensures.0.small, c.room_for.ensures));
       ready = begin_deep _ c.args.budget c.args.bound _ c.args.found _ _ _ (some_piece) (begun) c.make_plan-plan.ensures.0.words refl (room) _ c.settle_first.result c.settle_first.ensures (demanded c.args.job.now c.requires.prepared.viewed.accepted) c.if-not-settle_first.false c.shrink.result (shrunk) c.begin-start.result c.begin-start.ensures c.settle_first.auto.work;
@@ -76,9 +81,6 @@ returns c =
     let some_piece : 0 < piece_count (content c.args.job.now).kinds = (accepted-sensible c.args.job.now c.args.view.margin c.requires.prepared.viewed.accepted).pieced in
     let room : RoomFor (planned c.args.job.now c.make_plan-plan.result) c.args.work.now c.args.answer.now = subst (λ (m : ℕ). RoomFor (under m (content c.args.job.now)) c.args.work.now c.args.answer.now) (sym c.make_plan-plan.ensures.1) c.requires.room_for.0 in
     let begun : Begun (planned c.args.job.now c.make_plan-plan.result) c.args.bound c.args.found c.args.answer.now = subst (λ (m : ℕ). Begun (under m (content c.args.job.now)) c.args.bound c.args.found c.args.answer.now) (sym c.make_plan-plan.ensures.1) c.requires.room_for.1 in
-    let as_viewed : {work out work' out' : List ℕ} {st : Progress}
-    → Walked (planned c.args.job.now c.make_plan-plan.result) (held_of (planned c.args.job.now c.make_plan-plan.result) c.args.found c.args.answer.now) c.args.budget work out work' out' st
-    → Walked (problem_of c.args.job.now c.args.view) (held_of (problem_of c.args.job.now c.args.view) c.args.found c.args.answer.now) c.args.budget work out work' out' st = λ {work} {out} {work'} {out'} {st} w. subst (λ (m : ℕ). Walked (under m (content c.args.job.now)) (held_of (under m (content c.args.job.now)) c.args.found c.args.answer.now) c.args.budget work out work' out' st) c.make_plan-plan.ensures.1 w in
-    let shrunk : Shrunk (kind_count (content c.args.job.now).kinds) c.make_plan-plan.result.words c.make_plan-plan.result.words c.settle_first.new.1.1.1.1.1.0 c.shrink.result = rw (← c.make_plan-plan.ensures.0.types) c.shrink.ensures in
-    as_viewed
+    let shrunk : Shrunk (kind_count (content c.args.job.now).kinds) c.make_plan-plan.result.words c.make_plan-plan.result.words c.settle_first.new.work c.shrink.result = rw (← c.make_plan-plan.ensures.0.types) c.shrink.ensures in
+    as_viewed c.args.job.now _ _ c.make_plan-plan.ensures.1 c.args.found c.args.answer.now c.args.budget _ _ _ _ _
     (begin_walks _ c.args.budget c.args.bound _ c.args.found _ _ _ (some_piece) (begun) c.make_plan-plan.ensures.0.words refl (room) _ c.settle_first.result c.settle_first.ensures (demanded c.args.job.now c.requires.prepared.viewed.accepted) c.if-not-settle_first.false c.shrink.result (shrunk) c.begin-start.result c.begin-start.ensures _ _ c.walk_with_table.result c.walk_with_table.ensures)

@@ -67,7 +67,7 @@ hold-requires c =
 pub walk-st-requires : goal.walk-st-requires
 walk-st-requires c =
     let problem : Problem = problem_of c.args.job.now c.args.view in
-    let ready : RoomFor (problem) c.args.work.now c.hold.new.1.1.1.1.0 × Begun (problem) c.args.given.bound c.args.given.found c.hold.new.1.1.1.1.0 = (let problem : Problem = problem_of c.args.job.now c.args.view in
+    let ready : RoomFor (problem) c.args.work.now c.hold.new.answer × Begun (problem) c.args.given.bound c.args.given.found c.hold.new.answer = (let problem : Problem = problem_of c.args.job.now c.args.view in
     let room : RoomFor (problem) c.args.work.now c.args.answer.now = (let problem : Problem = problem_of c.args.job.now c.args.view in
     let begin : Option Layout = (let problem : Problem = problem_of c.args.job.now c.args.view in
     given_layout (problem) c.args.layout.now) in
@@ -77,8 +77,8 @@ walk-st-requires c =
     from-room (problem) (begin) c.args.budget c.args.work.now c.args.answer.now c.work_words-words.result (words_are) _ (numbers_are) (sym c.lacks_words.ensures ∙ c.if-lacks_words.false) (sym c.lacks_numbers.ensures ∙ c.if-lacks_numbers.false)) in
     let begin : Option Layout = (let problem : Problem = problem_of c.args.job.now c.args.view in
     given_layout (problem) c.args.layout.now) in
-    let holds : c.hold.new.1.1.1.1.0 ≡ with_layout (begin) c.args.answer.now = c.hold.ensures ∙ ap (λ (h : Option Layout). with_layout h c.args.answer.now) (c.requires.given_by.0.held c.requires.given_by.1) in
-    let k : length c.hold.new.1.1.1.1.0 ≡ length c.args.answer.now = c.hold.auto.answer in (
+    let holds : c.hold.new.answer ≡ with_layout (begin) c.args.answer.now = c.hold.ensures ∙ ap (λ (h : Option Layout). with_layout h c.args.answer.now) (c.requires.given_by.0.held c.requires.given_by.1) in
+    let k : length c.hold.new.answer ≡ length c.args.answer.now = c.hold.auto.answer in (
       record { work-fits = (room).work-fits; out-fits = omega (arith, k, (room).out-fits) },
       rw (holds) (begins c.args.job.now c.args.view.margin c.requires.prepared.viewed.accepted c.args.layout.now c.args.answer.now c.args.given c.requires.given_by.0 c.requires.given_by.1),
     )) in
@@ -96,7 +96,7 @@ clear-requires c =
     let problem : Problem = problem_of c.args.job.now c.args.view in
     let words_are : c.work_words-words.result ≡ work_words (problem) = c.work_words-words.ensures.0 in
     from-room (problem) (begin) c.args.budget c.args.work.now c.args.answer.now c.work_words-words.result (words_are) _ (numbers_are) (sym c.lacks_words.ensures ∙ c.if-lacks_words.false) (sym c.lacks_numbers.ensures ∙ c.if-lacks_numbers.false)) in
-    let k : length c.walk-st.new.1.1.1.1.1.1.1.0 ≡ length c.args.work.now = c.walk-st.auto.work in
+    let k : length c.walk-st.new.work ≡ length c.args.work.now = c.walk-st.auto.work in
     omega (arith, k, (room).work-fits, words_are)
 
 pub tell-requires : goal.tell-requires
@@ -104,11 +104,11 @@ tell-requires c =
     let problem : Problem = problem_of c.args.job.now c.args.view in
     let begin : Option Layout = (let problem : Problem = problem_of c.args.job.now c.args.view in
     given_layout (problem) c.args.layout.now) in
-    let walked : Walked (problem) (begin) c.args.budget c.args.work.now c.hold.new.1.1.1.1.0 c.walk-st.new.1.1.1.1.1.1.1.0 c.walk-st.new.1.1.1.1.1.1.1.1.0 c.walk-st.result = (let problem : Problem = problem_of c.args.job.now c.args.view in
+    let walked : Walked (problem) (begin) c.args.budget c.args.work.now c.hold.new.answer c.walk-st.new.work c.walk-st.new.answer c.walk-st.result = (let problem : Problem = problem_of c.args.job.now c.args.view in
     let begin : Option Layout = (let problem : Problem = problem_of c.args.job.now c.args.view in
     given_layout (problem) c.args.layout.now) in
-    let holds : c.hold.new.1.1.1.1.0 ≡ with_layout (begin) c.args.answer.now = c.hold.ensures ∙ ap (λ (h : Option Layout). with_layout h c.args.answer.now) (c.requires.given_by.0.held c.requires.given_by.1) in
-    subst (λ (h : Option Layout). Walked (problem) h c.args.budget c.args.work.now c.hold.new.1.1.1.1.0 c.walk-st.new.1.1.1.1.1.1.1.0 c.walk-st.new.1.1.1.1.1.1.1.1.0 c.walk-st.result)
+    let holds : c.hold.new.answer ≡ with_layout (begin) c.args.answer.now = c.hold.ensures ∙ ap (λ (h : Option Layout). with_layout h c.args.answer.now) (c.requires.given_by.0.held c.requires.given_by.1) in
+    subst (λ (h : Option Layout). Walked (problem) h c.args.budget c.args.work.now c.hold.new.answer c.walk-st.new.work c.walk-st.new.answer c.walk-st.result)
     (ap (held_of (problem) c.args.given.found) (holds) ∙ held-again c.args.job.now c.args.view.margin c.requires.prepared.viewed.accepted c.args.layout.now c.args.answer.now c.args.given c.requires.given_by.0 c.requires.given_by.1) c.walk-st.ensures) in
     (left-within _ _ _ _ _ _ _ _ (walked), (c.requires.prepared.viewed.view.margin, omega (arith, (walked).lowered, short-board c.args.job.now c.requires.prepared.viewed.accepted)))
 
@@ -128,15 +128,15 @@ returns c =
     let words_are : c.work_words-words.result ≡ work_words (problem) = c.work_words-words.ensures.0 in
     let begin : Option Layout = (let problem : Problem = problem_of c.args.job.now c.args.view in
     given_layout (problem) c.args.layout.now) in
-    let holds : c.hold.new.1.1.1.1.0 ≡ with_layout (begin) c.args.answer.now = c.hold.ensures ∙ ap (λ (h : Option Layout). with_layout h c.args.answer.now) (c.requires.given_by.0.held c.requires.given_by.1) in
+    let holds : c.hold.new.answer ≡ with_layout (begin) c.args.answer.now = c.hold.ensures ∙ ap (λ (h : Option Layout). with_layout h c.args.answer.now) (c.requires.given_by.0.held c.requires.given_by.1) in
     let problem : Problem = problem_of c.args.job.now c.args.view in
     let begin : Option Layout = (let problem : Problem = problem_of c.args.job.now c.args.view in
     given_layout (problem) c.args.layout.now) in
-    let walked : Walked (problem) (begin) c.args.budget c.args.work.now c.hold.new.1.1.1.1.0 c.walk-st.new.1.1.1.1.1.1.1.0 c.walk-st.new.1.1.1.1.1.1.1.1.0 c.walk-st.result = (let problem : Problem = problem_of c.args.job.now c.args.view in
+    let walked : Walked (problem) (begin) c.args.budget c.args.work.now c.hold.new.answer c.walk-st.new.work c.walk-st.new.answer c.walk-st.result = (let problem : Problem = problem_of c.args.job.now c.args.view in
     let begin : Option Layout = (let problem : Problem = problem_of c.args.job.now c.args.view in
     given_layout (problem) c.args.layout.now) in
-    let holds : c.hold.new.1.1.1.1.0 ≡ with_layout (begin) c.args.answer.now = c.hold.ensures ∙ ap (λ (h : Option Layout). with_layout h c.args.answer.now) (c.requires.given_by.0.held c.requires.given_by.1) in
-    subst (λ (h : Option Layout). Walked (problem) h c.args.budget c.args.work.now c.hold.new.1.1.1.1.0 c.walk-st.new.1.1.1.1.1.1.1.0 c.walk-st.new.1.1.1.1.1.1.1.1.0 c.walk-st.result)
+    let holds : c.hold.new.answer ≡ with_layout (begin) c.args.answer.now = c.hold.ensures ∙ ap (λ (h : Option Layout). with_layout h c.args.answer.now) (c.requires.given_by.0.held c.requires.given_by.1) in
+    subst (λ (h : Option Layout). Walked (problem) h c.args.budget c.args.work.now c.hold.new.answer c.walk-st.new.work c.walk-st.new.answer c.walk-st.result)
     (ap (held_of (problem) c.args.given.found) (holds) ∙ held-again c.args.job.now c.args.view.margin c.requires.prepared.viewed.accepted c.args.layout.now c.args.answer.now c.args.given c.requires.given_by.0 c.requires.given_by.1) c.walk-st.ensures) in
     from-done (problem) (begin) _ _ _ c.work_words-words.result (words_are) _ (numbers_are) (sym c.lacks_words.ensures ∙ c.if-lacks_words.false) (sym c.lacks_numbers.ensures ∙ c.if-lacks_numbers.false)
     (accepted-sensible c.args.job.now c.args.view.margin c.requires.prepared.viewed.accepted).pieced
