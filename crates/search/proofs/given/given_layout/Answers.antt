@@ -17,10 +17,10 @@ pub judged-requires : goal.judged-requires
 judged-requires c = c.requires
 
 pub overflow_sub-result : goal.overflow_sub-result
-overflow_sub-result c = omega (arith, passed-margin (problem_of c.args.job.now c.args.view) c.args.layout.now _ (sym c.judged.ensures ∙ c.length-1.given.1))
+overflow_sub-result c = omega (arith, passed-margin (problem_of c.args.job.now c.args.view) c.args.layout.now _ (sym c.judged.ensures ∙ c.in-Passes.is))
 
 pub returns-in-Refused : goal.returns-in-Refused
-returns-in-Refused c = gives_refusal (problem_of c.args.job.now c.args.view) c.args.layout.now c.if-layout-eq0.false _ (sym c.judged.ensures ∙ c.number-1.given.1)
+returns-in-Refused c = gives_refusal (problem_of c.args.job.now c.args.view) c.args.layout.now c.if-layout-eq0.false _ (sym c.judged.ensures ∙ c.in-Refused.is)
 
 pub returns-in-Passes : goal.returns-in-Passes
-returns-in-Passes c = gives_layout (problem_of c.args.job.now c.args.view) c.args.layout.now c.if-layout-eq0.false _ c.args.view.margin refl (sym c.judged.ensures ∙ c.length-1.given.1)
+returns-in-Passes c = gives_layout (problem_of c.args.job.now c.args.view) c.args.layout.now c.if-layout-eq0.false _ c.args.view.margin refl (sym c.judged.ensures ∙ c.in-Passes.is)
