@@ -9,7 +9,7 @@ use Rattle.command.proofs.pieces_shown.Goals as goal
 pub returns-then-refusal-eq0 : goal.returns-then-refusal-eq0
 returns-then-refusal-eq0 c =
     let s = c.args.bytes.now in
-    let opened = c.«open».ensures in
-    let e : refusal s ≡ 0 = sym opened.0 ∙ c.if-refusal-eq0.true in
-    let pieces = (opened.1 c.if-refusal-eq0.true).view.pieces in
+    let opened = c.open-opened.ensures in
+    let e : refusal s ≡ 0 = sym opened.refusal_value ∙ c.if-refusal-eq0.true in
+    let pieces = (opened.viewed c.if-refusal-eq0.true).view.pieces in
     record { exact = λ _. pieces; few = omega (arith, pieces, pieces-most s e) }
