@@ -3,7 +3,7 @@ use Rattle.std.specs.Prelude.{Bool, true, false, List, ◌≡◌, ℕ, ◌*◌, 
 use Rattle.std.proofs.Math.Option.{Option, none, some}
 use Rattle.model.specs.Content.{piece_count}
 use Rattle.model.specs.Layout.{Layout, is_entry, largest_end}
-use Rattle.model.specs.Lists.{all, below}
+use Rattle.model.specs.Lists.{all}
 use Rattle.model.specs.Problem.{Problem}
 use Rattle.model.specs.Services.{layout_in, with_layout, numbers_in, work_words}
 use Rattle.stepping.specs.LiveSets.{set_of, bound_of, Spans}

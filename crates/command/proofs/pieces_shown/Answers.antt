@@ -3,7 +3,6 @@ use mathlib.Core.Path.{◌≡◌, ◌∙◌, sym}
 use native.Mathlib.Omega.{arith}
 use Rattle.model.specs.Format.{refusal}
 use Rattle.model.proofs.AcceptedKinds.{pieces-most}
-use borrow.Author.Rules.{rules}
 use Rattle.command.proofs.pieces_shown.Goals as goal
 
 pub returns-then-refusal-eq0 : goal.returns-then-refusal-eq0

@@ -2,7 +2,6 @@
 use mathlib.Core.List.{List}
 use Prim.Native.Nat.{ℕ}
 use Rattle.command.proofs.Text.{text-told, text-as, prints-program}
-use borrow.Author.Rules.{rules}
 use Rattle.command.proofs.respond.Goals as goal
 
 pub returns : goal.returns

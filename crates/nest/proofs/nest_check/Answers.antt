@@ -1,7 +1,6 @@
 -- `nest::nest_check` meets its contract: what check answers, as one number.
 use mathlib.Core.Path.{◌∙◌, ap}
 use Rattle.model.specs.Answers.{check_word}
-use borrow.Author.Rules.{rules}
 use Rattle.nest.proofs.nest_check.Goals as goal
 
 pub returns : goal.returns

@@ -1,7 +1,6 @@
 -- `nest::nest_cut` meets its contract: what cut answers, as one number.
 use mathlib.Core.Path.{◌∙◌, ap}
 use Rattle.model.specs.Answers.{written_word}
-use borrow.Author.Rules.{rules}
 use Rattle.nest.proofs.nest_cut.Goals as goal
 
 pub returns : goal.returns

@@ -1,7 +1,6 @@
 -- `nest::nest_row` meets its contract: what row answers, as one number.
 use mathlib.Core.Path.{◌∙◌, ap}
 use Rattle.model.specs.Answers.{written_word}
-use borrow.Author.Rules.{rules}
 use Rattle.nest.proofs.nest_row.Goals as goal
 
 pub returns : goal.returns

@@ -1,7 +1,6 @@
 -- `nest::nest_run` meets its contract: what run answers, as one number.
 use mathlib.Core.Path.{◌∙◌, ap}
 use Rattle.model.specs.Answers.{run_word}
-use borrow.Author.Rules.{rules}
 use Rattle.nest.proofs.nest_run.Goals as goal
 
 pub returns : goal.returns

@@ -1,7 +1,6 @@
 -- `nest::nest_save` meets its contract: what save answers, as one number.
 use mathlib.Core.Path.{◌∙◌, ap}
 use Rattle.model.specs.Answers.{written_word}
-use borrow.Author.Rules.{rules}
 use Rattle.nest.proofs.nest_save.Goals as goal
 
 pub returns : goal.returns

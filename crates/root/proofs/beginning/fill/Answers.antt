@@ -1,10 +1,8 @@
 use mathlib.Core.Path.{◌≡◌, refl}
-use Prim.Native.Nat.{◌+◌, ◌-◌, ◌*◌, ◌^◌, ◌≤◌, ◌<◌}
+use Prim.Native.Nat.{◌*◌}
 use native.Mathlib.Omega.{arith}
-use lib.ListN.{length}
 use Rattle.model.specs.Candidate.{is_candidate}
 use Rattle.job.specs.View.{problem_of}
-use Rattle.live_sets.specs.Narrowing.{Filled}
 use Rattle.live_sets.proofs.Filling.{filled-begin, filled_next, bits-where}
 use borrow.Author.Rules.{rules}
 use Rattle.root.proofs.beginning.fill.Goals as goal
@@ -16,8 +14,7 @@ pub fill_word-w-requires : goal.fill_word-w-requires
 fill_word-w-requires c = record { viewed = c.requires.viewed; u_bound = (c.requires.fillable.kind, omega arith) }
 
 pub loop-k-preserved : goal.loop-k-preserved
-loop-k-preserved c =
-    (
+loop-k-preserved c = (
   omega arith,
   search rules,
   rw c.put_u64.ensures (filled_next c.args.to c.loop-k.k (is_candidate (problem_of c.args.job.now c.args.view) c.args.u) c.args.work.now c.loop-k.work c.fill_word-w.result c.loop-k.invariant.2 (omega arith) (search rules)

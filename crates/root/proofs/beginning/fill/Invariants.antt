@@ -1,13 +1,10 @@
 -- `root::beginning::fill` meets its contract. The invariant: the words passed are made, and nothing else changed.
-use mathlib.Core.Path.{◌≡◌, refl}
+use mathlib.Core.Path.{◌≡◌}
 use Prim.Native.Nat.{◌+◌, ◌-◌, ◌*◌, ◌^◌, ◌≤◌, ◌<◌}
-use native.Mathlib.Omega.{arith}
 use lib.ListN.{length}
 use Rattle.model.specs.Candidate.{is_candidate}
 use Rattle.job.specs.View.{problem_of}
 use Rattle.live_sets.specs.Narrowing.{Filled}
-use Rattle.live_sets.proofs.Filling.{filled-begin, filled_next, bits-where}
-use borrow.Author.Rules.{rules}
 use Rattle.root.proofs.beginning.fill.Given as goal
 
 abbrev pub invariant-loop-k : goal.invariant-loop-k

@@ -13,9 +13,9 @@ use Rattle.root.proofs.beginning.fill_below.Goals as goal
 
 pub fill-requires : goal.fill-requires
 fill-requires c = record {
-      viewed = (c.requires.viewed.0.0, c.requires.viewed.0.1);
-      fillable = record { kind = c.requires.fillable.kind; few = c.requires.fillable.few; fits = c.requires.fillable.fits };
-    }
+  viewed = (c.requires.viewed.0.0, c.requires.viewed.0.1);
+  fillable = record { kind = c.requires.fillable.kind; few = c.requires.fillable.few; fits = c.requires.fillable.fits };
+}
 
 pub trim_set-requires : goal.trim_set-requires
 trim_set-requires c =

@@ -1,15 +1,9 @@
 -- `root::beginning::fill_word` meets its contract. The invariant: the bits passed are those of the candidates.
-use mathlib.Core.Path.{◌≡◌, sym, ap, ◌∙◌}
-use Prim.Native.Nat.{ℕ, ◌+◌, ◌-◌, ◌%◌, ◌^◌, ◌≤◌, ◌<◌}
-use native.Mathlib.Nat.{mod-eq_of_lt}
-use native.Mathlib.Omega.{arith}
-use Rattle.words.specs.Bits.{bits_where, assigned_bit}
-use Rattle.words.proofs.Bit.{bits_where-none, bits_where-next}
+use mathlib.Core.Path.{◌≡◌}
+use Prim.Native.Nat.{◌+◌, ◌-◌, ◌^◌, ◌≤◌, ◌<◌}
+use Rattle.words.specs.Bits.{bits_where}
 use Rattle.model.specs.Candidate.{is_candidate}
 use Rattle.job.specs.View.{problem_of}
-use Rattle.candidates.specs.Placements.{offered}
-use Rattle.candidates.proofs.PreparedLaws.{bounded, offered-is}
-use borrow.Author.Rules.{rules}
 use Rattle.root.proofs.beginning.fill_word.Given as goal
 
 abbrev pub invariant-loop-b : goal.invariant-loop-b

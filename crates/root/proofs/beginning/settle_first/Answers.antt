@@ -1,7 +1,6 @@
 use mathlib.Core.Path.{◌≡◌, refl, ◌∙◌, subst}
-use Prim.Native.Nat.{ℕ, ◌+◌, ◌*◌, ◌-◌, ◌≤◌, ◌<◌}
+use Prim.Native.Nat.{ℕ, ◌+◌, ◌*◌, ◌≤◌, ◌<◌}
 use native.Mathlib.Omega.{arith}
-use borrow.Author.Tests.{not-true, not-false}
 use lib.ListN.{length, get_or, replicate}
 use Rattle.model.specs.Content.{kind_count, piece_count}
 use Rattle.model.specs.Format.{content}
@@ -81,12 +80,11 @@ loop-u-preserved c =
     kind-made (planned c.args.job.now c.args.plan) (replicate 12 0) 0 c.args.bound (set_words (content c.args.job.now).sheet) c.loop-u.u c.set_start-to.result c.args.plan.words (get_or c.args.plan.copies c.loop-u.u 0) c.loop-u.work c.fill_below.new.work c.has_members.result c.set_start-to.ensures.place c.requires.viewed.0.2.words (spans_all _ _)
     (told)
     (made_first (planned c.args.job.now c.args.plan) (replicate 12 0) c.args.bound c.loop-u.u c.set_start-to.result c.args.plan.words c.loop-u.work c.fill_below.new.work c.set_start-to.ensures.place c.requires.viewed.0.2.words (some_piece) (kind) c.fill_below.ensures)
-    c.has_members.ensures) in
-    (
-  (omega (arith, c.loop-u.invariant.0), c.loop-u.invariant.0.1, c.loop-u.invariant.0.2),
-  room,
-  settling_next (planned c.args.job.now c.args.plan) _ _ _ _ c.loop-u.u c.args.work.now c.loop-u.work _ c.has_members.result c.if-not-has_members.false (omega arith) c.loop-u.invariant.2 (settled),
-)
+    c.has_members.ensures) in (
+      (omega (arith, c.loop-u.invariant.0), c.loop-u.invariant.0.1, c.loop-u.invariant.0.2),
+      room,
+      settling_next (planned c.args.job.now c.args.plan) _ _ _ _ c.loop-u.u c.args.work.now c.loop-u.work _ c.has_members.result c.if-not-has_members.false (omega arith) c.loop-u.invariant.2 (settled),
+    )
 
 pub shape_of-work : goal.shape_of-work
 shape_of-work c = c.loop-u.invariant.1

@@ -4,14 +4,11 @@ use mathlib.Core.List.{List}
 use mathlib.Core.Path.{◌≡◌, refl, sym, ◌∙◌, subst}
 use Prim.Native.Nat.{ℕ, ◌<◌}
 use native.Mathlib.Omega.{arith}
-use borrow.Author.Rules.{rules}
-use borrow.Author.Tests.{not-true, not-false}
 use lib.ListN.{length}
 use Rattle.model.specs.Content.{kind_count, piece_count}
 use Rattle.model.specs.Format.{content}
 use Rattle.model.specs.Problem.{under}
 use Rattle.model.proofs.Accepted.{accepted-sensible}
-use Rattle.job.specs.View.{problem_of}
 use Rattle.stepping.proofs.Limits.{demanded}
 use Rattle.plans.specs.Planned.{planned}
 use Rattle.bounding.specs.Trimmed.{Shrunk}

@@ -1,8 +1,7 @@
 -- `root::walking::walk_with_table` meets its contract.
 use mathlib.Core.Path.{◌≡◌, refl}
-use Prim.Native.Nat.{ℕ, ◌+◌, ◌*◌, ◌≤◌}
+use Prim.Native.Nat.{ℕ, ◌≤◌}
 use native.Mathlib.Omega.{arith}
-use borrow.Author.Rules.{rules}
 use Rattle.root.proofs.walking.walk_with_table.Goals as goal
 
 -- A table of so many bytes has room for what is no more.
@@ -17,20 +16,20 @@ overflow_add-nofit c = omega (arith, c.requires.computed.1)
 
 pub walk_over-requires : goal.walk_over-requires
 walk_over-requires c = record {
-      computed = c.requires.computed.0;
-      size_in_bounds = room _ _ 8192 refl (omega (arith, c.if-nofit-lt1024.true));
-      ready = c.requires.ready;
-    }
+  computed = c.requires.computed.0;
+  size_in_bounds = room _ _ 8192 refl (omega (arith, c.if-nofit-lt1024.true));
+  ready = c.requires.ready;
+}
 
 pub returns-then-nofit-lt1024 : goal.returns-then-nofit-lt1024
 returns-then-nofit-lt1024 c = c.walk_over.ensures
 
 pub walk_over-requires-2 : goal.walk_over-requires-2
 walk_over-requires-2 c = record {
-      computed = c.requires.computed.0;
-      size_in_bounds = room _ _ 204800 refl (omega (arith, c.requires.computed.1));
-      ready = c.requires.ready;
-    }
+  computed = c.requires.computed.0;
+  size_in_bounds = room _ _ 204800 refl (omega (arith, c.requires.computed.1));
+  ready = c.requires.ready;
+}
 
 pub returns : goal.returns
 returns c = c.walk_over-2.ensures

@@ -1,7 +1,6 @@
 -- `search::given::given_layout` meets its contract.
 use mathlib.Core.Path.{refl, sym, ◌∙◌}
 use native.Mathlib.Omega.{arith}
-use borrow.Author.Rules.{rules}
 use Rattle.job.specs.View.{problem_of}
 use Rattle.stepping.proofs.Limits.{short-board}
 use Rattle.search.proofs.Beginning.{gives_none, passed-margin, gives_refusal, gives_layout}

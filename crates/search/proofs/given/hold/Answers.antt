@@ -4,7 +4,6 @@ use mathlib.Core.Option.{some}
 use mathlib.Core.Path.{sym, ap, ◌∙◌}
 use Prim.Native.Nat.{ℕ}
 use native.Mathlib.Omega.{arith}
-use borrow.Author.Rules.{rules}
 use Rattle.model.specs.Lists.{below}
 use Rattle.model.specs.Services.{entry_in, layout_in, with_layout}
 use Rattle.job.specs.View.{problem_of}

@@ -1,7 +1,6 @@
 -- `search::run::run` meets its contract: it answers and leaves what the model says, at all inputs.
 use mathlib.Core.Path.{◌≡◌, refl, sym, ◌∙◌, subst}
 use Prim.Native.Nat.{ℕ}
-use borrow.Author.Rules.{rules}
 use Rattle.model.specs.Format.{content}
 use Rattle.model.specs.Problem.{under}
 use Rattle.model.specs.Services.{refusal_under, run_outcome}

@@ -1,17 +1,14 @@
-use borrow.Author.Rules.{rules}
 use borrow.Author.Tests.{not-true, not-false}
 use mathlib.Core.Path.{◌≡◌, refl, ◌∙◌}
-use Prim.Native.Nat.{ℕ, ◌+◌, ◌*◌, ◌-◌, ◌≤◌, ◌<◌}
+use Prim.Native.Nat.{ℕ, ◌≤◌, ◌<◌}
 use native.Mathlib.Omega.{arith}
-use lib.ListN.{length}
 use Rattle.model.specs.Content.{kind_count, piece_count}
 use Rattle.model.specs.Format.{content}
 use Rattle.model.specs.Grid.{dots, set_words}
 use Rattle.model.proofs.Accepted.{accepted-kinds, accepted-dots}
 use Rattle.stepping.proofs.Limits.{few-pieces, few_words, demanded}
 use Rattle.walks.proofs.GoingOn.{record_ready, lower-ready, go_last, settle_ready, go_back, deep_ready, go_deep}
-use Rattle.walks.proofs.Trying.{Trying, trying_begin, trying_keeps, trying_past, trying_stops, taken-ready, taken-taken, trying_ends, trying_goes}
-use Rattle.plans.specs.Planned.{planned}
+use Rattle.walks.proofs.Trying.{trying_begin, trying_keeps, trying_past, trying_stops, taken-ready, taken-taken, trying_ends, trying_goes}
 use Rattle.walks.proofs.walk.+go_on_try_piece.Goals as goal
 
 -- Not all pieces are placed.
@@ -56,8 +53,7 @@ go_on-settle-requires t c =
 
 pub go_on-try_piece-requires : goal.go_on-try_piece-requires
 go_on-try_piece-requires t c =
-    let unplaced : c.args.level < piece_count (content c.args.job.now).kinds = unfinished c.args.level _ _ c.requires.taken.within c.requires.known.plan.pieces c.if-level-plan.false in
-    (
+    let unplaced : c.args.level < piece_count (content c.args.job.now).kinds = unfinished c.args.level _ _ c.requires.taken.within c.requires.known.plan.pieces c.if-level-plan.false in (
       omega (arith, c.decreases),
       (
         (c.requires.known, unplaced),

@@ -1,18 +1,11 @@
 -- The proof of the cycle of calls of `walks::walk::go_on` and `walks::walk::try_piece`. The measure is twice the pieces left, and one more for
 -- `go_on`, which calls `try_piece` at the same level. The invariant of the loop of `try_piece` is `Trying`.
-use borrow.Author.Rules.{rules}
-use borrow.Author.Tests.{not-true, not-false}
-use mathlib.Core.Path.{◌≡◌, refl, ◌∙◌}
-use Prim.Native.Nat.{ℕ, ◌+◌, ◌*◌, ◌-◌, ◌≤◌, ◌<◌}
-use native.Mathlib.Omega.{arith}
+use mathlib.Core.Path.{◌≡◌}
+use Prim.Native.Nat.{◌+◌, ◌*◌, ◌-◌}
 use lib.ListN.{length}
-use Rattle.model.specs.Content.{kind_count, piece_count}
 use Rattle.model.specs.Format.{content}
-use Rattle.model.specs.Grid.{dots, set_words}
-use Rattle.model.proofs.Accepted.{accepted-kinds, accepted-dots}
-use Rattle.stepping.proofs.Limits.{few-pieces, few_words, demanded}
-use Rattle.walks.proofs.GoingOn.{record_ready, lower-ready, go_last, settle_ready, go_back, deep_ready, go_deep}
-use Rattle.walks.proofs.Trying.{Trying, trying_begin, trying_keeps, trying_past, trying_stops, taken-ready, taken-taken, trying_ends, trying_goes}
+use Rattle.model.specs.Grid.{set_words}
+use Rattle.walks.proofs.Trying.{Trying}
 use Rattle.plans.specs.Planned.{planned}
 use Rattle.walks.proofs.walk.+go_on_try_piece.Given as goal
 
