@@ -1,32 +1,33 @@
 #!/usr/bin/env python3
-"""Tries the edits that must fail of one crate alone, and shows the first errors of each.
+"""Tries the edits that must fail of one crate, and shows the first errors of each.
 
-    rt check NAME; tools/edits.py NAME [LABEL ...]
+    (cd crates/NAME && rt check); tools/edits.py NAME [LABEL ...]
 
-(`rt must-fail NAME` tries those of all crates below NAME too.) What stands below NAME has to be proved. The whole of what the checker
-said of an edit is in target/edits/NAME/LABEL.log. An edit shows what it makes false if its first error is that fact: a returned value, an
-invariant, a computed board; not a rewriting that finds nothing or an index that another function asks for.
+(`rt must-fail NAME` tries them too, and shows the first error alone.) What stands below NAME has to be proved, which `rt check` sees to. The whole
+of what the checker said of an edit is in target/edits/NAME/LABEL.log. An edit shows what it makes false if its first error is that fact: a returned
+value, an invariant, a computed board; not a rewriting that finds nothing or an index that another function asks for.
 """
+import glob
 import os
-import platform
 import shutil
 import subprocess
 import sys
+import tempfile
 
 KIT = os.path.dirname(os.path.dirname(os.path.realpath(shutil.which("rt"))))
-OWN = f"{KIT}/on/{platform.machine()}"
 
 
 def words_of(name):
     """The words that the checker takes for a crate: the libraries that it stands on."""
     lines = (line.split("#")[0].partition(":") for line in open("crates.txt", encoding="utf-8"))
-    below = next(rest.split() for crate, _, rest in lines if crate.strip() == name)
-    words = []
+    kind, below = next((crate.split()[1:], rest.split()) for crate, _, rest in lines if crate.split()[:1] == [name])
+    words = ["--crate-type", "staticlib"] if "staticlib" in kind else []
     for library in ["std"] + below:
-        ours = f"target/rlib/{library}.rlib"
-        words += ["--extern", f"{library}={ours if os.path.isdir(f'crates/{library}') else f'{OWN}/rlib/{library}.rlib'}"]
-    words += ["-L", "dependency=target/rlib", "-L", f"dependency={OWN}/rlib"]
-    return words + ["--antt-project", f"{KIT}/logic/antt-project.json", "--logic-built", f"{OWN}/logic-built"]
+        ours = os.path.abspath(f"crates/{library}/out/rlib/{library}.rlib")
+        words += ["--extern", f"{library}={ours if os.path.isdir(f'crates/{library}') else f'{KIT}/rlibs/{library}.rlib'}"]
+    for folder in [f"{KIT}/rlibs"] + sorted(glob.glob(os.path.abspath("crates/*/out/rlib"))):
+        words += ["-L", f"dependency={folder}"]
+    return words + ["--antt-project", f"{KIT}/rattle/logic/antt-project.json", "--logic-built", f"{KIT}/logic_built"]
 
 
 def apply(edit, copy):
@@ -45,22 +46,23 @@ def apply(edit, copy):
 
 
 def attempt(name, label, words):
-    """Checks the crate with one edit and prints the verdict and the first errors."""
-    copy = f"target/edits/{name}/{label}"
-    shutil.rmtree(copy, ignore_errors=True)
-    for part in ("src", "specs", "proofs"):
-        if os.path.isdir(f"crates/{name}/{part}"):
-            shutil.copytree(f"crates/{name}/{part}", f"{copy}/{part}")
-    apply(f"crates/{name}/must-fail/{label}.edit", copy)
-    root = next(f"{copy}/src/{file}" for file in ("main.rt", "lib.rt") if os.path.exists(f"{copy}/src/{file}"))
-    run = subprocess.run([f"{OWN}/bin/rattle", "check", "--crate-name", name, root] + words, capture_output=True, text=True)
+    """Checks a copy of the crate with one edit, begun with what rt check kept, and prints the verdict and the first errors."""
+    with tempfile.TemporaryDirectory() as copy:
+        for part in ("src", "specs", "proofs", "out/incremental"):
+            if os.path.isdir(f"crates/{name}/{part}"):
+                shutil.copytree(f"crates/{name}/{part}", f"{copy}/{part}", symlinks=True)
+        apply(f"crates/{name}/must-fail/{label}.edit", copy)
+        root = next(f"src/{file}" for file in ("main.rt", "lib.rt") if os.path.exists(f"{copy}/src/{file}"))
+        command = [f"{KIT}/bin/rattle", "check", "--crate-name", name, root, *words, "--incremental", "out/incremental"]
+        run = subprocess.run(command, cwd=copy, capture_output=True, text=True)
     said = run.stdout + run.stderr
-    open(f"{copy}.log", "w", encoding="utf-8").write(said)
+    os.makedirs(f"target/edits/{name}", exist_ok=True)
+    open(f"target/edits/{name}/{label}.log", "w", encoding="utf-8").write(said)
     refused = run.returncode == 1 and "logic=not-proved" in said
     print(f"{name}/{label}: {'refused' if refused else 'NOT REFUSED'}")
-    errors = [line for line in said.split("\n") if ": error" in line or ": no proof" in line]
+    errors = [line for line in said.split("\n") if ": error" in line or "it is not proved that" in line or ": no proof" in line]
     for line in errors[:2]:
-        print("    " + line.replace(f"{copy}/", "")[:400])
+        print("    " + line[:400])
 
 
 def main():
