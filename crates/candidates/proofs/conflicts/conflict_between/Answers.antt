@@ -24,17 +24,16 @@ short a b h k = nat_abs-less a b 4096 (le_trans h (lit≤ tt)) (le_trans k (lit�
 pub pieces_conflict-requires : goal.pieces_conflict-requires
 pieces_conflict-requires c =
     let across : to_z w16 (of_z w16 c.way-dx.result) ≡ pos (c.args.c.column * c.args.step) -ℤ pos (c.args.a.column * c.args.step) = to_z-of_z w16 _ (sfits_of c.way-dx.type_inv) ∙ c.way-dx.ensures in
-    let up : to_z w16 (of_z w16 c.way-dy.result) ≡ pos (c.args.c.row * c.args.step) -ℤ pos (c.args.a.row * c.args.step) = to_z-of_z w16 _ (sfits_of c.way-dy.type_inv) ∙ c.way-dy.ensures in
-    (
-  (
-    subst (Standing c.args.turned.now) (sym c.turned_to.ensures) (c.requires.0.0.stands c.args.a.rotation c.requires.0.1.turn),
-    subst (Standing c.args.turned.now) (sym c.turned_to-2.ensures) (c.requires.1.0.stands c.args.c.rotation c.requires.1.1.turn),
-  ),
-  (
-    rw (across) (short (c.args.c.column * c.args.step) (c.args.a.column * c.args.step) c.requires.1.1.across c.requires.0.1.across),
-    rw (up) (short (c.args.c.row * c.args.step) (c.args.a.row * c.args.step) c.requires.1.1.up c.requires.0.1.up),
-  ),
-)
+    let up : to_z w16 (of_z w16 c.way-dy.result) ≡ pos (c.args.c.row * c.args.step) -ℤ pos (c.args.a.row * c.args.step) = to_z-of_z w16 _ (sfits_of c.way-dy.type_inv) ∙ c.way-dy.ensures in (
+      (
+        subst (Standing c.args.turned.now) (sym c.turned_to.ensures) (c.requires.0.0.stands c.args.a.rotation c.requires.0.1.turn),
+        subst (Standing c.args.turned.now) (sym c.turned_to-2.ensures) (c.requires.1.0.stands c.args.c.rotation c.requires.1.1.turn),
+      ),
+      (
+        rw (across) (short (c.args.c.column * c.args.step) (c.args.a.column * c.args.step) c.requires.1.1.across c.requires.0.1.across),
+        rw (up) (short (c.args.c.row * c.args.step) (c.args.a.row * c.args.step) c.requires.1.1.up c.requires.0.1.up),
+      ),
+    )
 
 pub returns : goal.returns
 unfolding conflict_between

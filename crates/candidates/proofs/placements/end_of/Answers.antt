@@ -21,11 +21,10 @@ returns-then-x-lt0 c =
 
 pub overflow_cast-result : goal.overflow_cast-result
 overflow_cast-result c =
-    let value : to_z w64 (of_z w64 (to_z w64 (of_z w64 (to_z w16 (of_z w16 c.args.high))) +ℤ to_z w64 c.args.by)) ≡ c.args.high +ℤ pos c.args.by = moved_value c.args.high c.args.by c.ranges.high c.requires in
-    (
-  rw (value) (end-nonneg (c.args.high +ℤ pos c.args.by) (ap (λ z. lt_z z (pos 0)) (sym (value)) ∙ c.if-x-lt0.false)),
-  rw (value) (end_fits c.args.high c.args.by c.ranges.high c.requires),
-)
+    let value : to_z w64 (of_z w64 (to_z w64 (of_z w64 (to_z w16 (of_z w16 c.args.high))) +ℤ to_z w64 c.args.by)) ≡ c.args.high +ℤ pos c.args.by = moved_value c.args.high c.args.by c.ranges.high c.requires in (
+      rw (value) (end-nonneg (c.args.high +ℤ pos c.args.by) (ap (λ z. lt_z z (pos 0)) (sym (value)) ∙ c.if-x-lt0.false)),
+      rw (value) (end_fits c.args.high c.args.by c.ranges.high c.requires),
+    )
 
 pub returns : goal.returns
 returns c =
