@@ -20,7 +20,8 @@ fn input_of<R: Read + Drop>(alloc: Global, from: R) -> io::Result<Vec<u8>>
 
 // Reads a job, and writes the text of its answer.
 fn answer<R: Read + Drop, W: Write>(alloc: Global, from: R, to: &mut W) -> io::Result<()>
-    ensures { OnOk result (IfSome (R.remaining from) (λ given. Appends (W.contents to.old) (W.contents to.new) (Output.program (take 1025 given)))) }
+    ensures { OnOk result (IfSome (R.remaining from)
+        (λ given. Appends (W.contents to.old) (W.contents to.new) (Output.program (take 1025 given)))) }
 {
     let input = input_of(alloc, from)?;
     let mut text = [0u8; 512];
