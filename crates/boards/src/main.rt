@@ -2,7 +2,7 @@
 // asked of each, are this program's input, `stdin`; a line or more for each answer is held to `stdout`.
 #![tactic(auto)]
 
-ghost use Rattle.std.specs.Prelude.{◌≤◌, length};
+ghost use Rattle.std.specs.Prelude.{IfOk, ◌≤◌, length};
 
 use input::Numbers;
 use std::io;
@@ -105,8 +105,28 @@ fn answer_all(rt: &impl Print, text: &[u8]) -> io::Result<()> {
     Ok(())
 }
 
+// Reads until the buffer is full or the input ends, and tells how many bytes it read. A read that a signal interrupts
+// is tried again; as std's loops over reads do, this one ends with an error after 2^64 - 1 tries.
+fn read_full<R: Read>(from: &mut R, buffer: &mut [u8]) -> io::Result<usize>
+    ensures { IfOk result (λ n. n ≤ length buffer.new) }
+{
+    let mut len = 0;
+    for _ in 0..u64::MAX {
+        if len >= buffer.len() {
+            return Ok(len);
+        }
+        match from.read(&mut buffer[len..]) {
+            Ok(0) => return Ok(len),
+            Ok(n) => len += n,
+            Err(e) if e.kind() == io::ErrorKind::Interrupted => {}
+            Err(e) => return Err(e),
+        }
+    }
+    Err(io::Error::from(io::ErrorKind::TimedOut))
+}
+
 fn main(rt: HostRuntime) -> io::Result<()> {
-    let mut text = Vec::new(rt.alloc());
-    rt.stdin().take(32768).read_to_end(&mut text)?;
-    answer_all(&rt, &text)
+    let mut input = [0u8; 32768];
+    read_full(&mut rt.stdin(), &mut input)?;
+    answer_all(&rt, &input)
 }

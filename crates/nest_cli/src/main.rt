@@ -3,32 +3,46 @@
 
 ghost use Rattle.model.specs.Output;
 ghost use Rattle.std.specs.Io.KnownBytes.{Appends};
-ghost use Rattle.std.specs.Prelude.{IfOk, IfSome, OnOk, take, ◌≡◌};
+ghost use Rattle.std.specs.Prelude.{IfOk, IfSome, OnOk, length, take, ◌≡◌, ◌≤◌};
 
-use std::alloc::Global;
 use std::io;
 use std::io::{Read, Write};
 
-// What a reader gives: one byte more than a job may have, so that a longer input is refused by 1 as it should.
-fn input_of<R: Read + Drop>(alloc: Global, from: R) -> io::Result<Vec<u8>>
-    ensures { IfOk result (λ input. IfSome (R.remaining from) (λ given. input.items ≡ take 1025 given)) }
+// Reads until the buffer is full or the input ends, and tells how many bytes it read. A read that a signal interrupts
+// is tried again; as std's loops over reads do, this one ends with an error after 2^64 - 1 tries.
+fn read_full<R: Read>(from: &mut R, buffer: &mut [u8]) -> io::Result<usize>
+    ensures within { IfOk result (λ n. n ≤ length buffer.new) }
+    ensures bytes { IfOk result (λ n. IfSome (R.remaining from.old)
+        (λ given. take n buffer.new ≡ take (length buffer.old) given)) }
 {
-    let mut input = Vec::new(alloc);
-    from.take(1025).read_to_end(&mut input)?;
-    Ok(input)
+    let mut len = 0;
+    for _ in 0..u64::MAX {
+        if len >= buffer.len() {
+            return Ok(len);
+        }
+        match from.read(&mut buffer[len..]) {
+            Ok(0) => return Ok(len),
+            Ok(n) => len += n,
+            Err(e) if e.kind() == io::ErrorKind::Interrupted => {}
+            Err(e) => return Err(e),
+        }
+    }
+    Err(io::Error::from(io::ErrorKind::TimedOut))
 }
 
 // Reads a job, and writes the text of its answer.
-fn answer<R: Read + Drop, W: Write>(alloc: Global, from: R, to: &mut W) -> io::Result<()>
+fn answer<R: Read + Drop, W: Write>(mut from: R, to: &mut W) -> io::Result<()>
     ensures { OnOk result (IfSome (R.remaining from)
         (λ given. Appends (W.contents to.old) (W.contents to.new) (Output.program (take 1025 given)))) }
 {
-    let input = input_of(alloc, from)?;
+    // One byte more than a job may have: a longer input is refused by 1 as it should.
+    let mut input = [0u8; 1025];
+    let n = read_full(&mut from, &mut input)?;
     let mut text = [0u8; 512];
-    let len = command::program(&input, &mut text);
+    let len = command::program(&input[0..n], &mut text);
     to.write_all(&text[0..len])
 }
 
 fn main(rt: HostRuntime) -> io::Result<()> {
-    answer(rt.alloc(), rt.stdin(), &mut rt.stdout())
+    answer(rt.stdin(), &mut rt.stdout())
 }
