@@ -13,7 +13,7 @@ use plans::plan::Plan;
 // The sets at a lower bound, and how many of their words still have members of the first level.
 pub fn lower(job: &[u8], plan: Plan, bound: usize, span: usize, work: &mut [u8]) -> usize
     requires plan_of { PlanOf job.now plan × (span ≤ set_words (content job.now).sheet) }
-    requires plan_in_bounds { (work_words (planned job.now plan) * 8 ≤ length work.old) × Admitted (planned job.now plan) span work.old }
+    requires admitted { (work_words (planned job.now plan) * 8 ≤ length work.old) × Admitted (planned job.now plan) span work.old }
     ensures { Lowered (planned job.now plan) bound span work.old work.new result }
 {
     trim(job, plan, bound, span, work);

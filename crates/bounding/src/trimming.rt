@@ -60,7 +60,7 @@ pub fn trim_set(
 // Set i of all levels and kinds, if copies of its kind are left at its level.
 fn trim_next(job: &[u8], plan: Plan, bound: usize, span: usize, i: usize, work: &mut [u8])
     requires plan_of { PlanOf job.now plan × (span ≤ set_words (content job.now).sheet) × (i < piece_count (content job.now).kinds * kind_count (content job.now).kinds) }
-    requires plan_in_bounds { work_words (planned job.now plan) * 8 ≤ length work.old }
+    requires work_in_bounds { work_words (planned job.now plan) * 8 ≤ length work.old }
     requires trimmable { 0 < copies_left (i % kind_count (content job.now).kinds) (pieces_from (content job.now).kinds (i / kind_count (content job.now).kinds)) → Trimmable (planned job.now plan) (i % kind_count (content job.now).kinds) (i * set_words (content job.now).sheet) span work.old }
     ensures { SetTrimmed (planned job.now plan) bound span i work.old work.new }
 {
@@ -74,7 +74,7 @@ fn trim_next(job: &[u8], plan: Plan, bound: usize, span: usize, i: usize, work: 
 // All sets, the first words of each.
 pub fn trim(job: &[u8], plan: Plan, bound: usize, span: usize, work: &mut [u8])
     requires plan_of { PlanOf job.now plan × (span ≤ set_words (content job.now).sheet) }
-    requires plan_in_bounds { (work_words (planned job.now plan) * 8 ≤ length work.old) × Admitted (planned job.now plan) span work.old }
+    requires admitted { (work_words (planned job.now plan) * 8 ≤ length work.old) × Admitted (planned job.now plan) span work.old }
     ensures { Trimmed (planned job.now plan) bound span (piece_count (content job.now).kinds * kind_count (content job.now).kinds) work.old work.new }
 {
     let sets = plan.pieces * plan.types;

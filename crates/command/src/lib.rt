@@ -35,7 +35,7 @@ pub fn respond(
     ensures value { result ≡ length (printed (under margin (content bytes.now)) (Services.run bytes.now margin budget layout.now work.old answer.old)) }
     ensures text_after { text.new ≡ printed (under margin (content bytes.now)) (Services.run bytes.now margin budget layout.now work.old answer.old) ++ drop result text.old }
     ensures upper_bound { result ≤ 512 }
-    ensures answer_value { margin ≡ 0 → budget ≡ 1000000 → layout.now ≡ [] → printed (under margin (content bytes.now)) (Services.run bytes.now margin budget layout.now work.old answer.old) ≡ Output.program bytes.now }
+    ensures as_program { margin ≡ 0 → budget ≡ 1000000 → layout.now ≡ [] → printed (under margin (content bytes.now)) (Services.run bytes.now margin budget layout.now work.old answer.old) ≡ Output.program bytes.now }
     ensures work_after { work.new ≡ (Services.run bytes.now margin budget layout.now work.old answer.old).work }
     ensures answer_after { answer.new ≡ (Services.run bytes.now margin budget layout.now work.old answer.old).out }
 {

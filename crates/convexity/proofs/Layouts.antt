@@ -1,5 +1,5 @@
 -- Document 02, request 6/13: layouts that pass by document 01's measure pass by the round one; from parts (`square-separated`, Theorems) to pieces, to entries, to layouts.
--- The other way round it does not hold (`layouts-both`, Examples). Assumes nothing.
+-- The other way round it does not hold (`layouts_both`, Examples). Assumes nothing.
 use mathlib.Core.Path.{◌≡◌, refl, ap, ap₂}
 use mathlib.Core.Bool.{Bool, true, false, not, ◌&&◌, ◌||◌}
 use mathlib.Core.List.{List, [], ◌∷◌}

@@ -34,7 +34,7 @@ fn put_triangle(part: &[u8], n: usize, i: usize, answer: &mut [u8], at: usize)
 // likewise until two corners remain".
 pub fn cut_off(part: &[u8], n: usize, answer: &mut [u8], at: usize) -> usize
     requires in_bounds { ((16 < length part.now) × (2 ≤ n) × (n ≤ 8)) × ((at + (n - 2) * 6) * 2 ≤ length answer.old) }
-    requires n_value { triangles (part_from part.now n) ≡ some (triangles_of (part_from part.now n)) }
+    requires cut_to_the_end { triangles (part_from part.now n) ≡ some (triangles_of (part_from part.now n)) }
     ensures value { (result ≡ length (triangles_of (part_from part.now n))) × (result ≤ n - 2) }
     ensures answer_after { answer.new ≡ with_numbers_at at (triangles_numbers (triangles_of (part_from part.now n))) answer.old }
 {

@@ -38,7 +38,7 @@ fn between(p: &[i16], q: &[i16], c: usize, moved: i16) -> i16
 
 // Coordinate c of the way from vertex i of p to vertex j of q, moved by so much.
 fn apart(p: &[i16], i: usize, q: &[i16], j: usize, c: usize, moved: i16) -> i16
-    requires i_in_bounds { ((2 * i + 1 < length p.now) × (2 * j + 1 < length q.now)) × ((c < 2) × (nat_abs moved ≤ 4096)) }
+    requires in_bounds { ((2 * i + 1 < length p.now) × (2 * j + 1 < length q.now)) × ((c < 2) × (nat_abs moved ≤ 4096)) }
     requires compact { Compact (part_of p.now) × Compact (part_of q.now) }
     ensures { result ≡ coordinate_of c (vertex_at (part_of q.now) j) +ℤ moved -ℤ coordinate_of c (vertex_at (part_of p.now) i) }
 {

@@ -24,8 +24,8 @@ fn in_conflict(
     place: Placed,
 ) -> bool
     requires plan_of { PlanOf job.now plan × TurnedOf job.now turned.now }
-    requires n_value { (is_candidate (planned job.now plan) t n ≡ true) × (is_candidate (planned job.now plan) u m ≡ true) }
-    requires from_value { (from ≡ placed_of plan.rows n) × (place ≡ placed_of plan.rows m) }
+    requires are_candidates { (is_candidate (planned job.now plan) t n ≡ true) × (is_candidate (planned job.now plan) u m ≡ true) }
+    requires places { (from ≡ placed_of plan.rows n) × (place ≡ placed_of plan.rows m) }
     ensures { result ≡ conflict (planned job.now plan) (entry_of (planned job.now plan) t n) (entry_of (planned job.now plan) u m) }
 {
     let first = lookup::piece_in(job, plan, t);
@@ -46,7 +46,7 @@ pub fn still_live(
     m: usize,
 ) -> bool
     requires plan_of { (PlanOf job.now plan × TurnedOf job.now turned.now) × (from ≡ placed_of plan.rows n) }
-    requires n_value { (is_candidate (planned job.now plan) t n ≡ true) × (is_candidate (planned job.now plan) u m ≡ true) }
+    requires are_candidates { (is_candidate (planned job.now plan) t n ≡ true) × (is_candidate (planned job.now plan) u m ≡ true) }
     ensures { result ≡ stays (planned job.now plan) t n u m }
 {
     if (t == u) & (m <= n) {

@@ -33,7 +33,7 @@ fn sift_word(
     w: u64,
 ) -> u64
     requires plan_of { (PlanOf job.now plan × TurnedOf job.now turned.now) × (place ≡ placed_of plan.rows n) }
-    requires n_value { (is_candidate (planned job.now plan) t n ≡ true) × (first < 65536) }
+    requires candidate { (is_candidate (planned job.now plan) t n ≡ true) × (first < 65536) }
     requires bits_admitted { BitsAdmitted (planned job.now plan) u first w }
     ensures { (i : ℕ) → test_bit result i ≡ (test_bit w i && stays (planned job.now plan) t n u (first + i)) }
 {
@@ -128,7 +128,7 @@ fn narrow_word(
     w: u64,
 ) -> u64
     requires known { Known job.now plan nofit turned.now strings.now × (place ≡ placed_of plan.rows n) }
-    requires n_value { (is_candidate (planned job.now plan) t n ≡ true) × (first + 64 ≤ set_words (content job.now).sheet * 64) }
+    requires candidate { (is_candidate (planned job.now plan) t n ≡ true) × (first + 64 ≤ set_words (content job.now).sheet * 64) }
     requires bits_admitted { BitsAdmitted (planned job.now plan) u first w }
     ensures { (i : ℕ) → test_bit result i ≡ (test_bit w i && stays (planned job.now plan) t n u (first + i)) }
 {

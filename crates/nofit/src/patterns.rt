@@ -146,7 +146,7 @@ fn turn_word(
     w: u64,
 ) -> u64
     requires ready { (Ready s × (k < 4)) × (Boxed turned.now p e × Boxed turned.now r f) }
-    requires le_word { (1 ≤ word) × (word ≤ 200) }
+    requires word_bounds { (1 ≤ word) × (word ≤ 200) }
     ensures { TurnSet k 16 (λ i. blocked_turned turned.now s p r (word * 64 + i)) w result }
 {
     let first = (word - 1) * 16;

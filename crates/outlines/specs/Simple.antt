@@ -1,4 +1,4 @@
--- What a simple outline is, in plain terms: `simple-exact` of proofs/Theorems says that the refusal "two edges meeting anywhere but at the corner shared by neighbours" finds exactly the outlines
+-- What a simple outline is, in plain terms: `simple_exact` of proofs/Theorems says that the refusal "two edges meeting anywhere but at the corner shared by neighbours" finds exactly the outlines
 -- that are not simple.
 use Rattle.std.specs.Prelude.{List, [], ◌∷◌, ◌⊎◌, ◌≡◌, ℤ, pos, ◌+ℤ◌, ◌*ℤ◌, ◌≤ℤ◌, ◌<ℤ◌}
 use Rattle.model.specs.Content.{Vertex}

@@ -82,7 +82,7 @@ pub fn settle_first(
     work: &mut [u8],
 ) -> bool
     requires viewed { (Viewed job.now view × BoxesOf job.now boxes × PlanOf job.now plan) × (plan.margin ≡ view.margin) }
-    requires plan_in_bounds { work_words (planned job.now plan) * 8 ≤ length work.old }
+    requires work_in_bounds { work_words (planned job.now plan) * 8 ≤ length work.old }
     ensures { Settled (planned job.now plan) (replicate 12 0) 0 bound (set_words (content job.now).sheet) work.old work.new result }
 {
     let kinds = plan.types;

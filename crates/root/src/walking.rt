@@ -44,7 +44,7 @@ fn walk_over(
     start: Progress,
 ) -> Progress
     requires computed { Computed job.now view turned.now boxes plan nofit }
-    requires size_in_bounds { (nofit.first + nofit.held * nofit.size + 1) * 8 ≤ length strings.old }
+    requires strings_in_bounds { (nofit.first + nofit.held * nofit.size + 1) * 8 ≤ length strings.old }
     requires ready { Ready (planned job.now plan) work.old answer.old (replicate 12 0) 0 1 0 start }
     ensures { Left (planned job.now plan) (replicate 12 0) work.old answer.old work.new answer.new 1 start result (try_level (planned job.now plan) (numbers_at (replicate 12 0)) 0 0 start.left (held_of (planned job.now plan) start.found answer.old)) }
 {

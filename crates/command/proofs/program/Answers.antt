@@ -8,7 +8,7 @@ use Rattle.command.proofs.program.Goals as goal
 pub returns : goal.returns
 returns c =
     let answered = c.respond in
-    let same = answered.ensures.answer_value refl refl refl in
+    let same = answered.ensures.as_program refl refl refl in
     record {
       value = answered.ensures.value ∙ ap length same;
       text_after = answered.ensures.text_after ∙ ap (λ (t : List ℕ). t ++ drop answered.result c.args.text.now) same;

@@ -16,7 +16,7 @@ returns c =
       value = front.0;
       text_after = front.1;
       upper_bound = put.ensures.upper_bound;
-      answer_value = λ m e n. rw (m, e) (prints-program bytes c.args.layout.now c.args.work.now c.args.answer.now n c.requires.0 c.requires.1);
+      as_program = λ m e n. rw (m, e) (prints-program bytes c.args.layout.now c.args.work.now c.args.answer.now n c.requires.0 c.requires.1);
       work_after = ran.ensures.cleared;
       answer_after = ran.ensures.held;
     }

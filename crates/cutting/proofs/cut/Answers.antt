@@ -33,7 +33,7 @@ cut_off-count-requires c =
     let f = fit_corners c.args.outline.now _ c.unfit.ensures c.if-unfit.false in
     record {
       in_bounds = (omega (arith, f.1), omega (arith, f.1, c.if-answer-lt36.false));
-      n_value = is_cut c.args.outline.now c.args.answer.now f.0 _ c.as_part-part.ensures;
+      cut_to_the_end = is_cut c.args.outline.now c.args.answer.now f.0 _ c.as_part-part.ensures;
     }
 
 pub overflow_cast-result : goal.overflow_cast-result

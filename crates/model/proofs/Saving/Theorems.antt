@@ -32,7 +32,7 @@ fit-equal j k f h = (λ q. sym (fit-content j f) ∙ ap content q ∙ fit-conten
 pub fit-exactly : (j : Job) → ContentFit j ↔ ((s : List ℕ) × AreBytes s × (refusal s ≡ 0) × (content s ≡ j))
 fit-exactly j = (λ f. (written j, fit-bytes j f, fit-accepted j f, fit-content j f), λ p. subst ContentFit p.3 (content-fit p.0 p.2 p.1))
 
--- ---- Of an accepted job: its content is fit (`content-fit`, Kept), and written it is never longer than before (`saved-length`, Kept)
+-- ---- Of an accepted job: its content is fit (`content-fit`, Kept), and written it is never longer than before (`saved_length`, Kept)
 
 module _ (s : List ℕ) (b : AreBytes s) (e : refusal s ≡ 0) where
   -- Written, it is accepted,

@@ -12,7 +12,7 @@ shrink-requires c = (
   omega (
     arith,
     c.trim.auto.work,
-    c.requires.plan_in_bounds.0,
+    c.requires.admitted.0,
   ),
 )
 

@@ -46,11 +46,11 @@ trim_next-requires c =
     let h : c.loop-i.i < piece_count (content c.args.job.now).kinds * kind_count (content c.args.job.now).kinds =
     omega (arith, c.loop-i.invariant.0, c.loop-i-test.true) in record {
       plan_of = (c.requires.plan_of.0, c.requires.plan_of.1, h);
-      plan_in_bounds = omega (arith, c.loop-i.invariant.1, c.requires.plan_in_bounds.0);
+      work_in_bounds = omega (arith, c.loop-i.invariant.1, c.requires.admitted.0);
       trimmable = next_trimmable (planned c.args.job.now c.args.plan) c.loop-i.i h c.args.bound c.args.span
           c.requires.plan_of.1 c.args.work.now c.loop-i.work c.loop-i.invariant.2 (few_words c.args.job.now
-          c.requires.plan_of.0.accepted) (omega (arith, c.loop-i.invariant.1, c.requires.plan_in_bounds.0))
-          c.requires.plan_in_bounds.1;
+          c.requires.plan_of.0.accepted) (omega (arith, c.loop-i.invariant.1, c.requires.admitted.0))
+          c.requires.admitted.1;
     }
 
 pub overflow_add-i : goal.overflow_add-i

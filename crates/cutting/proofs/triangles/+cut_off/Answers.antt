@@ -17,13 +17,13 @@ use Rattle.cutting.proofs.triangles.+cut_off.Goals.{After-without-left, After-fi
 flat_step : (t : ℕ) (c : After-without-left t)
     → Goes (part_from c.args.part.now c.args.n) (part_from c.without-left.result (c.args.n - 1)) []
 flat_step t c =
-    flat_goes c.args.part.now c.args.n (omega arith) c.requires.n_value c.first-flat.result _ (omega arith)
+    flat_goes c.args.part.now c.args.n (omega arith) c.requires.cut_to_the_end c.first-flat.result _ (omega arith)
     c.first-flat.ensures.1 c.without-left.ensures
 
 -- Then, if none is in line, one is an ear.
 ear : (t : ℕ) (c : After-first-ear t) → c.first-ear.result < c.args.n
 ear t c =
-    ear_there c.args.part.now c.args.n (omega arith) c.requires.n_value c.first-flat.result (omega arith)
+    ear_there c.args.part.now c.args.n (omega arith) c.requires.cut_to_the_end c.first-flat.result (omega arith)
     c.first-flat.ensures.1 c.first-ear.result c.first-ear.ensures.0 c.first-ear.ensures.1
 
 -- The rest, without the ear.
@@ -31,7 +31,7 @@ ear_step : (t : ℕ) (c : After-without-left-2 t) → c.first-ear.result < c.arg
     → Goes (part_from c.args.part.now c.args.n) (part_from c.without-left-2.result (c.args.n - 1))
     (triangle_at (place_at (part_from c.args.part.now c.args.n) c.first-ear.result) ∷ [])
 ear_step t c e =
-    ear_goes c.args.part.now c.args.n (omega arith) c.requires.n_value c.first-flat.result (omega arith)
+    ear_goes c.args.part.now c.args.n (omega arith) c.requires.cut_to_the_end c.first-flat.result (omega arith)
     c.first-flat.ensures.1 c.first-ear.result _ e c.first-ear.ensures.1 c.without-left-2.ensures
 
 pub returns-then-n-eq2-clause-value : goal.returns-then-n-eq2-clause-value

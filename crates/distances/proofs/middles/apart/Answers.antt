@@ -17,7 +17,7 @@ use Rattle.distances.proofs.middles.apart.Goals as goal
 
 -- ---- the needs
 pub coordinate-requires : goal.coordinate-requires
-coordinate-requires c = (c.requires.i_in_bounds.0.1, c.requires.i_in_bounds.1.0)
+coordinate-requires c = (c.requires.in_bounds.0.1, c.requires.in_bounds.1.0)
 
 pub overflow_add-result : goal.overflow_add-result
 overflow_add-result c =
@@ -28,12 +28,12 @@ overflow_add-result c =
     let end_fits : SFits w16 (to +ℤ c.args.moved) =
     (let to_size : nat_abs to ≤ 4096 =
     coordinate-small c.args.c 4096 (vertex_at (part_of c.args.q.now) c.args.j)
-    (c.requires.compact.1 c.args.j (omega (arith, c.requires.i_in_bounds.0.1, part_length c.args.q.now))) in
-    moved-fits to c.args.moved to_size c.requires.i_in_bounds.1.1) in
+    (c.requires.compact.1 c.args.j (omega (arith, c.requires.in_bounds.0.1, part_length c.args.q.now))) in
+    moved-fits to c.args.moved to_size c.requires.in_bounds.1.1) in
     op_fits is_to is_moved ◌+ℤ◌ end_fits
 
 pub coordinate-requires-2 : goal.coordinate-requires-2
-coordinate-requires-2 c = (c.requires.i_in_bounds.0.0, c.requires.i_in_bounds.1.0)
+coordinate-requires-2 c = (c.requires.in_bounds.0.0, c.requires.in_bounds.1.0)
 
 pub overflow_sub-result : goal.overflow_sub-result
 overflow_sub-result c =
@@ -47,16 +47,16 @@ overflow_sub-result c =
     let end_fits : SFits w16 (to +ℤ c.args.moved) =
     (let to_size : nat_abs to ≤ 4096 =
     coordinate-small c.args.c 4096 (vertex_at (part_of c.args.q.now) c.args.j)
-    (c.requires.compact.1 c.args.j (omega (arith, c.requires.i_in_bounds.0.1, part_length c.args.q.now))) in
-    moved-fits to c.args.moved to_size c.requires.i_in_bounds.1.1) in
+    (c.requires.compact.1 c.args.j (omega (arith, c.requires.in_bounds.0.1, part_length c.args.q.now))) in
+    moved-fits to c.args.moved to_size c.requires.in_bounds.1.1) in
     let way_fits : SFits w16 (to +ℤ c.args.moved -ℤ from) =
     (let from_size : nat_abs from ≤ 4096 =
     coordinate-small c.args.c 4096 (vertex_at (part_of c.args.p.now) c.args.i)
-    (c.requires.compact.0 c.args.i (omega (arith, c.requires.i_in_bounds.0.0, part_length c.args.p.now))) in
+    (c.requires.compact.0 c.args.i (omega (arith, c.requires.in_bounds.0.0, part_length c.args.p.now))) in
     let to_size : nat_abs to ≤ 4096 =
     coordinate-small c.args.c 4096 (vertex_at (part_of c.args.q.now) c.args.j)
-    (c.requires.compact.1 c.args.j (omega (arith, c.requires.i_in_bounds.0.1, part_length c.args.q.now))) in
-    less_fits (to +ℤ c.args.moved) from (moved-size to c.args.moved to_size c.requires.i_in_bounds.1.1) from_size) in
+    (c.requires.compact.1 c.args.j (omega (arith, c.requires.in_bounds.0.1, part_length c.args.q.now))) in
+    less_fits (to +ℤ c.args.moved) from (moved-size to c.args.moved to_size c.requires.in_bounds.1.1) from_size) in
     op_fits (op_gives is_to is_moved ◌+ℤ◌ end_fits) is_from ◌-ℤ◌ way_fits
 
 pub returns : goal.returns
@@ -71,14 +71,14 @@ returns c =
     let end_fits : SFits w16 (to +ℤ c.args.moved) =
     (let to_size : nat_abs to ≤ 4096 =
     coordinate-small c.args.c 4096 (vertex_at (part_of c.args.q.now) c.args.j)
-    (c.requires.compact.1 c.args.j (omega (arith, c.requires.i_in_bounds.0.1, part_length c.args.q.now))) in
-    moved-fits to c.args.moved to_size c.requires.i_in_bounds.1.1) in
+    (c.requires.compact.1 c.args.j (omega (arith, c.requires.in_bounds.0.1, part_length c.args.q.now))) in
+    moved-fits to c.args.moved to_size c.requires.in_bounds.1.1) in
     let way_fits : SFits w16 (to +ℤ c.args.moved -ℤ from) =
     (let from_size : nat_abs from ≤ 4096 =
     coordinate-small c.args.c 4096 (vertex_at (part_of c.args.p.now) c.args.i)
-    (c.requires.compact.0 c.args.i (omega (arith, c.requires.i_in_bounds.0.0, part_length c.args.p.now))) in
+    (c.requires.compact.0 c.args.i (omega (arith, c.requires.in_bounds.0.0, part_length c.args.p.now))) in
     let to_size : nat_abs to ≤ 4096 =
     coordinate-small c.args.c 4096 (vertex_at (part_of c.args.q.now) c.args.j)
-    (c.requires.compact.1 c.args.j (omega (arith, c.requires.i_in_bounds.0.1, part_length c.args.q.now))) in
-    less_fits (to +ℤ c.args.moved) from (moved-size to c.args.moved to_size c.requires.i_in_bounds.1.1) from_size) in
+    (c.requires.compact.1 c.args.j (omega (arith, c.requires.in_bounds.0.1, part_length c.args.q.now))) in
+    less_fits (to +ℤ c.args.moved) from (moved-size to c.args.moved to_size c.requires.in_bounds.1.1) from_size) in
     op_gives (op_gives is_to is_moved ◌+ℤ◌ end_fits) is_from ◌-ℤ◌ way_fits

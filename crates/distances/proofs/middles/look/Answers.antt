@@ -131,7 +131,7 @@ apart-requires c =
     (op_gives {x = pos 0} refl (cast_gives w32 b_fits tt) ◌-ℤ◌ (opposite b b_fits) k))
     c.furthest-j.ensures) in
     (omega (arith, ahead.inside, part_length c.args.p.now), omega (arith, back.inside, part_length c.args.q.now))) in
-    record { i_in_bounds = (places, (omega arith, short.0)); compact = c.requires.short.1 }
+    record { in_bounds = (places, (omega arith, short.0)); compact = c.requires.short.1 }
 
 pub apart-requires-2 : goal.apart-requires-2
 apart-requires-2 c =
@@ -158,7 +158,7 @@ apart-requires-2 c =
     (op_gives {x = pos 0} refl (cast_gives w32 b_fits tt) ◌-ℤ◌ (opposite b b_fits) k))
     c.furthest-j.ensures) in
     (omega (arith, ahead.inside, part_length c.args.p.now), omega (arith, back.inside, part_length c.args.q.now))) in
-    record { i_in_bounds = (places, (omega arith, short.1)); compact = c.requires.short.1 }
+    record { in_bounds = (places, (omega arith, short.1)); compact = c.requires.short.1 }
 
 pub returns : goal.returns
 returns c =

@@ -14,33 +14,33 @@ use Rattle.live_sets.proofs.board.in_conflict.Goals as goal
 pub piece_in-first-requires : goal.piece_in-first-requires
 piece_in-first-requires c =
     let first : c.args.t < kind_count (content c.args.job.now).kinds =
-    candidate-kind (planned c.args.job.now c.args.plan) c.args.t c.args.n c.requires.n_value.0 in
+    candidate-kind (planned c.args.job.now c.args.plan) c.args.t c.args.n c.requires.are_candidates.0 in
     (c.requires.plan_of.0, first)
 
 pub piece_in-second-requires : goal.piece_in-second-requires
 piece_in-second-requires c =
     let second : c.args.u < kind_count (content c.args.job.now).kinds =
-    candidate-kind (planned c.args.job.now c.args.plan) c.args.u c.args.m c.requires.n_value.1 in
+    candidate-kind (planned c.args.job.now c.args.plan) c.args.u c.args.m c.requires.are_candidates.1 in
     (c.requires.plan_of.0, second)
 
 pub pair_gap-gap-requires : goal.pair_gap-gap-requires
 pair_gap-gap-requires c =
     let first : c.args.t < kind_count (content c.args.job.now).kinds =
-    candidate-kind (planned c.args.job.now c.args.plan) c.args.t c.args.n c.requires.n_value.0 in
+    candidate-kind (planned c.args.job.now c.args.plan) c.args.t c.args.n c.requires.are_candidates.0 in
     let second : c.args.u < kind_count (content c.args.job.now).kinds =
-    candidate-kind (planned c.args.job.now c.args.plan) c.args.u c.args.m c.requires.n_value.1 in
+    candidate-kind (planned c.args.job.now c.args.plan) c.args.u c.args.m c.requires.are_candidates.1 in
     (c.requires.plan_of.0, first, second)
 
 pub conflict_between-requires : goal.conflict_between-requires
 conflict_between-requires c =
     let first : c.args.t < kind_count (content c.args.job.now).kinds =
-    candidate-kind (planned c.args.job.now c.args.plan) c.args.t c.args.n c.requires.n_value.0 in
+    candidate-kind (planned c.args.job.now c.args.plan) c.args.t c.args.n c.requires.are_candidates.0 in
     let second : c.args.u < kind_count (content c.args.job.now).kinds =
-    candidate-kind (planned c.args.job.now c.args.plan) c.args.u c.args.m c.requires.n_value.1 in
-    let from_near : Near c.args.plan.step c.args.from = subst (Near c.args.plan.step) (sym c.requires.from_value.0)
-    (near c.args.job.now c.args.plan c.requires.plan_of.0 c.args.t c.args.n c.requires.n_value.0) in
-    let place_near : Near c.args.plan.step c.args.place = subst (Near c.args.plan.step) (sym c.requires.from_value.1)
-    (near c.args.job.now c.args.plan c.requires.plan_of.0 c.args.u c.args.m c.requires.n_value.1) in
+    candidate-kind (planned c.args.job.now c.args.plan) c.args.u c.args.m c.requires.are_candidates.1 in
+    let from_near : Near c.args.plan.step c.args.from = subst (Near c.args.plan.step) (sym c.requires.places.0)
+    (near c.args.job.now c.args.plan c.requires.plan_of.0 c.args.t c.args.n c.requires.are_candidates.0) in
+    let place_near : Near c.args.plan.step c.args.place = subst (Near c.args.plan.step) (sym c.requires.places.1)
+    (near c.args.job.now c.args.plan c.requires.plan_of.0 c.args.u c.args.m c.requires.are_candidates.1) in
     let p = c.piece_in-first in
     let q = c.piece_in-second in (
       (
@@ -56,12 +56,12 @@ conflict_between-requires c =
 pub returns : goal.returns
 returns c =
     let first : c.args.t < kind_count (content c.args.job.now).kinds =
-    candidate-kind (planned c.args.job.now c.args.plan) c.args.t c.args.n c.requires.n_value.0 in
+    candidate-kind (planned c.args.job.now c.args.plan) c.args.t c.args.n c.requires.are_candidates.0 in
     let second : c.args.u < kind_count (content c.args.job.now).kinds =
-    candidate-kind (planned c.args.job.now c.args.plan) c.args.u c.args.m c.requires.n_value.1 in
+    candidate-kind (planned c.args.job.now c.args.plan) c.args.u c.args.m c.requires.are_candidates.1 in
     c.conflict_between.ensures
     ∙ ap₂ (λ (a b : Placed). conflict_between c.args.turned.now c.args.plan.step c.piece_in-first.result a
-    c.piece_in-second.result b c.pair_gap-gap.result) c.requires.from_value.0 c.requires.from_value.1
+    c.piece_in-second.result b c.pair_gap-gap.result) c.requires.places.0 c.requires.places.1
     ∙ corners-conflict c.args.job.now c.args.plan c.args.turned.now c.requires.plan_of.0 c.requires.plan_of.1 c.args.t
     c.args.n c.args.u c.args.m c.piece_in-first.result c.piece_in-second.result c.pair_gap-gap.result (first)
     (second) c.piece_in-first.ensures c.piece_in-second.ensures c.pair_gap-gap.ensures

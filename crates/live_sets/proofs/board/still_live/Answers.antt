@@ -16,8 +16,8 @@ placed_of-place-requires c = some-row c.args.job.now c.args.plan c.requires.plan
 pub in_conflict-requires : goal.in_conflict-requires
 in_conflict-requires c = record {
   plan_of = c.requires.plan_of.0;
-  n_value = c.requires.n_value;
-  from_value = (c.requires.plan_of.1, c.placed_of-place.ensures);
+  are_candidates = c.requires.are_candidates;
+  places = (c.requires.plan_of.1, c.placed_of-place.ensures);
 }
 
 pub returns : goal.returns

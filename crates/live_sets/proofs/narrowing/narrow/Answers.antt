@@ -31,7 +31,7 @@ overflow_mul-k c = omega (arith, c.requires.narrowable.few, c.loop-k.invariant.0
 pub narrow_word-kept-requires : goal.narrow_word-kept-requires
 narrow_word-kept-requires c = record {
   known = c.requires.known;
-  n_value = (c.requires.narrowable.placed, omega (arith, c.requires.narrowable.within, c.loop-k.invariant.0));
+  candidate = (c.requires.narrowable.placed, omega (arith, c.requires.narrowable.within, c.loop-k.invariant.0));
   bits_admitted = word_admitted (planned c.args.job.now c.args.plan) c.args.t c.args.n c.args.u c.args.from c.args.to
       c.args.words c.args.work.now c.loop-k.work c.requires.narrowable c.loop-k.k c.loop-k-test.true
       c.loop-k.invariant.2 c.get_u64-w.result c.get_u64-w.ensures c.loop-k.invariant.1;

@@ -18,14 +18,14 @@ returns-then-w-eq0 c = keeps-nothing _ c.args.w c.if-w-eq0.true
 
 pub holds-requires : goal.holds-requires
 holds-requires c =
-    known_sought _ _ _ _ _ c.requires.known.0 _ _ _ c.requires.known.1 c.requires.n_value.0 c.args.u c.args.first
+    known_sought _ _ _ _ _ c.requires.known.0 _ _ _ c.requires.known.1 c.requires.candidate.0 c.args.u c.args.first
     (word_kind _ c.args.u c.args.first c.args.w c.ranges.w.fits c.if-w-eq0.false c.requires.bits_admitted)
 
 pub strain_word-requires : goal.strain_word-requires
 strain_word-requires c = (
-  known_laid _ _ _ _ _ c.requires.known.0 _ _ _ c.requires.known.1 c.requires.n_value.0 c.args.u c.args.first
+  known_laid _ _ _ _ _ c.requires.known.0 _ _ _ c.requires.known.1 c.requires.candidate.0 c.args.u c.args.first
       (word_kind _ c.args.u c.args.first c.args.w c.ranges.w.fits c.if-w-eq0.false c.requires.bits_admitted)
-      c.requires.n_value.1 (sym (ap (λ (b : Bool). leb c.args.t c.args.u && b) c.holds.ensures) ∙ c.if-t-u.true),
+      c.requires.candidate.1 (sym (ap (λ (b : Bool). leb c.args.t c.args.u && b) c.holds.ensures) ∙ c.if-t-u.true),
   λ i e. candidate-less 0 c.args.plan.margin (omega arith) (content c.args.job.now) c.args.u (c.args.first + i)
       (c.requires.bits_admitted i e),
 )
@@ -40,11 +40,11 @@ returns-then-t-u c i =
 pub sift_word-requires : goal.sift_word-requires
 sift_word-requires c = record {
   plan_of = ((c.requires.known.0.plan, c.requires.known.0.table), c.requires.known.1);
-  n_value = (
-    c.requires.n_value.0,
+  candidate = (
+    c.requires.candidate.0,
     omega (
       arith,
-      c.requires.n_value.1,
+      c.requires.candidate.1,
       few_words c.args.job.now c.requires.known.0.plan.accepted,
     ),
   );

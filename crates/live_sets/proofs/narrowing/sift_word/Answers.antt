@@ -29,8 +29,8 @@ still_live-stay-requires c =
     let bit = low in
     record {
       plan_of = c.requires.plan_of;
-      n_value = (
-        c.requires.n_value.0,
+      are_candidates = (
+        c.requires.candidate.0,
         c.requires.bits_admitted c.lowest_bit-b.result
             ((c.loop-left.invariant.1 c.lowest_bit-b.result).1 bit.1),
       );

@@ -33,7 +33,7 @@ turn_word-v-requires c =
     }) in
     record {
       ready = ((c.requires.0.0, omega arith), (c.requires.1.0, other));
-      le_word = (omega arith, c.requires.0.1);
+      word_bounds = (omega arith, c.requires.0.1);
     }
 
 pub loop-k-preserved : goal.loop-k-preserved

@@ -37,7 +37,7 @@ loop-n-preserved c =
       c.next_dot-d.ensures ∙ ap (dot_of s.rows) next,
       turn-next k n _ c.args.w c.loop-n.v c.assign_bit-v.result c.is_blocked-on.result c.requires.ready.0.1 c.loop-n.invariant.3
           (c.is_blocked-on.ensures ∙ ap (blocked_at_dot c.args.turned.now s c.args.p c.args.r (word * 64 + (n * 4 + k))) c.loop-n.invariant.2
-          ∙ blocked-at c.args.turned.now s c.args.p c.args.r word n k c.requires.le_word.0 c.requires.ready.0.1)
+          ∙ blocked-at c.args.turned.now s c.args.p c.args.r word n k c.requires.word_bounds.0 c.requires.ready.0.1)
           (c.assign_bit-v.ensures ∙ ap (assigned_bit c.is_blocked-on.result c.loop-n.v) m),
     )
 

@@ -29,7 +29,7 @@ set_start-to-requires c =
 pub fill_below-requires : goal.fill_below-requires
 fill_below-requires c =
     let kind : c.loop-u.u < kind_count (content c.args.job.now).kinds = omega (arith, c.loop-u.invariant.0) in
-    let within : (c.set_start-to.result + c.args.plan.words) * 8 ≤ length c.args.work.now = omega (arith, c.requires.viewed.0.2.words, c.set_start-to.ensures.within, c.requires.plan_in_bounds) in
+    let within : (c.set_start-to.result + c.args.plan.words) * 8 ≤ length c.args.work.now = omega (arith, c.requires.viewed.0.2.words, c.set_start-to.ensures.within, c.requires.work_in_bounds) in
     record {
       viewed = c.requires.viewed;
       fillable = record { kind = kind; few = words-few c.args.job.now c.args.plan c.requires.viewed.0.2; fits = omega (arith, within, c.loop-u.invariant.1) };
@@ -40,7 +40,7 @@ bounds-copies-u c = omega (arith, c.loop-u.invariant.0)
 
 pub has_members-requires : goal.has_members-requires
 has_members-requires c =
-    let within : (c.set_start-to.result + c.args.plan.words) * 8 ≤ length c.args.work.now = omega (arith, c.requires.viewed.0.2.words, c.set_start-to.ensures.within, c.requires.plan_in_bounds) in
+    let within : (c.set_start-to.result + c.args.plan.words) * 8 ≤ length c.args.work.now = omega (arith, c.requires.viewed.0.2.words, c.set_start-to.ensures.within, c.requires.work_in_bounds) in
     let room : length c.fill_below.new.work ≡ length c.args.work.now = c.fill_below.auto.work ∙ c.loop-u.invariant.1 in
     (words-few c.args.job.now c.args.plan c.requires.viewed.0.2, c.set_start-to.ensures.few, omega (arith, within, room))
 

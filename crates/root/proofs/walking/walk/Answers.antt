@@ -33,7 +33,7 @@ settle_first-requires c =
     let room : RoomFor (planned c.args.job.now c.make_plan-plan.result) c.args.work.now c.args.answer.now = subst (λ (m : ℕ). RoomFor (under m (content c.args.job.now)) c.args.work.now c.args.answer.now) (sym c.make_plan-plan.ensures.1) c.requires.room_for.0 in
     record {
       viewed = ((c.requires.prepared.viewed, c.requires.prepared.boxes, c.make_plan-plan.ensures.0), c.make_plan-plan.ensures.1);
-      plan_in_bounds = (room).work-fits;
+      work_in_bounds = (room).work-fits;
     }
 
 pub shape_of-work-then-not-settle_first : goal.shape_of-work-then-not-settle_first

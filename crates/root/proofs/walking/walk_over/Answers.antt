@@ -5,7 +5,7 @@ use Rattle.root.proofs.walking.walk_over.Goals as goal
 pub make_nofit-requires : goal.make_nofit-requires
 make_nofit-requires c = record {
   viewed = (c.requires.computed.viewed, c.requires.computed.table, c.requires.computed.boxed);
-  measures_of = (c.requires.computed.measures, c.requires.size_in_bounds);
+  measures_of = (c.requires.computed.measures, c.requires.strings_in_bounds);
 }
 
 pub try_piece-requires : goal.try_piece-requires

@@ -17,7 +17,7 @@ overflow_add-nofit c = omega (arith, c.requires.computed.1)
 pub walk_over-requires : goal.walk_over-requires
 walk_over-requires c = record {
   computed = c.requires.computed.0;
-  size_in_bounds = room _ _ 8192 refl (omega (arith, c.if-nofit-lt1024.true));
+  strings_in_bounds = room _ _ 8192 refl (omega (arith, c.if-nofit-lt1024.true));
   ready = c.requires.ready;
 }
 
@@ -27,7 +27,7 @@ returns-then-nofit-lt1024 c = c.walk_over.ensures
 pub walk_over-requires-2 : goal.walk_over-requires-2
 walk_over-requires-2 c = record {
   computed = c.requires.computed.0;
-  size_in_bounds = room _ _ 204800 refl (omega (arith, c.requires.computed.1));
+  strings_in_bounds = room _ _ 204800 refl (omega (arith, c.requires.computed.1));
   ready = c.requires.ready;
 }
 

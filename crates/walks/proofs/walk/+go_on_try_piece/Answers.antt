@@ -28,7 +28,7 @@ pub go_on-lower-span-requires : goal.go_on-lower-span-requires
 go_on-lower-span-requires t c =
     record {
       plan_of = (c.requires.known.plan, c.requires.ready.spans.within);
-      plan_in_bounds = (
+      admitted = (
         c.requires.ready.work-fits,
         lower-ready _ _ _ _ _ _ _ c.requires.ready (λ h. c.requires.taken.below) (c.if-level-plan.true ∙ c.requires.known.plan.pieces),
       );
