@@ -8,26 +8,21 @@ ghost use Rattle.std.specs.Prelude.{IfOk, IfSome, OnOk, length, take, ◌≡◌,
 use std::io;
 use std::io::{Read, Write};
 
-// Reads until the buffer is full or the input ends, and tells how many bytes it read. A read that a signal interrupts
-// is tried again; as std's loops over reads do, this one ends with an error after 2^64 - 1 tries.
+// Reads until the buffer is full or the input ends, and tells how many bytes it read.
 fn read_full<R: Read>(from: &mut R, buffer: &mut [u8]) -> io::Result<usize>
     ensures within { IfOk result (λ n. n ≤ length buffer.new) }
     ensures bytes { IfOk result (λ n. IfSome (R.remaining from.old)
         (λ given. take n buffer.new ≡ take (length buffer.old) given)) }
 {
     let mut len = 0;
-    for _ in 0..u64::MAX {
-        if len >= buffer.len() {
+    while len < buffer.len() {
+        let n = from.read(&mut buffer[len..])?;
+        if n == 0 {
             return Ok(len);
         }
-        match from.read(&mut buffer[len..]) {
-            Ok(0) => return Ok(len),
-            Ok(n) => len += n,
-            Err(e) if e.kind() == io::ErrorKind::Interrupted => {}
-            Err(e) => return Err(e),
-        }
+        len += n;
     }
-    Err(io::Error::from(io::ErrorKind::TimedOut))
+    Ok(len)
 }
 
 // Reads a job, and writes the text of its answer.
