@@ -18,11 +18,13 @@ pub mod SameAnswers
 pub mod ClassOrder
 pub mod Search
 pub mod Folds
+pub mod Ranges
 pub mod Readers
 pub mod Records
 pub mod Causes
 pub mod AcceptedKinds
 pub mod Gaps
+pub mod Numbered
 pub mod Refusals
 pub mod Margin
 pub mod Ranks

@@ -9,6 +9,7 @@ pub mod Problem
 pub mod Candidate
 pub mod Layout
 pub mod Search
+pub mod Refusal
 pub mod Answers
 pub mod Saving
 pub mod ContentFit

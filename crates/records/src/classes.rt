@@ -34,13 +34,7 @@ fn all_in_range(job: &[u8], at: usize, n: usize) -> bool
     requires { (n < 256) × (at + n * 3 ≤ length job.now) }
     ensures { result ≡ all_in_range job.now at n }
 {
-    let mut ok = true;
-    let mut j = 0;
-    while j < n {
-        ok = ok & in_range(job, at + j * 3);
-        j += 1;
-    }
-    ok
+    (0..n).all(|j| in_range(job, at + j * 3))
 }
 
 // A column is one field of every record: bytes at, at + 3, at + 6 and so on. The index of the first of its n entries that is `value`, and

@@ -1,14 +1,12 @@
-use mathlib.Core.Path.{◌∙◌}
+use Rattle.std.proofs.Common.{rules, ◌≡◌, refl, ◌∙◌}
 use native.Mathlib.Omega.{arith}
+use Rattle.std.proofs.lemmas.Iterator.{YieldsList-from_range}
+use Rattle.model.proofs.Ranges.{all_below}
 use Rattle.records.proofs.ClassLaws.{in_range_at, range_all}
-use Rattle.records.proofs.Loops.{all_none, all-next, all_end}
 use Rattle.records.proofs.classes.all_in_range.Goals as goal
 
-pub loop-j-init : goal.loop-j-init
-loop-j-init c = (omega arith, all_none _)
-
-pub loop-j-preserved : goal.loop-j-preserved
-loop-j-preserved c = (omega arith, all-next (in_range_at c.args.job.now c.args.at) c.loop-j.j _ _ c.loop-j.invariant.1 c.in_range-ok.ensures)
-
 pub returns : goal.returns
-returns c = all_end (in_range_at c.args.job.now c.args.at) c.loop-j.j c.args.n _ (omega arith) c.loop-j.invariant.1 ∙ range_all c.args.job.now c.args.at c.args.n
+returns c =
+    all_below (in_range_at c.args.job.now c.args.at) c.args.n _ _ c.all.ensures.ran (YieldsList-from_range 0 _ _ refl (omega arith))
+        (λ x b q k. search rules)
+    ∙ range_all c.args.job.now c.args.at c.args.n
