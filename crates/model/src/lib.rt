@@ -1,6 +1,12 @@
 // The answers of the services. What the paper's number and values of each are, `specs/Answers` says.
 #![tactic(auto)]
 
+ghost use Rattle.std.specs.Prelude.{◌≡◌};
+ghost use Rattle.model.specs.Refusal.{number};
+
+use std::error::Error;
+use std::fmt;
+
 // Why a call is refused, in the order of the paper's numbers: the job's, then those of what the host hands in. The numbers themselves, and 10, which is
 // no refusal but the answer "none", stand in `specs/Refusal`.
 #[derive(Clone, Copy, PartialEq, Eq, Debug)]
@@ -32,6 +38,23 @@ pub enum Refusal {
     // 14: the outline cannot be cut.
     Outline = 14,
 }
+
+impl Refusal {
+    // "A refusal returns its number."
+    pub fn number(self) -> u8
+        ensures { result ≡ number self }
+    {
+        self as u8
+    }
+}
+
+impl fmt::Display for Refusal {
+    fn fmt<W: fmt::Write>(&self, f: &mut fmt::Formatter<W>) -> fmt::Result {
+        write!(f, "refused {}", self.number())
+    }
+}
+
+impl Error for Refusal {}
 
 // What read, save, row and cut answer: the number of a refusal, or how many numbers, bytes, words or triangles they wrote.
 #[derive(Clone, Copy)]
