@@ -7,10 +7,12 @@ use native.Mathlib.Nat.{lt_of_le_of_lt, add-zero, add-suc, suc-add}
 use native.Mathlib.Numerals.{add-one}
 use native.Mathlib.Omega.{arith}
 use borrow.Author.Count.{below_none, below_more}
+use borrow.Rule.Slice.PartMut.{put_mid}
 use lib.Dec.{lit<}
 use lib.IntN.{ℤ, pos, nat_abs}
 use lib.ListN.{length, get_or, take, drop, set, length-append, length-map, get_or-append}
 use lib.Seq.{sets, sets-eq, set_comm, take_at, take-nil, drop_at, drop-append-le, drop-drop, length-take-le, drop-set-lt, drop-set-add, take-set-le, take-take, get_or-take, get_or-drop}
+use Rattle.std.proofs.lemmas.Slice.{put_mid-paste}
 use mir.Syntax.{w8, w16}
 use mir.Val.{Fits, SFits, to_z, of_z}
 use mir.ValLaws.{to_z-of_z}
@@ -150,6 +152,11 @@ box-run l to e =
     let c : to + 2 ≡ suc (suc to) = omega arith in
     let d : to + 3 ≡ suc (suc (suc to)) = omega arith in
     rw (b, c, d)
+
+-- a box copied into a part of the table
+pub box-copied : (l : List ℤ) (to k : ℕ) (e : Extents) (ns : List ℤ) → k ≡ 4 → ns ≡ sides_of e → to + 4 ≤ length l → put_mid to k l ns ≡ with_box l to e
+box-copied l to k e ns q p h =
+    put_mid-paste to k l ns (sides_of e) 4 p (sym q) refl ∙ sym (sets-eq (sides_of e) l to h) ∙ sym (box-run l to e)
 
 -- a box written before a run
 box-before : (l : List ℤ) (to : ℕ) (e : Extents) (ns : List ℤ) → sets (sets l (to + 4) ns) to (sides_of e) ≡ sets l to (sides_of e ++ ns)

@@ -23,8 +23,7 @@ pub fn box_at(boxes: Boxes, t: usize, k: usize) -> Extents
     requires { (t < 8) × (k < 4) }
     ensures { result ≡ box_at boxes t k }
 {
-    let of = boxes.of;
-    of[t * 4 + k]
+    boxes.of[t * 4 + k]
 }
 
 // The box of all parts of a piece, as it stands in the table.
@@ -32,12 +31,9 @@ fn piece_box(table: &[i16], p: Piece) -> Extents
     requires { Standing table.now p }
     ensures { result ≡ extents_of (concat (parts_in table.now p)) }
 {
-    let n = p.count;
     let mut e = part_box(table, p, 0);
-    let mut i: usize = 1;
-    while i < n {
+    for i in 1..p.count {
         e = join(e, part_box(table, p, i));
-        i += 1;
     }
     e
 }
@@ -47,12 +43,12 @@ pub fn boxes_of(job: &[u8], view: View, turned: &[i16]) -> Boxes
     requires { Viewed job.now view × TurnedOf job.now turned.now }
     ensures { BoxesOf job.now result }
 {
-    let kinds = view.kinds;
     let mut of = [point(0, 0); 32];
-    let mut n: usize = 0;
-    while n < kinds * 4 {
-        of[n] = piece_box(turned, turned_to(piece_of(job, view, n / 4), n % 4));
-        n += 1;
+    for t in 0..view.kinds {
+        let p = piece_of(job, view, t);
+        for k in 0..4 {
+            of[t * 4 + k] = piece_box(turned, turned_to(p, k));
+        }
     }
     Boxes { of }
 }

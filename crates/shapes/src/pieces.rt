@@ -5,7 +5,7 @@ ghost use Rattle.model.specs.Format.{content};
 ghost use Rattle.job.specs.View.{Viewed};
 ghost use Rattle.shapes.specs.Pieces.{PieceOf, turned_to};
 
-use crate::turned::byte;
+use frame::fields::byte;
 use geometry::pieces::Piece;
 use job::View;
 
@@ -18,10 +18,8 @@ pub fn piece_of(job: &[u8], view: View, kind: usize) -> Piece
     let places = view.part_at;
     let n = counts[kind];
     let mut sizes = [0usize; 6];
-    let mut i: usize = 0;
-    while i < n {
+    for i in 0..n {
         sizes[i] = byte(job, places[kind * 6 + i]);
-        i += 1;
     }
     Piece {
         first: kind * 120,
@@ -35,10 +33,8 @@ pub fn turned_to(p: Piece, k: usize) -> Piece
     requires { (p.first + 120 ≤ 1024) × (k < 4) }
     ensures { result ≡ turned_to p k }
 {
-    let sizes = p.sizes;
     Piece {
         first: k * 1024 + p.first,
-        count: p.count,
-        sizes,
+        ..p
     }
 }

@@ -11,8 +11,8 @@ fn rotated_x(x: i16, y: i16, rotation: usize) -> i16
 {
     match rotation {
         0 => x,
-        1 => 0 - y,
-        2 => 0 - x,
+        1 => -y,
+        2 => -x,
         _ => y,
     }
 }

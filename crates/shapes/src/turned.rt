@@ -1,7 +1,7 @@
 // Every part at each of the four quarter turns, its vertices and its box, computed once for a call.
 ghost use Rattle.std.specs.Prelude.{map, ◌≡◌, ◌+◌, ◌*◌, ◌≤◌, ◌<◌, length, take, drop};
 ghost use Rattle.model.specs.Content.{kind_count};
-ghost use Rattle.model.specs.Format.{content, byte_at, vertices};
+ghost use Rattle.model.specs.Format.{content, vertices};
 ghost use Rattle.model.specs.Geometry.{rotated};
 ghost use Rattle.job.specs.View.{Viewed};
 ghost use Rattle.polygons.specs.Boxes.{extents_of};
@@ -9,23 +9,9 @@ ghost use Rattle.polygons.specs.Flat.{part_of};
 ghost use Rattle.shapes.specs.Turned.{vertex_in, with_part, with_box, with_slot, PartTurned, KindTurned, TurnedOf, with_vertex};
 
 use crate::quarter_turns::put_rotated;
+use frame::fields::byte;
 use job::View;
 use polygons::extents::{Extents, bounds};
-
-// The byte at i, as a number that can be counted with.
-pub fn byte(s: &[u8], i: usize) -> usize
-    requires { i < length s.now }
-    ensures { result ≡ byte_at s.now i }
-{
-    wide(s[i])
-}
-
-// A byte as a size.
-fn wide(x: u8) -> usize
-    ensures { result ≡ x }
-{
-    x as usize
-}
 
 // The vertex whose bytes begin at `from`, turned k quarter turns, into the table at `to`.
 fn turn_vertex(job: &[u8], from: usize, k: usize, turned: &mut [i16], to: usize)
@@ -42,10 +28,8 @@ fn turn_vertices(job: &[u8], from: usize, n: usize, k: usize, turned: &mut [i16]
     requires { ((k < 4) × (n ≤ 8)) × ((from + n * 2 ≤ length job.now) × (to + n * 2 ≤ length turned.old)) }
     ensures { turned.new ≡ with_part turned.old to (map (rotated k) (vertices n (drop from job.now))) }
 {
-    let mut m: usize = 0;
-    while m < n {
+    for m in 0..n {
         turn_vertex(job, from + m * 2, k, turned, to + m * 2);
-        m += 1;
     }
 }
 
@@ -64,14 +48,7 @@ fn put_box(turned: &mut [i16], at: usize, e: Extents)
     requires { (at ≤ 4096) × (at + 4 ≤ length turned.old) }
     ensures { turned.new ≡ with_box turned.old at e }
 {
-    let left = e.min_x;
-    let right = e.max_x;
-    let bottom = e.min_y;
-    let top = e.max_y;
-    turned[at] = left;
-    turned[at + 1] = right;
-    turned[at + 2] = bottom;
-    turned[at + 3] = top;
+    turned[at..at + 4].copy_from_slice(&[e.min_x, e.max_x, e.min_y, e.max_y]);
 }
 
 // A part of n vertices whose bytes begin at `from`, turned k quarter turns, into the slot that begins at `at`: first its vertices, then, in front of them, their box.
@@ -89,10 +66,8 @@ fn turn_part(job: &[u8], from: usize, n: usize, turned: &mut [i16], q: usize)
     requires { ((n ≤ 8) × (q < 48)) × ((from + n * 2 ≤ length job.now) × (length turned.old ≡ 4096)) }
     ensures { PartTurned (vertices n (drop from job.now)) q turned.old turned.new }
 {
-    let mut k: usize = 0;
-    while k < 4 {
+    for k in 0..4 {
         turn_slot(job, from, n, k, turned, k * 1024 + q * 20);
-        k += 1;
     }
 }
 
@@ -104,11 +79,9 @@ fn turn_kind(job: &[u8], view: View, kind: usize, turned: &mut [i16])
     let counts = view.parts;
     let places = view.part_at;
     let n = counts[kind];
-    let mut i: usize = 0;
-    while i < n {
+    for i in 0..n {
         let at = places[kind * 6 + i];
         turn_part(job, at + 1, byte(job, at), turned, kind * 6 + i);
-        i += 1;
     }
 }
 
@@ -117,9 +90,7 @@ pub fn turn_all(job: &[u8], view: View, turned: &mut [i16])
     requires { Viewed job.now view × (length turned.old ≡ 4096) }
     ensures { TurnedOf job.now turned.new }
 {
-    let mut kind: usize = 0;
-    while kind < view.kinds {
+    for kind in 0..view.kinds {
         turn_kind(job, view, kind, turned);
-        kind += 1;
     }
 }

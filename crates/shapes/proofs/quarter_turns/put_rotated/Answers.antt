@@ -1,9 +1,7 @@
 -- `shapes::quarter_turns::put_rotated` meets its contract: the two stores are the definition's. Assumes nothing.
 use mathlib.Core.Path.{◌≡◌, ◌∙◌}
-use Prim.Native.Nat.{ℕ, ◌+◌, ◌%◌, ◌<◌}
-use native.Mathlib.Omega.{arith}
+use Prim.Native.Nat.{ℕ, ◌+◌, ◌%◌}
 use borrow.Author.Rules.{sfits_of}
-use lib.IntN.{nat_abs}
 use lib.ListN.{set}
 use mir.Syntax.{w16}
 use mir.Val.{to_z, of_z}
@@ -14,22 +12,6 @@ use Rattle.model.specs.Geometry.{rotated}
 use Rattle.shapes.specs.Turned.{with_vertex}
 use Rattle.shapes.proofs.QuarterTurns.{one_turn-less}
 use Rattle.shapes.proofs.quarter_turns.put_rotated.Goals as goal
-
-pub rotated_x-requires : goal.rotated_x-requires
-rotated_x-requires c =
-    let bound_x : nat_abs (to_z w16 (of_z w16 c.args.x)) < 32768 =
-    rw (to_z-of_z w16 c.args.x c.ranges.x) c.requires.2 in
-    let bound_y : nat_abs (to_z w16 (of_z w16 c.args.y)) < 32768 =
-    rw (to_z-of_z w16 c.args.y c.ranges.y) c.requires.3 in
-    (c.requires.1, bound_x, bound_y)
-
-pub rotated_x-requires-2 : goal.rotated_x-requires-2
-rotated_x-requires-2 c =
-    let bound_x : nat_abs (to_z w16 (of_z w16 c.args.x)) < 32768 =
-    rw (to_z-of_z w16 c.args.x c.ranges.x) c.requires.2 in
-    let bound_y : nat_abs (to_z w16 (of_z w16 c.args.y)) < 32768 =
-    rw (to_z-of_z w16 c.args.y c.ranges.y) c.requires.3 in
-    (omega arith, bound_x, bound_y)
 
 pub returns : goal.returns
 unfolding with_vertex

@@ -2,19 +2,12 @@
 -- does not wrap. Assumes nothing.
 use mathlib.Core.Path.{refl, ◌∙◌}
 use native.Mathlib.Omega.{arith}
-use borrow.Author.Rules.{rules}
 use lib.IntN.{pos, ◌-ℤ◌}
 use mir.Syntax.{w16}
 use mir.ValLaws.{to_z-of_z}
 use Rattle.integers.proofs.Machine.{op_gives}
 use Rattle.shapes.proofs.QuarterTurns.{turned-0, turned-1, turned-2, turned-3, opposite_16}
 use Rattle.shapes.proofs.quarter_turns.rotated_x.Goals as goal
-
-pub overflow_sub-result : goal.overflow_sub-result
-overflow_sub-result c = search (opposite_16, rules)
-
-pub overflow_sub-result-in-2 : goal.overflow_sub-result-in-2
-overflow_sub-result-in-2 c = search (opposite_16, rules)
 
 pub returns-in-0 : goal.returns-in-0
 returns-in-0 c = to_z-of_z w16 c.args.x c.ranges.x ∙ turned-0 c.args.x c.args.y c.args.rotation c.in-0.is

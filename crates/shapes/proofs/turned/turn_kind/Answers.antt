@@ -1,13 +1,12 @@
 use mathlib.Core.List.{[]}
-use mathlib.Core.Path.{◌≡◌, ◌∙◌}
 use Prim.Native.Nat.{◌+◌, ◌*◌}
 use native.Mathlib.Omega.{arith}
 use borrow.Author.Rules.{rules}
-use lib.ListN.{length, get_or}
+use lib.ListN.{get_or}
 use Rattle.model.specs.Content.{kind_at}
 use Rattle.model.specs.Format.{content}
 use Rattle.job.specs.View.{PartAt}
-use Rattle.shapes.proofs.TurnLaws.{kind-none, kind-more, kind-all}
+use Rattle.shapes.proofs.TurnLaws.{kind-none, kind-more}
 use Rattle.shapes.proofs.ViewLaws.{few-kinds, kind-in, part_in_lem, part-short, part-read-at}
 use Rattle.shapes.proofs.turned.turn_kind.Goals as goal
 
@@ -26,33 +25,6 @@ loop-i-init c =
       kind-none _ _ _,
     )
 
-pub overflow_add-at-in-loop-i : goal.overflow_add-at-in-loop-i
-overflow_add-at-in-loop-i c =
-    let here : PartAt c.args.job.now
-    (get_or c.args.view.part_at (c.args.kind * 6 + c.loop-i.i) 0)
-    (get_or (kind_at (content c.args.job.now).kinds c.args.kind).parts c.loop-i.i []) =
-    part_in_lem c.args.job.now c.args.view c.requires.0.0 c.args.kind c.requires.0.1 c.loop-i.i (omega arith) in
-    omega (arith, here.inside, c.well_formed)
-
-pub byte-requires : goal.byte-requires
-byte-requires c =
-    let here : PartAt c.args.job.now
-    (get_or c.args.view.part_at (c.args.kind * 6 + c.loop-i.i) 0)
-    (get_or (kind_at (content c.args.job.now).kinds c.args.kind).parts c.loop-i.i []) =
-    part_in_lem c.args.job.now c.args.view c.requires.0.0 c.args.kind c.requires.0.1 c.loop-i.i (omega arith) in
-    omega (arith, here.inside)
-
-pub turn_part-requires : goal.turn_part-requires
-turn_part-requires c =
-    let here : PartAt c.args.job.now
-    (get_or c.args.view.part_at (c.args.kind * 6 + c.loop-i.i) 0)
-    (get_or (kind_at (content c.args.job.now).kinds c.args.kind).parts c.loop-i.i []) =
-    part_in_lem c.args.job.now c.args.view c.requires.0.0 c.args.kind c.requires.0.1 c.loop-i.i (omega arith) in
-    let p = here in
-    let e : c.byte.result ≡ length (get_or (kind_at (content c.args.job.now).kinds c.args.kind).parts c.loop-i.i []) =
-    c.byte.ensures ∙ p.stated in
-    ((omega (arith, p.most), omega arith), (omega (arith, p.inside), c.loop-i.invariant.2))
-
 pub loop-i-preserved : goal.loop-i-preserved
 loop-i-preserved c =
     let here : PartAt c.args.job.now
@@ -64,8 +36,5 @@ loop-i-preserved c =
       search rules,
       kind-more c.args.job.now c.args.kind c.args.turned.now c.loop-i.turned _ c.loop-i.i _ (omega arith) (omega arith)
           (λ i h. part-short c.args.job.now c.args.view c.requires.0.0 c.args.kind c.requires.0.1 i (omega arith))
-          (part-read-at _ _ _ _ c.byte.ensures here) c.loop-i.invariant.3 c.turn_part.ensures,
+          (part-read-at _ _ _ _ c.byte.ensures.0 here) c.loop-i.invariant.3 c.turn_part.ensures,
     )
-
-pub returns : goal.returns
-returns c = kind-all _ _ _ _ c.loop-i.i (omega arith) c.loop-i.invariant.3

