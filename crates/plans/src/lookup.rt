@@ -5,8 +5,10 @@ ghost use Rattle.model.specs.Content.{kind_at, kind_count, piece_count};
 ghost use Rattle.model.specs.Format.{content};
 ghost use Rattle.model.specs.Gap.{pair_gap};
 ghost use Rattle.model.specs.Layout.{entry_of, entry_extent};
+ghost use Rattle.model.specs.Search.{copies_left};
 ghost use Rattle.shapes.specs.Pieces.{PieceOf};
 ghost use Rattle.candidates.specs.Conflicts.{placed_of};
+ghost use Rattle.stepping.specs.Levels.{pieces_from};
 ghost use Rattle.stepping.specs.Slots.{SetPlace};
 ghost use Rattle.plans.specs.Planned.{PlanOf, planned};
 
@@ -40,7 +42,7 @@ pub fn piece_in(job: &[u8], plan: Plan, kind: usize) -> Piece
 pub fn larger(a: usize, b: usize) -> usize
     ensures { result ≡ max a b }
 {
-    if a <= b { b } else { a }
+    a.max(b)
 }
 
 // The gap of a pair of kinds.
@@ -68,6 +70,14 @@ pub fn end_of(job: &[u8], plan: Plan, u: usize, m: usize) -> usize
     ensures { result ≡ entry_extent (planned job.now plan) (entry_of (planned job.now plan) u m) }
 {
     end_at(job, plan, u, m, placed_of(plan.rows, m))
+}
+
+// The copies of kind u left at a level.
+pub fn copies_left(job: &[u8], plan: Plan, level: usize, u: usize) -> u8
+    requires { PlanOf job.now plan × (level < piece_count (content job.now).kinds) × (u < 8) }
+    ensures { result ≡ copies_left u (pieces_from (content job.now).kinds level) }
+{
+    plan.copies[level * 8 + u]
 }
 
 // The word at which the set of level l and kind u begins.
