@@ -2,15 +2,18 @@
 use mathlib.Core.Bool.{Bool, true, false, not, cond, ◌&&◌, ◌||◌}
 use mathlib.Core.List.{List, [], ◌∷◌, ◌++◌, map}
 use mathlib.Core.Path.{◌≡◌, refl, sym, ap, ap₂, ◌∙◌}
-use Prim.Native.Nat.{ℕ, zero, suc, ◌+◌, ◌*◌, ◌-◌, ◌<◌}
+use Prim.Native.Nat.{ℕ, zero, suc, ◌+◌, ◌*◌, ◌<◌, ◌≤◌}
 use native.Mathlib.Numerals.{add-one}
 use native.Mathlib.Omega.{arith}
-use borrow.Author.Tests.{lt-ltb, le-ltb, eqb-true, eq-eqb, ne_eqb, not-true}
+use lib.ListN.{length}
+use borrow.Author.Tests.{lt-ltb, le-ltb, ltb-true, ltb-false, eqb-true, eq-eqb, ne_eqb, not-true}
 use lib.Dec.{eqb, ltb}
+use Rattle.std.specs.List.{position_or_len, range_with_len}
+use Rattle.std.specs.Prelude.{Option, Some, None}
 use Rattle.model.specs.Content.{SpacingClass}
 use Rattle.model.specs.Format.{class_from, class_in_range, distinct}
 use Rattle.model.specs.Lists.{all, any, keep, concat, rising, below}
-use Rattle.model.proofs.Folds.{map-below-more, concat-more, keep-none}
+use Rattle.model.proofs.Folds.{map-below-more, concat-more, keep-none, all_same}
 use Rattle.model.proofs.Lists.{and_left, and_right}
 use Rattle.model.proofs.Permuted.{eqb_comm}
 use Rattle.model.proofs.Tests.{all_map}
@@ -61,6 +64,17 @@ module _ (s : List ℕ) (o : ℕ) where
   abbrev pub is_first : ℕ → ℕ → Bool
   is_first n j = eqb (index_of s o n (entry_at s o j)) j
 
+  -- The first of its value is found, and is entry j.
+  abbrev pub finds : ℕ → ℕ → Bool
+  finds n j = cond (ltb (index_of s o n (entry_at s o j)) n) (eqb (index_of s o n (entry_at s o j)) j) false
+
+  finds-first : (i n j : ℕ) → j < n → (b : Bool) → ltb i n ≡ b → cond b (eqb i j) false ≡ eqb i j
+  finds-first i n j h true e = refl
+  finds-first i n j h false e = let l = ltb-false i n e in sym (ne_eqb i j (λ q. omega arith))
+
+  pub all-firsts : (n : ℕ) → all (finds n) (below n) ≡ all (is_first n) (below n)
+  all-firsts n = all_same (finds n) (is_first n) n (λ j h. finds-first (index_of s o n (entry_at s o j)) n j h _ refl)
+
   pub distinct-firsts : (n : ℕ) → all (is_first n) (below n) ≡ distinct_column s o n
   unfolding index_of distinct_column below
   distinct-firsts n = sym (distinct_from 0 n)
@@ -73,29 +87,45 @@ risen_more cs i =
 
 -- ---- The first of an id
 
-pub first_step : (p : ℕ → Bool) (i n : ℕ) → i < n → first_from p i (n - i) ≡ cond (p i) i (first_from p (i + 1) (n - (i + 1)))
+-- The first of the numbers from i on of which the test holds, as the place of it among them.
+first-place : (p : ℕ → Bool) (i k : ℕ) → first_from p i k ≡ i + position_or_len p (range_with_len i k)
 unfolding first_from
-first_step p i n h =
-    let e : n - i ≡ suc (n - (i + 1)) = omega arith in
-    ap (first_from p i) e ∙ ap (λ m. cond (p i) i (first_from p m (n - (i + 1)))) (sym (add-one i))
+first-place p i zero = omega arith
+first-place p i (suc k) = go (p i) (ap (λ m. first_from p m k) (sym (add-one i)) ∙ first-place p (i + 1) k)
+  where
+    go : (b : Bool) → first_from p (suc i) k ≡ i + 1 + position_or_len p (range_with_len (i + 1) k)
+        → cond b i (first_from p (suc i) k) ≡ i + cond (not b) (1 + position_or_len p (range_with_len (i + 1) k)) 0
+    go true e = omega arith
+    go false e = omega arith
 
-module _ (s : List ℕ) (o n id : ℕ) where
-  pub index_start : index_of s o n id ≡ first_from (has_id s o id) 0 (n - 0)
-  unfolding index_of
-  index_start = let e : n - 0 ≡ n = omega arith in rw e
+length-range : (i k : ℕ) → length (range_with_len i k) ≡ k
+length-range i zero = refl
+length-range i (suc k) = ap suc (length-range (i + 1) k)
 
-  pub index_found : (i : ℕ) → i < n → entry_at s o i ≡ id → first_from (has_id s o id) i (n - i) ≡ i
-  unfolding has_id
-  index_found i h e = first_step (has_id s o id) i n h ∙ ap (λ b. cond b i (first_from (has_id s o id) (i + 1) (n - (i + 1)))) (eq-eqb _ _ e)
+pub position-first : (s : List ℕ) (o n value : ℕ)
+    → cond (ltb (position_or_len (has_id s o value) (range_with_len 0 n)) (length (range_with_len 0 n)))
+    (Some (position_or_len (has_id s o value) (range_with_len 0 n))) None
+    ≡ cond (ltb (index_of s o n value) n) (Some (index_of s o n value)) None
+unfolding index_of
+position-first s o n value =
+    let e : position_or_len (has_id s o value) (range_with_len 0 n) ≡ first_from (has_id s o value) 0 n =
+    (omega arith) ∙ sym (first-place (has_id s o value) 0 n) in
+    ap₂ (λ i m. cond (ltb i m) (Some i) None) e (length-range 0 n)
 
-  pub index_next : (i : ℕ) → i < n → (entry_at s o i ≡ id → ⊥)
-      → first_from (has_id s o id) i (n - i) ≡ first_from (has_id s o id) (i + 1) (n - (i + 1))
-  unfolding has_id
-  index_next i h e = first_step (has_id s o id) i n h ∙ ap (λ b. cond b i (first_from (has_id s o id) (i + 1) (n - (i + 1)))) (ne_eqb _ _ e)
+-- What `find` answers: the first entry of the value, if it is one of the n.
+pub some-found : (i n j : ℕ) (r : Option ℕ) → r ≡ cond (ltb i n) (Some i) None → r ≡ Some j → (j ≡ i) × (i < n)
+some-found i n j r e f = go (ltb i n) refl (sym e ∙ f)
+  where
+    go : (b : Bool) → ltb i n ≡ b → cond b (Some i) None ≡ Some j → (j ≡ i) × (i < n)
+    go true q h = ((cc), ltb-true i n q)
+    go false q h = (cc)
 
-  pub index_none : (i : ℕ) → i ≡ n → first_from (has_id s o id) i (n - i) ≡ n
-  unfolding first_from
-  index_none i e = let z : n - i ≡ 0 = omega arith in ap (first_from (has_id s o id) i) z ∙ e
+pub none-found : (i n : ℕ) (r : Option ℕ) → r ≡ cond (ltb i n) (Some i) None → r ≡ None → n ≤ i
+none-found i n r e f = go (ltb i n) refl (sym e ∙ f)
+  where
+    go : (b : Bool) → ltb i n ≡ b → cond b (Some i) None ≡ None → n ≤ i
+    go true q h = (cc)
+    go false q h = ltb-false i n q
 
 -- ---- The class of an id, where no id occurs twice
 

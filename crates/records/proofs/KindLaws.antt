@@ -7,10 +7,11 @@ use native.Mathlib.Omega.{arith}
 use borrow.Author.Tests.{lt-ltb, le-ltb}
 use lib.Dec.{eqb, ltb}
 use lib.ListN.{length, drop}
+use Rattle.words.specs.Bits.{test_bit}
 use Rattle.model.specs.Content.{SpacingClass, Kind, no_kind}
 use Rattle.model.specs.Format.{byte_at, class_from, bad, got, many, read_kind, names_present, kinds_unfit}
 use Rattle.model.specs.Lists.{all, any, sum, rising, below}
-use Rattle.model.proofs.Folds.{all_more, sum_more, map-append}
+use Rattle.model.proofs.Folds.{all_same, all_more, sum_more, map-append}
 use Rattle.model.proofs.Records.{byte_first, byte_behind, kind-read}
 use Rattle.records.specs.Classes.{classes_from, entry_at, first_from, has_id, index_of}
 use Rattle.records.specs.Kinds.{present, not_absent, absent_none, list_unfit}
@@ -36,6 +37,16 @@ module _ (s : List ℕ) (o id : ℕ) where
   pub present-found : (n : ℕ) → present (classes_from s o n) id ≡ ltb (index_of s o n id) n
   unfolding present index_of below
   present-found n = present-from 0 n ∙ ap (ltb (first_from (has_id s o id) 0 n)) (omega arith)
+
+-- The mask does not name this id, or it is found.
+abbrev pub found_or_unnamed : List ℕ → ℕ → ℕ → ℕ → ℕ → Bool
+found_or_unnamed s o n mask id = not (test_bit mask id) || ltb (index_of s o n id) n
+
+pub none_absent-found : (s : List ℕ) (o n mask : ℕ) → all (found_or_unnamed s o n mask) (below 8) ≡ absent_none (classes_from s o n) mask
+unfolding absent_none not_absent
+none_absent-found s o n mask =
+    all_same (found_or_unnamed s o n mask) (not_absent (classes_from s o n) mask) 8
+    (λ id h. ap (λ b. not (test_bit mask id) || b) (sym (present-found s o id n)))
 
 -- ---- The records
 

@@ -1,5 +1,5 @@
 // The class list: what a gap byte means, cause 5 of refusal, and where the class of an id stands.
-ghost use Rattle.std.specs.Prelude.{◌≡◌, ◌+◌, ◌*◌, ◌≤◌, ◌<◌, length};
+ghost use Rattle.std.specs.Prelude.{cond, ltb, Some, None, ◌≡◌, ◌+◌, ◌*◌, ◌≤◌, ◌<◌, length};
 ghost use Rattle.records.specs.Classes.{all_in_range, distinct_column, classes_unfit, index_of};
 ghost use Rattle.model.specs.Format.{marks_cut, gap_meant, class_from, class_in_range};
 
@@ -37,20 +37,12 @@ fn all_in_range(job: &[u8], at: usize, n: usize) -> bool
     (0..n).all(|j| in_range(job, at + j * 3))
 }
 
-// A column is one field of every record: bytes at, at + 3, at + 6 and so on. The index of the first of its n entries that is `value`, and
-// n where there is none.
-pub fn find(job: &[u8], at: usize, n: usize, value: usize) -> usize
+// A column is one field of every record: bytes at, at + 3, at + 6 and so on. The index of the first of its n entries that is `value`.
+pub fn find(job: &[u8], at: usize, n: usize, value: usize) -> Option<usize>
     requires { (n < 256) × (at + n * 3 ≤ length job.now + 2) }
-    ensures { (result ≡ index_of job.now at n value) × (result ≤ n) }
+    ensures { result ≡ cond (ltb (index_of job.now at n value) n) (Some (index_of job.now at n value)) None }
 {
-    let mut j = 0;
-    while j < n {
-        if fields::byte(job, at + j * 3) == value {
-            return j;
-        }
-        j += 1;
-    }
-    n
+    (0..n).position(|j| fields::byte(job, at + j * 3) == value)
 }
 
 // No entry of the column occurs twice: each is the first of its value.
@@ -58,13 +50,7 @@ fn distinct(job: &[u8], at: usize, n: usize) -> bool
     requires { (n < 256) × (at + n * 3 ≤ length job.now + 2) }
     ensures { result ≡ distinct_column job.now at n }
 {
-    let mut ok = true;
-    let mut j = 0;
-    while j < n {
-        ok = ok & (find(job, at, n, fields::byte(job, at + j * 3)) == j);
-        j += 1;
-    }
-    ok
+    (0..n).all(|j| find(job, at, n, fields::byte(job, at + j * 3)) == Some(j))
 }
 
 // Cause 5: too many classes, a field out of range, an id or a rank that occurs twice.

@@ -19,13 +19,7 @@ fn none_absent(job: &[u8], at: usize, n: usize, mask: usize) -> bool
     requires { (n < 256) × (at + n * 3 ≤ length job.now) }
     ensures { result ≡ absent_none (classes_from job.now at n) mask }
 {
-    let mut ok = true;
-    let mut id = 0;
-    while id < 8 {
-        ok = ok & (!names(mask, id) | (classes::find(job, at, n, id) < n));
-        id += 1;
-    }
-    ok
+    (0..8).all(|id| !names(mask, id) | classes::find(job, at, n, id).is_some())
 }
 
 // The n type records of the list do not fit: one cannot be read, they do not fill the list, they demand too much, or a class is absent.
