@@ -9,107 +9,71 @@ ghost use Rattle.model.specs.Answers.{
   run_steps,
   written_number,
   written_count,
-  check_number,
-  check_length,
   fields,
   written_word,
-  check_word,
   run_word,
 };
 
-use model::{Checked, Held, RunAnswer, Written};
+use model::{Outcome, Refusal};
 
 // The number of the refusal, and 0 where there is none.
-pub fn written_number(a: Written) -> u8
+pub fn written_number(a: Result<u16, Refusal>) -> u8
     ensures { result ≡ written_number a }
 {
-    match a {
-        Written::Refused(n) => n,
-        Written::Count(_) => 0,
-    }
+    a.err().map_or(0, |r| r.number())
 }
 
-// How many numbers, bytes, words or triangles were written.
-pub fn written_count(a: Written) -> u16
+// How many numbers, bytes, words or triangles were written, or the length of the layout that passes.
+pub fn written_count(a: Result<u16, Refusal>) -> u16
     ensures { result ≡ written_count a }
 {
-    match a {
-        Written::Refused(_) => 0,
-        Written::Count(n) => n,
-    }
-}
-
-// The number of the refusal, and 0 where there is none.
-pub fn check_number(a: Checked) -> u8
-    ensures { result ≡ check_number a }
-{
-    match a {
-        Checked::Refused(n) => n,
-        Checked::Passes(_) => 0,
-    }
-}
-
-// The length of the layout that passes.
-pub fn check_length(a: Checked) -> u16
-    ensures { result ≡ check_length a }
-{
-    match a {
-        Checked::Refused(_) => 0,
-        Checked::Passes(n) => n,
-    }
+    a.unwrap_or(0)
 }
 
 // The number of the refusal, 10 for none, and 0 otherwise.
-pub fn run_number(a: RunAnswer) -> u8
+pub fn run_number(a: Result<Outcome, Refusal>) -> u8
     ensures { result ≡ run_number a }
 {
     match a {
-        RunAnswer::Refused(n) => n,
-        RunAnswer::Shortest(_, _) => 0,
-        RunAnswer::Stopped(_, _) => 0,
-        RunAnswer::Infeasible(_) => 10,
+        Err(refusal) => refusal.number(),
+        Ok(Outcome::Infeasible { .. }) => 10,
+        Ok(_) => 0,
     }
 }
 
 // The length of the layout that is held, and 0 where none is.
-pub fn run_length(a: RunAnswer) -> u16
+pub fn run_length(a: Result<Outcome, Refusal>) -> u16
     ensures { result ≡ run_length a }
 {
     match a {
-        RunAnswer::Refused(_) => 0,
-        RunAnswer::Shortest(n, _) => n,
-        RunAnswer::Stopped(h, _) => match h {
-            Held::Layout(n) => n,
-            Held::Nothing => 0,
-        },
-        RunAnswer::Infeasible(_) => 0,
+        Ok(Outcome::Shortest { length, .. }) => length,
+        Ok(Outcome::Stopped { held, .. }) => held.unwrap_or(0),
+        _ => 0,
     }
 }
 
 // The steps taken, and 0 for a refusal.
-pub fn run_steps(a: RunAnswer) -> u32
+pub fn run_steps(a: Result<Outcome, Refusal>) -> u32
     ensures { result ≡ run_steps a }
 {
     match a {
-        RunAnswer::Refused(_) => 0,
-        RunAnswer::Shortest(_, s) => s,
-        RunAnswer::Stopped(_, s) => s,
-        RunAnswer::Infeasible(s) => s,
+        Ok(
+            Outcome::Shortest { steps, .. }
+            | Outcome::Stopped { steps, .. }
+            | Outcome::Infeasible { steps },
+        ) => steps,
+        Err(_) => 0,
     }
 }
 
 // How the run ended: 0 finished or refused, 1 stopped with a layout, 2 stopped with nothing.
-pub fn run_verdict(a: RunAnswer) -> u8
+pub fn run_verdict(a: Result<Outcome, Refusal>) -> u8
     ensures { result ≡ run_verdict a }
 {
     match a {
-        RunAnswer::Refused(_) => 0,
-        RunAnswer::Shortest(_, _) => 0,
-        RunAnswer::Stopped(h, _) => match h {
-            Held::Layout(_) => 1,
-            Held::Nothing => 2,
-        },
-        RunAnswer::Infeasible(_) => 0,
+        Ok(Outcome::Stopped { held: Some(_), .. }) => 1,
+        Ok(Outcome::Stopped { held: None, .. }) => 2,
+        _ => 0,
     }
 }
 
@@ -117,25 +81,21 @@ pub fn run_verdict(a: RunAnswer) -> u8
 fn pack(number: u8, verdict: u8, length: u16, steps: u32) -> u64
     ensures { result ≡ fields number verdict length steps }
 {
-    (number as u64) + 256 * (verdict as u64) + 65536 * (length as u64) + 4294967296 * (steps as u64)
+    u64::from(number)
+        + 256 * u64::from(verdict)
+        + 65536 * u64::from(length)
+        + 4294967296 * u64::from(steps)
 }
 
-// An answer of read, save, row or cut as one number.
-pub fn written_word(a: Written) -> u64
+// An answer of read, save, row, cut or check as one number.
+pub fn written_word(a: Result<u16, Refusal>) -> u64
     ensures { result ≡ written_word a }
 {
     pack(written_number(a), 0, written_count(a), 0)
 }
 
-// An answer of check as one number.
-pub fn check_word(a: Checked) -> u64
-    ensures { result ≡ check_word a }
-{
-    pack(check_number(a), 0, check_length(a), 0)
-}
-
 // An answer of run as one number.
-pub fn run_word(a: RunAnswer) -> u64
+pub fn run_word(a: Result<Outcome, Refusal>) -> u64
     ensures { result ≡ run_word a }
 {
     pack(run_number(a), run_verdict(a), run_length(a), run_steps(a))

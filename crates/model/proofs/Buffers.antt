@@ -8,65 +8,67 @@ use Prim.Native.Nat.{ℕ, ◌*◌}
 use native.Mathlib.Omega.{arith}
 use lib.Dec.{ltb, eqb}
 use lib.ListN.{length}
+use Rattle.std.specs.Prelude.{Ok, Err, None}
 use Rattle.model.specs.Content.{piece_count}
 use Rattle.model.specs.Format.{refusal, content}
 use Rattle.model.specs.Grid.{set_words}
 use Rattle.model.specs.Problem.{Problem, under}
+use Rattle.model.specs.Refusal.{numbered}
 use Rattle.model.specs.Search.{is_stopped, held}
 use Rattle.model.specs.Layout.{Layout}
 use Rattle.model.specs.Saving.{written}
 use Rattle.model.specs.Services.{WriteOutcome, write_outcome, with_numbers, content_numbers, read_content, read, with_bytes, save_content, save, refusal_under, cause12, row_content, conflict_row, words_in, numbers_in, work_words, with_layout, held_as, finished_as, given_layout, given_unfit, verdict, step_count, RunOutcome, run_outcome, walked, run_from, run_content, run}
-use Rattle.model.specs.declared.Held.TheVariants as HV
-use Rattle.model.specs.declared.RunAnswer.{RunAnswer}
-use Rattle.model.specs.declared.RunAnswer.TheVariants as R
-use Rattle.model.specs.declared.Written.TheVariants as W
+use Rattle.model.specs.declared.Outcome.TheVariants as O
+use Rattle.model.specs.declared.Outcome.{Outcome}
+use Rattle.model.specs.declared.Refusal.TheVariants as R
+use Rattle.model.specs.declared.Refusal.{Refusal}
 
 -- What read and save leave: the job is accepted or not, the answer is too short or not.
-module _ (out full : List ℕ) (m k : ℕ) where
+module _ (out full : List ℕ) (r : Refusal) (k : ℕ) where
   left : Bool → Bool → WriteOutcome
   left accepted short =
       elim accepted [
-        | false ↦ write_outcome (W.Refused m) out
-        | true ↦ cond short (write_outcome (W.Refused 9) out) (write_outcome (W.Count k) full)
+        | false ↦ write_outcome (Err r) out
+        | true ↦ cond short (write_outcome (Err R.Answer) out) (write_outcome (Ok k) full)
       ]
 
-  left-keeps : (a b : Bool) (n : ℕ) → (left a b).answer ≡ W.Refused n → (left a b).buffer ≡ out
+  left-keeps : (a b : Bool) (n : Refusal) → (left a b).answer ≡ Err n → (left a b).buffer ≡ out
   unfolding left
   left-keeps false b n h = refl
   left-keeps true true n h = refl
   left-keeps true false n h = let z : ◌≡◌ {A = ℕ} 0 1 = cc in absurd (omega arith)
 
 -- "A refusal .. changes no buffer": read and save.
-pub read_keeps : (s out : List ℕ) (n : ℕ) → (read s out).answer ≡ W.Refused n → (read s out).buffer ≡ out
+pub read_keeps : (s out : List ℕ) (n : Refusal) → (read s out).answer ≡ Err n → (read s out).buffer ≡ out
 unfolding read read_content left
 read_keeps s out n =
     let ns : List ℕ = content_numbers (content s) in
-    left-keeps out (with_numbers ns out) (refusal s) (length ns) (eqb (refusal s) 0) (ltb (numbers_in out) (length ns)) n
+    left-keeps out (with_numbers ns out) (numbered (refusal s)) (length ns) (eqb (refusal s) 0) (ltb (numbers_in out) (length ns)) n
 
-pub save-keeps : (s out : List ℕ) (n : ℕ) → (save s out).answer ≡ W.Refused n → (save s out).buffer ≡ out
+pub save-keeps : (s out : List ℕ) (n : Refusal) → (save s out).answer ≡ Err n → (save s out).buffer ≡ out
 unfolding save save_content left
 save-keeps s out n =
     let bs : List ℕ = written (content s) in
-    left-keeps out (with_bytes bs out) (refusal s) (length bs) (eqb (refusal s) 0) (ltb (length out) (length bs)) n
+    left-keeps out (with_bytes bs out) (numbered (refusal s)) (length bs) (eqb (refusal s) 0) (ltb (length out) (length bs)) n
 
 -- The same of the conflict row.
-pub row_keeps : (s : List ℕ) (m t k u : ℕ) (out : List ℕ) (n : ℕ) → (conflict_row s m t k u out).answer ≡ W.Refused n → (conflict_row s m t k u out).buffer ≡ out
+pub row_keeps : (s : List ℕ) (m t k u : ℕ) (out : List ℕ) (n : Refusal) → (conflict_row s m t k u out).answer ≡ Err n → (conflict_row s m t k u out).buffer ≡ out
 unfolding conflict_row row_content
 row_keeps s m t k u out n = go (eqb (refusal_under m s) 0) refl
   where
     j : Problem
     j = under m (content s)
 
-    last : (b : Bool) → ltb (words_in out) (set_words j.sheet) ≡ b → cause12 j t k u ≡ false → (row_content j t k u out).answer ≡ W.Refused n
+    last : (b : Bool) → ltb (words_in out) (set_words j.sheet) ≡ b → cause12 j t k u ≡ false → (row_content j t k u out).answer ≡ Err n
         → (row_content j t k u out).buffer ≡ out
     last true g f h = rw (f, g, row_content)
     last false g f h = let z : ◌≡◌ {A = ℕ} 0 1 = (let z = rw (f, g, row_content) at h in cc) in absurd (omega arith)
 
-    inner : (b : Bool) → cause12 j t k u ≡ b → (row_content j t k u out).answer ≡ W.Refused n → (row_content j t k u out).buffer ≡ out
+    inner : (b : Bool) → cause12 j t k u ≡ b → (row_content j t k u out).answer ≡ Err n → (row_content j t k u out).buffer ≡ out
     inner true f h = rw (f, row_content)
     inner false f h = last (ltb (words_in out) (set_words j.sheet)) refl f h
 
-    go : (b : Bool) → eqb (refusal_under m s) 0 ≡ b → (conflict_row s m t k u out).answer ≡ W.Refused n → (conflict_row s m t k u out).buffer ≡ out
+    go : (b : Bool) → eqb (refusal_under m s) 0 ≡ b → (conflict_row s m t k u out).answer ≡ Err n → (conflict_row s m t k u out).buffer ≡ out
     go false e h = rw (e, conflict_row)
     go true e h = rw (e, conflict_row) (inner (cause12 j t k u) refl (rw (e, conflict_row) at h))
 
@@ -104,23 +106,17 @@ run-cases s m budget given work out = go (eqb (refusal_under m s) 0) refl
 
 -- What the walk says is no refusal; where it says none, or stops with nothing, nothing is held.
 module _ (j : Problem) (begin : Option Layout) (budget : ℕ) where
-  never_refused : (n : ℕ) → verdict j begin budget ≡ R.Refused n → ⊥
-  unfolding verdict finished_as
-  never_refused n = go (is_stopped j begin budget) (held j begin budget)
-    where
-      go : (b : Bool) (h : Option Layout) → cond b (R.Stopped (held_as j h) (step_count j begin budget)) (finished_as j h (step_count j begin budget)) ≡ R.Refused n → ⊥
-      go true h e = let z : ◌≡◌ {A = ℕ} 0 1 = cc in omega arith
-      go false none e = let z : ◌≡◌ {A = ℕ} 0 1 = cc in omega arith
-      go false (some es) e = let z : ◌≡◌ {A = ℕ} 0 1 = cc in omega arith
+  never_refused : (n : Refusal) → Ok (verdict j begin budget) ≡ Err n → ⊥
+  never_refused n e = let z : ◌≡◌ {A = ℕ} 0 1 = cc in omega arith
 
-  nothing_held : (k : ℕ) → (verdict j begin budget ≡ R.Infeasible k) ⊎ (verdict j begin budget ≡ R.Stopped HV.Nothing k) → held j begin budget ≡ none
+  nothing_held : (k : ℕ) → (verdict j begin budget ≡ O.Infeasible k) ⊎ (verdict j begin budget ≡ O.Stopped None k) → held j begin budget ≡ none
   unfolding verdict finished_as held_as
   nothing_held k = go (is_stopped j begin budget) (held j begin budget)
     where
-      told : Bool → Option Layout → RunAnswer
-      told b h = cond b (R.Stopped (held_as j h) (step_count j begin budget)) (finished_as j h (step_count j begin budget))
+      told : Bool → Option Layout → Outcome
+      told b h = cond b (O.Stopped (held_as j h) (step_count j begin budget)) (finished_as j h (step_count j begin budget))
 
-      go : (b : Bool) (h : Option Layout) → (told b h ≡ R.Infeasible k) ⊎ (told b h ≡ R.Stopped HV.Nothing k) → h ≡ none
+      go : (b : Bool) (h : Option Layout) → (told b h ≡ O.Infeasible k) ⊎ (told b h ≡ O.Stopped None k) → h ≡ none
       go b none e = refl
       go true (some es) (inl e) = let z : ◌≡◌ {A = ℕ} 0 1 = cc in absurd (omega arith)
       go true (some es) (inr e) = let z : ◌≡◌ {A = ℕ} 0 1 = cc in absurd (omega arith)
@@ -136,7 +132,7 @@ module _ (s : List ℕ) (m budget : ℕ) (given work out : List ℕ) where
   begin = given_layout j given
 
   -- The same of a run.
-  pub run-keeps : (n : ℕ) → (run s m budget given work out).answer ≡ R.Refused n → ((run s m budget given work out).work ≡ work) × ((run s m budget given work out).out ≡ out)
+  pub run-keeps : (n : Refusal) → (run s m budget given work out).answer ≡ Err n → ((run s m budget given work out).work ≡ work) × ((run s m budget given work out).out ≡ out)
   run-keeps n h = go (run-cases s m budget given work out)
     where
       go : (run s m budget given work out ≡ run_outcome (run s m budget given work out).answer work out) ⊎ (run s m budget given work out ≡ walked j begin budget work out)
@@ -145,13 +141,13 @@ module _ (s : List ℕ) (m budget : ℕ) (given work out : List ℕ) where
       go (inr e) = absurd (never_refused j begin budget n (sym (ap (λ r. r.answer) e) ∙ h))
 
   -- "except 10, which .. clears the work words"; "Stopped without a layout leaves the answer numbers unchanged."
-  pub run-without_layout : (k : ℕ) → ((run s m budget given work out).answer ≡ R.Infeasible k) ⊎ ((run s m budget given work out).answer ≡ R.Stopped HV.Nothing k)
+  pub run-without_layout : (k : ℕ) → ((run s m budget given work out).answer ≡ Ok (O.Infeasible k)) ⊎ ((run s m budget given work out).answer ≡ Ok (O.Stopped None k))
       → (run s m budget given work out).out ≡ out
   unfolding with_layout
   run-without_layout k h = go (run-cases s m budget given work out)
     where
-      says : (run s m budget given work out).answer ≡ verdict j begin budget → (verdict j begin budget ≡ R.Infeasible k) ⊎ (verdict j begin budget ≡ R.Stopped HV.Nothing k)
-      says a = ⊎_elim (λ e. inl (sym a ∙ e)) (λ e. inr (sym a ∙ e)) h
+      says : (run s m budget given work out).answer ≡ Ok (verdict j begin budget) → (verdict j begin budget ≡ O.Infeasible k) ⊎ (verdict j begin budget ≡ O.Stopped None k)
+      says a = ⊎_elim (λ e. inl (let z = sym a ∙ e in cc)) (λ e. inr (let z = sym a ∙ e in cc)) h
 
       go : (run s m budget given work out ≡ run_outcome (run s m budget given work out).answer work out) ⊎ (run s m budget given work out ≡ walked j begin budget work out)
           → (run s m budget given work out).out ≡ out

@@ -10,6 +10,7 @@ use lib.Dec.{eqb, ltb}
 use lib.IntN.{ℤ, pos, ◌+ℤ◌, ◌-ℤ◌}
 use lib.ListN.{length, get_or}
 use lib.Signed.{le_z, ◌≤ℤ◌}
+use Rattle.std.specs.Prelude.{Err}
 use Rattle.integers.proofs.Linear.{linear, ◌⊩◌}
 use Rattle.integers.proofs.Order.{le_z_true, le_le_z, ≤ℤ-trans, pos-≤ℤ, ≤ℤ-pos}
 use Rattle.integers.proofs.Solver.{◌⊞◌, ◌⊟◌, ◌≲◌}
@@ -21,11 +22,11 @@ use Rattle.model.specs.Grid.{Placement, columns, rows, placement_of}
 use Rattle.model.specs.Layout.{Entry, Layout, entry_at, entry_number, entry_kind, entry_extent, is_entry, conflict, largest_end, layout_length, Passes}
 use Rattle.model.specs.Lists.{all}
 use Rattle.model.specs.Problem.{Problem, under, cause13}
+use Rattle.model.specs.Refusal.{number, numbered}
 use Rattle.model.specs.Services.{refusal_under, write_outcome, row_content, conflict_row, check_content, check, run_outcome, run_content, run}
-use Rattle.model.specs.declared.Checked.TheVariants as C
-use Rattle.model.specs.declared.RunAnswer.TheVariants as R
-use Rattle.model.specs.declared.Written.TheVariants as W
+use Rattle.model.specs.declared.Refusal.TheVariants as R
 use Rattle.model.proofs.Lists.{and_left, and_right, and_both, and_four, all-at, all_of, by_cond}
+use Rattle.model.proofs.Numbered.{number_numbered, refusal-number}
 use Rattle.model.proofs.Refusals.{refusal-most}
 
 -- ---- What is refused
@@ -69,6 +70,14 @@ module _ (s : List ℕ) (m : ℕ) where
     λ f. margin-decides f.0 ∙ ap (λ c. cond c 13 0) (lt-ltb 63 m f.1),
   )
 
+  -- The refusal that is answered has the number by which the job is refused under the margin.
+  pub refusal_under-number : (refusal_under m s ≡ 0 → ⊥) → number (numbered (refusal_under m s)) ≡ refusal_under m s
+  refusal_under-number f =
+      ⊎_elim
+      (λ x. ap (λ n. number (numbered n)) x.1 ∙ refusal-number s x.0 ∙ sym x.1)
+      (⊎_elim (λ x. number_numbered _ (omega (arith, x.2)) (omega (arith, x.2)) (λ e. omega (arith, e, x.2))) (λ x. absurd (f x.2)))
+      three_cases
+
   -- It is tested before 12, 11, 8, 9 and 10, so it is told whatever else is handed in; and no buffer changes.
   module _ (accepted : refusal s ≡ 0) (large : 63 < m) where
     refuses : refusal_under m s ≡ 13
@@ -77,17 +86,17 @@ module _ (s : List ℕ) (m : ℕ) where
     refused : eqb (refusal_under m s) 0 ≡ false
     refused = ne_eqb (refusal_under m s) 0 (λ z. omega (arith, refuses))
 
-    pub row-13 : (t n u : ℕ) (out : List ℕ) → conflict_row s m t n u out ≡ write_outcome (W.Refused 13) out
-    unfolding conflict_row
-    row-13 t n u out = rw (refused, conflict_row) (ap (λ n. write_outcome (W.Refused n) out) refuses)
+    pub row-13 : (t n u : ℕ) (out : List ℕ) → conflict_row s m t n u out ≡ write_outcome (Err R.Margin) out
+    unfolding conflict_row numbered
+    row-13 t n u out = rw (refused, conflict_row) (ap (λ n. write_outcome (Err (numbered n)) out) refuses)
 
-    pub check-13 : (layout : List ℕ) → check s m layout ≡ C.Refused 13
-    unfolding check
-    check-13 layout = rw (refused, check) (ap (λ n. C.Refused n) refuses)
+    pub check-13 : (layout : List ℕ) → check s m layout ≡ Err R.Margin
+    unfolding check numbered
+    check-13 layout = rw (refused, check) (ap (λ n. Err (numbered n)) refuses)
 
-    pub run-13 : (budget : ℕ) (given work out : List ℕ) → run s m budget given work out ≡ run_outcome (R.Refused 13) work out
-    unfolding run
-    run-13 budget given work out = rw (refused, run) (ap (λ n. run_outcome (R.Refused n) work out) refuses)
+    pub run-13 : (budget : ℕ) (given work out : List ℕ) → run s m budget given work out ≡ run_outcome (Err R.Margin) work out
+    unfolding run numbered
+    run-13 budget given work out = rw (refused, run) (ap (λ n. run_outcome (Err (numbered n)) work out) refuses)
 
 -- ---- "With m = 0 .., all earlier results hold"
 
@@ -115,10 +124,10 @@ pub record AsBefore (s : List ℕ) : Type 0 where
   -- "Its length is the largest end."
   pub length : (es : Layout) → layout_length (under 0 (content s)) es ≡ largest_end (under 0 (content s)) es
   pub row : (t n u : ℕ) (out : List ℕ) → conflict_row s 0 t n u out
-      ≡ cond (eqb (refusal s) 0) (row_content (under 0 (content s)) t n u out) (write_outcome (W.Refused (refusal s)) out)
-  pub checked : (layout : List ℕ) → check s 0 layout ≡ cond (eqb (refusal s) 0) (check_content (under 0 (content s)) layout) (C.Refused (refusal s))
+      ≡ cond (eqb (refusal s) 0) (row_content (under 0 (content s)) t n u out) (write_outcome (Err (numbered (refusal s))) out)
+  pub checked : (layout : List ℕ) → check s 0 layout ≡ cond (eqb (refusal s) 0) (check_content (under 0 (content s)) layout) (Err (numbered (refusal s)))
   pub ran : (budget : ℕ) (given work out : List ℕ) → run s 0 budget given work out
-      ≡ cond (eqb (refusal s) 0) (run_content (under 0 (content s)) budget given work out) (run_outcome (R.Refused (refusal s)) work out)
+      ≡ cond (eqb (refusal s) 0) (run_content (under 0 (content s)) budget given work out) (run_outcome (Err (numbered (refusal s))) work out)
 
 pub margin-0 : (s : List ℕ) → AsBefore s
 unfolding layout_length conflict_row check run
@@ -128,10 +137,10 @@ margin-0 s =
       on_board_lem = on_board-0 (content s).sheet;
       length = λ es. omega arith;
       row = λ t n u out. by_cond (eqb (refusal_under 0 s) 0) _ _
-          ∙ ap (λ n'. cond (eqb n' 0) (row_content (under 0 (content s)) t n u out) (write_outcome (W.Refused n') out)) (refusal-under-0 s);
-      checked = λ layout. by_cond (eqb (refusal_under 0 s) 0) _ _ ∙ ap (λ n. cond (eqb n 0) (check_content (under 0 (content s)) layout) (C.Refused n)) (refusal-under-0 s);
+          ∙ ap (λ n'. cond (eqb n' 0) (row_content (under 0 (content s)) t n u out) (write_outcome (Err (numbered n')) out)) (refusal-under-0 s);
+      checked = λ layout. by_cond (eqb (refusal_under 0 s) 0) _ _ ∙ ap (λ n. cond (eqb n 0) (check_content (under 0 (content s)) layout) (Err (numbered n))) (refusal-under-0 s);
       ran = λ budget given work out. by_cond (eqb (refusal_under 0 s) 0) _ _
-          ∙ ap (λ n. cond (eqb n 0) (run_content (under 0 (content s)) budget given work out) (run_outcome (R.Refused n) work out)) (refusal-under-0 s);
+          ∙ ap (λ n. cond (eqb n 0) (run_content (under 0 (content s)) budget given work out) (run_outcome (Err (numbered n)) work out)) (refusal-under-0 s);
     }
 
 -- ---- Margins compared

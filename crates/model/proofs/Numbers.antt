@@ -1,10 +1,10 @@
 -- A candidate's number and its column, row and turn determine each other.
-use mathlib.Core.Path.{◌≡◌, refl, sym, ap, ◌∙◌}
-use Prim.Native.Nat.{ℕ, zero, suc, ◌+◌, ◌*◌, ◌/◌, ◌%◌, ◌<◌, ◌≤◌}
+use mathlib.Core.Path.{◌≡◌, ap, ◌∙◌}
+use Prim.Native.Nat.{ℕ, ◌+◌, ◌*◌, ◌/◌, ◌%◌, ◌<◌}
 use native.Mathlib.Nat.{div-add-mod', mul-add-div_right, mul-add-mod_self_right, div-eq_of_lt, mod-eq_of_lt, add-zero, mod-lt}
 use native.Mathlib.Omega.{arith}
 use Rattle.model.specs.Content.{Board}
-use Rattle.model.specs.Grid.{Placement, placement, rows, number_of, placement_of}
+use Rattle.model.specs.Grid.{Placement, rows, number_of, placement_of}
 
 -- There is a row at y = 0.
 pub rows-positive : (b : Board) → 0 < rows b

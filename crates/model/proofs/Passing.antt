@@ -1,17 +1,17 @@
 -- The Bool that the engine computes of a layout, `passes`, holds exactly if the proposition `Passes` does.
-use mathlib.Core.Bool.{Bool, true, false, not, cond, ◌&&◌}
-use mathlib.Core.List.{List, [], ◌∷◌}
-use mathlib.Core.Logic.{◌⊎◌, inl, inr, ◌↔◌}
-use mathlib.Core.Path.{◌≡◌, refl, sym, ap, ◌∙◌}
-use Prim.Native.Nat.{ℕ, zero, suc, ◌<◌, ◌≤◌}
+use mathlib.Core.Bool.{Bool, true, false, not, cond}
+use mathlib.Core.List.{[], ◌∷◌}
+use mathlib.Core.Logic.{inl, inr}
+use mathlib.Core.Path.{◌≡◌, refl, ap}
+use Prim.Native.Nat.{ℕ, zero, suc, ◌<◌}
 use native.Mathlib.Nat.{not-suc-le-zero, le_of_suc-le-suc}
 use native.Mathlib.Omega.{arith}
-use borrow.Author.Tests.{ltb-true, eqb-true, eqb-false, eq-eqb, ne_eqb, lt-ltb, not-true}
+use borrow.Author.Tests.{ltb-true, eqb-true, eq-eqb, ne_eqb, lt-ltb, not-true}
 use lib.Dec.{ltb, eqb}
-use lib.ListN.{length, get_or}
+use lib.ListN.{length}
 use Rattle.model.specs.Content.{kind_at, kind_count}
 use Rattle.model.specs.Layout.{Entry, Layout, entry_at, no_entry, entry_number, is_entry, conflict, in_order, ordered, copies, demand_met, apart, passes, Precedes, Passes}
-use Rattle.model.specs.Lists.{all, below}
+use Rattle.model.specs.Lists.{all}
 use Rattle.model.specs.Problem.{Problem}
 use Rattle.model.proofs.Lists.{and_left, and_right, and_both, and_four, all-at, all_of, all-below, below_all}
 

@@ -7,6 +7,7 @@ use Prim.Native.Nat.{ℕ, ◌*◌}
 use native.Mathlib.Omega.{arith}
 use lib.Dec.{eqb}
 use lib.ListN.{replicate, length-replicate}
+use Rattle.std.specs.Prelude.{Ok}
 use Rattle.words.specs.Number.{count}
 use Rattle.model.specs.Content.{piece_count}
 use Rattle.model.specs.Demand3.{Fit}
@@ -16,7 +17,7 @@ use Rattle.model.specs.Output.{first_line, held_lines, layout_lines, printed, pr
 use Rattle.model.specs.Problem.{under}
 use Rattle.model.specs.Search.{is_stopped, held}
 use Rattle.model.specs.Services.{numbers_in, words_in, work_words, layout_in, with_layout, held_as, finished_as, given_layout, given_unfit, step_count, verdict, run}
-use Rattle.model.specs.declared.RunAnswer.TheVariants as R
+use Rattle.model.specs.declared.Outcome.TheVariants as O
 use Rattle.model.proofs.Accepted.{accepted-sensible}
 use Rattle.model.proofs.Margin.{refusal-under-0}
 use Rattle.model.proofs.Search.Budget.{held-laid}
@@ -25,8 +26,8 @@ use Rattle.model.proofs.Search.Demand3.{run-fit, read_held}
 module _ (s : List ℕ) (accepted : refusal s ≡ 0) (budget : ℕ) where
   -- The lines of the layout are those of the layout held, or none are printed.
   lines_alike : (b : Bool) (h : Option Layout) → held (under 0 (content s)) none budget ≡ h → (n : ℕ) (out out' : List ℕ)
-      → layout_lines (cond b (R.Stopped (held_as (under 0 (content s)) h) n) (finished_as (under 0 (content s)) h n)) (layout_in (under 0 (content s)) (with_layout h out))
-      ≡ layout_lines (cond b (R.Stopped (held_as (under 0 (content s)) h) n) (finished_as (under 0 (content s)) h n)) (layout_in (under 0 (content s)) (with_layout h out'))
+      → layout_lines (Ok (cond b (O.Stopped (held_as (under 0 (content s)) h) n) (finished_as (under 0 (content s)) h n))) (layout_in (under 0 (content s)) (with_layout h out))
+      ≡ layout_lines (Ok (cond b (O.Stopped (held_as (under 0 (content s)) h) n) (finished_as (under 0 (content s)) h n))) (layout_in (under 0 (content s)) (with_layout h out'))
   unfolding layout_lines held_as finished_as held_lines
   lines_alike true none e n out out' = refl
   lines_alike false none e n out out' = refl
@@ -39,7 +40,7 @@ module _ (s : List ℕ) (accepted : refusal s ≡ 0) (budget : ℕ) where
   unfolding printed verdict given_layout
   printed-alike work out work' out' f f' =
       rw (run-fit s 0 budget [] work out f, run-fit s 0 budget [] work' out' f')
-      (ap (λ t. first_line (verdict (under 0 (content s)) none budget) ++ t)
+      (ap (λ t. first_line (Ok (verdict (under 0 (content s)) none budget)) ++ t)
       (lines_alike (is_stopped (under 0 (content s)) none budget) (held (under 0 (content s)) none budget) refl (step_count (under 0 (content s)) none budget) out out'))
 
 -- The program's own buffers are just long enough.

@@ -5,14 +5,13 @@ use mathlib.Core.Path.{◌≡◌, refl, sym, ap, ◌∙◌}
 use Prim.Native.Nat.{ℕ}
 use borrow.Author.Tests.{eqb-true}
 use lib.Dec.{eqb}
+use Rattle.std.specs.Prelude.{Err}
 use Rattle.model.specs.Content.{Job}
 use Rattle.model.specs.Format.{content, refusal}
 use Rattle.model.specs.Problem.{Problem, under, cause13}
+use Rattle.model.specs.Refusal.{numbered}
 use Rattle.model.specs.SameAnswers.{SameAnswers}
 use Rattle.model.specs.Services.{write_outcome, read_content, read, save_content, save, refusal_under, row_content, conflict_row, check_content, check, run_outcome, run_content, run}
-use Rattle.model.specs.declared.Checked.TheVariants as C
-use Rattle.model.specs.declared.RunAnswer.TheVariants as R
-use Rattle.model.specs.declared.Written.TheVariants as W
 use Rattle.model.proofs.Lists.{by_cond}
 use Rattle.model.proofs.Margin.{accepted-under}
 
@@ -46,31 +45,31 @@ module _ (s t : List ℕ) (same-refusal : refusal s ≡ refusal t) (same-content
   read_same : (out : List ℕ) → read s out ≡ read t out
   unfolding read
   read_same out =
-      by_cond (eqb (refusal s) 0) _ _ ∙ alike_read (λ n. write_outcome (W.Refused n) out) (λ j. read_content j out)
+      by_cond (eqb (refusal s) 0) _ _ ∙ alike_read (λ n. write_outcome (Err (numbered n)) out) (λ j. read_content j out)
       ∙ sym (by_cond (eqb (refusal t) 0) _ _)
 
   save-same : (out : List ℕ) → save s out ≡ save t out
   unfolding save
   save-same out =
-      by_cond (eqb (refusal s) 0) _ _ ∙ alike_read (λ n. write_outcome (W.Refused n) out) (λ j. save_content j out)
+      by_cond (eqb (refusal s) 0) _ _ ∙ alike_read (λ n. write_outcome (Err (numbered n)) out) (λ j. save_content j out)
       ∙ sym (by_cond (eqb (refusal t) 0) _ _)
 
   row_same : (m k n u : ℕ) (out : List ℕ) → conflict_row s m k n u out ≡ conflict_row t m k n u out
   unfolding conflict_row
   row_same m k n u out =
-      by_cond (eqb (refusal_under m s) 0) _ _ ∙ alike-under m (λ n. write_outcome (W.Refused n) out) (λ j. row_content j k n u out)
+      by_cond (eqb (refusal_under m s) 0) _ _ ∙ alike-under m (λ n. write_outcome (Err (numbered n)) out) (λ j. row_content j k n u out)
       ∙ sym (by_cond (eqb (refusal_under m t) 0) _ _)
 
   check-same : (m : ℕ) (layout : List ℕ) → check s m layout ≡ check t m layout
   unfolding check
   check-same m layout =
-      by_cond (eqb (refusal_under m s) 0) _ _ ∙ alike-under m (λ n. C.Refused n) (λ j. check_content j layout)
+      by_cond (eqb (refusal_under m s) 0) _ _ ∙ alike-under m (λ n. Err (numbered n)) (λ j. check_content j layout)
       ∙ sym (by_cond (eqb (refusal_under m t) 0) _ _)
 
   run-same : (m budget : ℕ) (given work out : List ℕ) → run s m budget given work out ≡ run t m budget given work out
   unfolding run
   run-same m budget given work out =
-      by_cond (eqb (refusal_under m s) 0) _ _ ∙ alike-under m (λ n. run_outcome (R.Refused n) work out) (λ j. run_content j budget given work out)
+      by_cond (eqb (refusal_under m s) 0) _ _ ∙ alike-under m (λ n. run_outcome (Err (numbered n)) work out) (λ j. run_content j budget given work out)
       ∙ sym (by_cond (eqb (refusal_under m t) 0) _ _)
 
   pub same-answers : SameAnswers s t

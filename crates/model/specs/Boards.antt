@@ -1,6 +1,6 @@
 -- Document 01, "Small boards": the marked ones, as one table of questions to the services and what the paper says of each. Then further boards, and those of
 -- document 02's requests.
-use Rattle.std.specs.Prelude.{Bool, true, false, List, [], ◌∷◌, ◌++◌, map, ℕ, ◌+◌, ◌*◌, ◌/◌, eqb, pos, length, replicate}
+use Rattle.std.specs.Prelude.{Bool, true, false, List, [], ◌∷◌, ◌++◌, map, ℕ, ◌+◌, ◌*◌, ◌/◌, eqb, pos, length, replicate, Result, Ok, Err, Some, None}
 use Rattle.words.specs.Number.{bytes, bytes_of, number_at}
 use Rattle.model.specs.Content.{vertex, Part, piece_count}
 use Rattle.model.specs.Format.{content, refusal}
@@ -10,13 +10,10 @@ use Rattle.model.specs.Lists.{all, below}
 use Rattle.model.specs.Output.{program}
 use Rattle.model.specs.Problem.{under}
 use Rattle.model.specs.Services.{RunOutcome, WriteOutcome, read, save, run, check, conflict_row, numbers_in, words_in, work_words}
-use Rattle.model.specs.declared.Checked.{Checked}
-use Rattle.model.specs.declared.Checked.TheVariants as C
-use Rattle.model.specs.declared.Held.TheVariants.{Layout, Nothing}
-use Rattle.model.specs.declared.RunAnswer.{RunAnswer}
-use Rattle.model.specs.declared.RunAnswer.TheVariants.{Shortest, Stopped, Infeasible, Refused}
-use Rattle.model.specs.declared.Written.{Written}
-use Rattle.model.specs.declared.Written.TheVariants as W
+use Rattle.model.specs.declared.Outcome.{Outcome}
+use Rattle.model.specs.declared.Outcome.TheVariants.{Shortest, Stopped, Infeasible}
+use Rattle.model.specs.declared.Refusal.{Refusal}
+use Rattle.model.specs.declared.Refusal.TheVariants as R
 
 -- ---- Questions and answers
 
@@ -39,9 +36,9 @@ pub data Question : Type 0 where
 -- numbers, or save and its bytes; whether there is conflict; the number of the refusal, 0 for an accepted job; the bytes printed.
 pub data Answer : Type 0 where
   text : List ℕ → Answer
-  says : RunAnswer → Bool → List ℕ → Answer
-  finds : Checked → Answer
-  shows : Written → List ℕ → Answer
+  says : Result Outcome Refusal → Bool → List ℕ → Answer
+  finds : Result ℕ Refusal → Answer
+  shows : Result ℕ Refusal → List ℕ → Answer
   is_conflict : Bool → Answer
   is_refused : ℕ → Answer
 
@@ -205,38 +202,38 @@ boards =
     -- "W 2, L 4 .. The program prints exactly": `shortest 4 3`, `0 0 0 0`, `0 2 0 0`
     (prints printed_job ⇒ text printed_text)
     -- The same by run: the answer numbers hold the layout.
-    ∷ (runs printed_job 1000000 ⇒ says (Shortest 4 3) true (0 ∷ 0 ∷ 0 ∷ 0 ∷ 0 ∷ 2 ∷ 0 ∷ 0 ∷ []))
+    ∷ (runs printed_job 1000000 ⇒ says (Ok (Shortest 4 3)) true (0 ∷ 0 ∷ 0 ∷ 0 ∷ 0 ∷ 2 ∷ 0 ∷ 0 ∷ []))
     -- "Budgets 3, 2, 1: shortest 4; stopped with 4; stopped with nothing."
-    ∷ (runs printed_job 3 ⇒ says (Shortest 4 3) true (0 ∷ 0 ∷ 0 ∷ 0 ∷ 0 ∷ 2 ∷ 0 ∷ 0 ∷ []))
-    ∷ (runs printed_job 2 ⇒ says (Stopped (Layout 4) 2) true (0 ∷ 0 ∷ 0 ∷ 0 ∷ 0 ∷ 2 ∷ 0 ∷ 0 ∷ []))
-    ∷ (runs printed_job 1 ⇒ says (Stopped Nothing 1) true untouched)
+    ∷ (runs printed_job 3 ⇒ says (Ok (Shortest 4 3)) true (0 ∷ 0 ∷ 0 ∷ 0 ∷ 0 ∷ 2 ∷ 0 ∷ 0 ∷ []))
+    ∷ (runs printed_job 2 ⇒ says (Ok (Stopped (Some 4) 2)) true (0 ∷ 0 ∷ 0 ∷ 0 ∷ 0 ∷ 2 ∷ 0 ∷ 0 ∷ []))
+    ∷ (runs printed_job 1 ⇒ says (Ok (Stopped None 1)) true untouched)
     -- "L 3: none, 2 steps. L 1: none, 0 steps, also at budget 0."
-    ∷ (runs (squares 2 3) 1000000 ⇒ says (Infeasible 2) true untouched)
-    ∷ (runs (squares 2 1) 1000000 ⇒ says (Infeasible 0) true untouched)
-    ∷ (runs (squares 2 1) 0 ⇒ says (Infeasible 0) true untouched)
+    ∷ (runs (squares 2 3) 1000000 ⇒ says (Ok (Infeasible 2)) true untouched)
+    ∷ (runs (squares 2 1) 1000000 ⇒ says (Ok (Infeasible 0)) true untouched)
+    ∷ (runs (squares 2 1) 0 ⇒ says (Ok (Infeasible 0)) true untouched)
     -- "Gap 1: L 5 gives 5; L 4 none."
-    ∷ (runs (gap_squares 1 2 5) 1000000 ⇒ says (Shortest 5 4) true (0 ∷ 0 ∷ 0 ∷ 0 ∷ 0 ∷ 3 ∷ 0 ∷ 0 ∷ []))
-    ∷ (runs (gap_squares 1 2 4) 1000000 ⇒ says (Infeasible 3) true untouched)
+    ∷ (runs (gap_squares 1 2 5) 1000000 ⇒ says (Ok (Shortest 5 4)) true (0 ∷ 0 ∷ 0 ∷ 0 ∷ 0 ∷ 3 ∷ 0 ∷ 0 ∷ []))
+    ∷ (runs (gap_squares 1 2 4) 1000000 ⇒ says (Ok (Infeasible 3)) true untouched)
     -- "Squares at (0,0) and (2,0) meet without conflict; (1,0) conflicts."
     ∷ (conflicts 0 square (square_at 2 0) ⇒ is_conflict false)
     ∷ (conflicts 0 square (square_at 1 0) ⇒ is_conflict true)
-    ∷ (checks printed_job (0 ∷ 0 ∷ 0 ∷ 0 ∷ 0 ∷ 2 ∷ 0 ∷ 0 ∷ []) ⇒ finds (C.Passes 4))
-    ∷ (checks printed_job (0 ∷ 0 ∷ 0 ∷ 0 ∷ 0 ∷ 1 ∷ 0 ∷ 0 ∷ []) ⇒ finds (C.Refused 11))
+    ∷ (checks printed_job (0 ∷ 0 ∷ 0 ∷ 0 ∷ 0 ∷ 2 ∷ 0 ∷ 0 ∷ []) ⇒ finds (Ok 4))
+    ∷ (checks printed_job (0 ∷ 0 ∷ 0 ∷ 0 ∷ 0 ∷ 1 ∷ 0 ∷ 0 ∷ []) ⇒ finds (Err R.Layout))
     -- "Squares at (0,0) and (5,6)": document 02, 5/13: they "now pass at gap 5 and conflict at 6."
     ∷ (conflicts 5 square (square_at 5 6) ⇒ is_conflict false)
     ∷ (conflicts 6 square (square_at 5 6) ⇒ is_conflict true)
-    ∷ (checks (gap_squares 5 8 7) (0 ∷ 0 ∷ 0 ∷ 0 ∷ 0 ∷ 5 ∷ 6 ∷ 0 ∷ []) ⇒ finds (C.Passes 7))
-    ∷ (checks (gap_squares 6 8 7) (0 ∷ 0 ∷ 0 ∷ 0 ∷ 0 ∷ 5 ∷ 6 ∷ 0 ∷ []) ⇒ finds (C.Refused 11))
+    ∷ (checks (gap_squares 5 8 7) (0 ∷ 0 ∷ 0 ∷ 0 ∷ 0 ∷ 5 ∷ 6 ∷ 0 ∷ []) ⇒ finds (Ok 7))
+    ∷ (checks (gap_squares 6 8 7) (0 ∷ 0 ∷ 0 ∷ 0 ∷ 0 ∷ 5 ∷ 6 ∷ 0 ∷ []) ⇒ finds (Err R.Layout))
     -- "Two triangles ..: shortest 2, both on dot (0,0)."
-    ∷ (runs triangles 1000000 ⇒ says (Shortest 2 2) true (0 ∷ 0 ∷ 0 ∷ 0 ∷ 1 ∷ 0 ∷ 0 ∷ 0 ∷ []))
+    ∷ (runs triangles 1000000 ⇒ says (Ok (Shortest 2 2)) true (0 ∷ 0 ∷ 0 ∷ 0 ∷ 1 ∷ 0 ∷ 0 ∷ 0 ∷ []))
     -- "Strip ..: shortest 10, rows 0 and 1."
-    ∷ (runs strips 1000000 ⇒ says (Shortest 10 2) true (0 ∷ 0 ∷ 0 ∷ 0 ∷ 0 ∷ 0 ∷ 1 ∷ 0 ∷ []))
+    ∷ (runs strips 1000000 ⇒ says (Ok (Shortest 10 2)) true (0 ∷ 0 ∷ 0 ∷ 0 ∷ 0 ∷ 0 ∷ 1 ∷ 0 ∷ []))
     -- "Bar ..: turn mask 2 gives 1 at column 1; mask 1 none."
-    ∷ (runs (bar 2) 1000000 ⇒ says (Shortest 1 1) true (0 ∷ 1 ∷ 0 ∷ 1 ∷ []))
-    ∷ (runs (bar 1) 1000000 ⇒ says (Infeasible 0) true (7 ∷ 7 ∷ 7 ∷ 7 ∷ []))
+    ∷ (runs (bar 2) 1000000 ⇒ says (Ok (Shortest 1 1)) true (0 ∷ 1 ∷ 0 ∷ 1 ∷ []))
+    ∷ (runs (bar 1) 1000000 ⇒ says (Ok (Infeasible 0)) true (7 ∷ 7 ∷ 7 ∷ 7 ∷ []))
     -- "Classes of rank 5 gap 1 and rank 9 gap 3, in either file order: gap 1."
-    ∷ (runs (ranked_squares (0 ∷ 5 ∷ 1 ∷ 1 ∷ 9 ∷ 3 ∷ [])) 1000000 ⇒ says (Shortest 5 4) true (0 ∷ 0 ∷ 0 ∷ 0 ∷ 0 ∷ 3 ∷ 0 ∷ 0 ∷ []))
-    ∷ (runs (ranked_squares (1 ∷ 9 ∷ 3 ∷ 0 ∷ 5 ∷ 1 ∷ [])) 1000000 ⇒ says (Shortest 5 4) true (0 ∷ 0 ∷ 0 ∷ 0 ∷ 0 ∷ 3 ∷ 0 ∷ 0 ∷ []))
+    ∷ (runs (ranked_squares (0 ∷ 5 ∷ 1 ∷ 1 ∷ 9 ∷ 3 ∷ [])) 1000000 ⇒ says (Ok (Shortest 5 4)) true (0 ∷ 0 ∷ 0 ∷ 0 ∷ 0 ∷ 3 ∷ 0 ∷ 0 ∷ []))
+    ∷ (runs (ranked_squares (1 ∷ 9 ∷ 3 ∷ 0 ∷ 5 ∷ 1 ∷ [])) 1000000 ⇒ says (Ok (Shortest 5 4)) true (0 ∷ 0 ∷ 0 ∷ 0 ∷ 0 ∷ 3 ∷ 0 ∷ 0 ∷ []))
     ∷ []
 
 -- Boards that document 01 does not mark, each here because it tells a wrong definition that no marked board would.
@@ -251,30 +248,30 @@ further_boards =
     -- "Accepting a five-pointed star because each corner turns left" loses a nest.
     ∷ (sends star ⇒ is_refused 7)
     -- "A bound from summed part areas: parts may overlap." The areas sum to twice the board's.
-    ∷ (runs square_twice 1000000 ⇒ says (Shortest 2 1) true (0 ∷ 0 ∷ 0 ∷ 0 ∷ []))
+    ∷ (runs square_twice 1000000 ⇒ says (Ok (Shortest 2 1)) true (0 ∷ 0 ∷ 0 ∷ 0 ∷ []))
     -- One candidate for two squares: look-ahead ends the walk before the first step.
-    ∷ (runs (squares 2 2) 1000000 ⇒ says (Infeasible 0) true untouched)
+    ∷ (runs (squares 2 2) 1000000 ⇒ says (Ok (Infeasible 0)) true untouched)
     ∷ []
 
 -- Boards of document 02's first request. Two squares, W 4, margin 1: a square has the row 1 and, at L 6, the columns 1, 2 and 3.
 unfoldable pub clamp_runs : List Marked
 clamp_runs =
     -- L 6: columns 1 and 3, end 5, length 6. Column 2 for the first square is one more step, which look-ahead gives back.
-    (clamped 1 (runs (squares 4 6) 1000000) ⇒ says (Shortest 6 3) true (0 ∷ 1 ∷ 1 ∷ 0 ∷ 0 ∷ 3 ∷ 1 ∷ 0 ∷ []))
+    (clamped 1 (runs (squares 4 6) 1000000) ⇒ says (Ok (Shortest 6 3)) true (0 ∷ 1 ∷ 1 ∷ 0 ∷ 0 ∷ 3 ∷ 1 ∷ 0 ∷ []))
     -- L 5: the columns 1 and 2, where the squares overlap.
-    ∷ (clamped 1 (runs (squares 4 5) 1000000) ⇒ says (Infeasible 2) true untouched)
+    ∷ (clamped 1 (runs (squares 4 5) 1000000) ⇒ says (Ok (Infeasible 2)) true untouched)
     -- Margin 63 on a small board: no candidate.
-    ∷ (clamped 63 (runs (squares 4 6) 1000000) ⇒ says (Infeasible 0) true untouched)
+    ∷ (clamped 63 (runs (squares 4 6) 1000000) ⇒ says (Ok (Infeasible 0)) true untouched)
     ∷ []
 
 -- What row says of a candidate.
 unfoldable pub clamp_rows : List Marked
 clamp_rows =
     -- (0,0) at margin 0, W 2, L 4: it is in conflict with itself and with (1,0), number 12. Bits 0 and 12 are set.
-    (rows (squares 2 4) 0 ⇒ shows (W.Count 1) (4097 ∷ []))
+    (rows (squares 2 4) 0 ⇒ shows (Ok 1) (4097 ∷ []))
     -- (1,1), number 24, at margin 1, W 4, L 6: it is in conflict with itself and with (2,1), number 44, and touches (3,1); the clamps leave no other row.
     -- Bits 24 and 44 are set.
-    ∷ (clamped 1 (rows (squares 4 6) 24) ⇒ shows (W.Count 3) (17592202821632 ∷ 0 ∷ 0 ∷ []))
+    ∷ (clamped 1 (rows (squares 4 6) 24) ⇒ shows (Ok 3) (17592202821632 ∷ 0 ∷ 0 ∷ []))
     ∷ []
 
 -- What check says of that layout.
@@ -282,51 +279,51 @@ unfoldable pub clamp_checks : List Marked
 clamp_checks =
     -- The length of the layout is its end, 5, plus the margin. One column further on, one row further up, or one column nearer to the left
     -- edge or row to the lower one, it is no layout of candidates.
-    (clamped 1 (checks (squares 4 6) (0 ∷ 1 ∷ 1 ∷ 0 ∷ 0 ∷ 3 ∷ 1 ∷ 0 ∷ [])) ⇒ finds (C.Passes 6))
-    ∷ (checks (squares 4 6) (0 ∷ 1 ∷ 1 ∷ 0 ∷ 0 ∷ 3 ∷ 1 ∷ 0 ∷ []) ⇒ finds (C.Passes 5))
-    ∷ (clamped 1 (checks (squares 4 6) (0 ∷ 1 ∷ 1 ∷ 0 ∷ 0 ∷ 4 ∷ 1 ∷ 0 ∷ [])) ⇒ finds (C.Refused 11))
-    ∷ (clamped 1 (checks (squares 4 6) (0 ∷ 1 ∷ 1 ∷ 0 ∷ 0 ∷ 3 ∷ 2 ∷ 0 ∷ [])) ⇒ finds (C.Refused 11))
-    ∷ (clamped 1 (checks (squares 4 6) (0 ∷ 0 ∷ 1 ∷ 0 ∷ 0 ∷ 3 ∷ 1 ∷ 0 ∷ [])) ⇒ finds (C.Refused 11))
-    ∷ (clamped 1 (checks (squares 4 6) (0 ∷ 1 ∷ 0 ∷ 0 ∷ 0 ∷ 3 ∷ 1 ∷ 0 ∷ [])) ⇒ finds (C.Refused 11))
+    (clamped 1 (checks (squares 4 6) (0 ∷ 1 ∷ 1 ∷ 0 ∷ 0 ∷ 3 ∷ 1 ∷ 0 ∷ [])) ⇒ finds (Ok 6))
+    ∷ (checks (squares 4 6) (0 ∷ 1 ∷ 1 ∷ 0 ∷ 0 ∷ 3 ∷ 1 ∷ 0 ∷ []) ⇒ finds (Ok 5))
+    ∷ (clamped 1 (checks (squares 4 6) (0 ∷ 1 ∷ 1 ∷ 0 ∷ 0 ∷ 4 ∷ 1 ∷ 0 ∷ [])) ⇒ finds (Err R.Layout))
+    ∷ (clamped 1 (checks (squares 4 6) (0 ∷ 1 ∷ 1 ∷ 0 ∷ 0 ∷ 3 ∷ 2 ∷ 0 ∷ [])) ⇒ finds (Err R.Layout))
+    ∷ (clamped 1 (checks (squares 4 6) (0 ∷ 0 ∷ 1 ∷ 0 ∷ 0 ∷ 3 ∷ 1 ∷ 0 ∷ [])) ⇒ finds (Err R.Layout))
+    ∷ (clamped 1 (checks (squares 4 6) (0 ∷ 1 ∷ 0 ∷ 0 ∷ 0 ∷ 3 ∷ 1 ∷ 0 ∷ [])) ⇒ finds (Err R.Layout))
     ∷ []
 
 -- What is refused.
 unfoldable pub clamp_refusals : List Marked
 clamp_refusals =
     -- At margin 1 the candidate (0,0) does not exist.
-    (clamped 1 (rows (squares 2 4) 0) ⇒ shows (W.Refused 12) (0 ∷ []))
+    (clamped 1 (rows (squares 2 4) 0) ⇒ shows (Err R.Candidate) (0 ∷ []))
     -- Margin 64 is refused by 13, where 12, 11 or 10 would be due otherwise, and after a cause of the job's sender.
-    ∷ (clamped 64 (rows (squares 2 4) 0) ⇒ shows (W.Refused 13) (0 ∷ []))
-    ∷ (clamped 64 (checks (squares 4 6) []) ⇒ finds (C.Refused 13))
-    ∷ (clamped 64 (runs (squares 4 6) 1000000) ⇒ says (Refused 13) false untouched)
-    ∷ (clamped 64 (runs star 1000000) ⇒ says (Refused 7) false (7 ∷ 7 ∷ 7 ∷ 7 ∷ []))
+    ∷ (clamped 64 (rows (squares 2 4) 0) ⇒ shows (Err R.Margin) (0 ∷ []))
+    ∷ (clamped 64 (checks (squares 4 6) []) ⇒ finds (Err R.Margin))
+    ∷ (clamped 64 (runs (squares 4 6) 1000000) ⇒ says (Err R.Margin) false untouched)
+    ∷ (clamped 64 (runs star 1000000) ⇒ says (Err R.Parts) false (7 ∷ 7 ∷ 7 ∷ 7 ∷ []))
     ∷ []
 
 -- Boards of document 02's third request. Gap byte 129 means gap 1 with the mark. Two squares in a marked class alone nest as those of a job without classes do: shortest 4, where
 -- gap byte 1 gives 5 at L 5 and none at L 4.
 unfoldable pub cut_runs : List Marked
 cut_runs =
-    (runs (gap_squares 129 2 4) 1000000 ⇒ says (Shortest 4 3) true (0 ∷ 0 ∷ 0 ∷ 0 ∷ 0 ∷ 2 ∷ 0 ∷ 0 ∷ []))
+    (runs (gap_squares 129 2 4) 1000000 ⇒ says (Ok (Shortest 4 3)) true (0 ∷ 0 ∷ 0 ∷ 0 ∷ 0 ∷ 2 ∷ 0 ∷ 0 ∷ []))
     -- Only one names the marked class, and the other none: the gap that its byte means, 1. Columns 1 and 2 for the first square are given back.
-    ∷ (runs (two_types (0 ∷ 0 ∷ 129 ∷ []) 1 0 5) 1000000 ⇒ says (Shortest 5 4) true (0 ∷ 0 ∷ 0 ∷ 0 ∷ 1 ∷ 3 ∷ 0 ∷ 0 ∷ []))
-    ∷ (runs (two_types (0 ∷ 0 ∷ 129 ∷ []) 1 0 4) 1000000 ⇒ says (Infeasible 3) true untouched)
+    ∷ (runs (two_types (0 ∷ 0 ∷ 129 ∷ []) 1 0 5) 1000000 ⇒ says (Ok (Shortest 5 4)) true (0 ∷ 0 ∷ 0 ∷ 0 ∷ 1 ∷ 3 ∷ 0 ∷ 0 ∷ []))
+    ∷ (runs (two_types (0 ∷ 0 ∷ 129 ∷ []) 1 0 4) 1000000 ⇒ says (Ok (Infeasible 3)) true untouched)
     -- Only one names the marked class, gap 3, and the other a class of gap 2: the larger, 3. The first square is given back at the columns 1 to 4.
-    ∷ (runs (two_types (0 ∷ 5 ∷ 131 ∷ 1 ∷ 9 ∷ 2 ∷ []) 1 2 7) 1000000 ⇒ says (Shortest 7 6) true (0 ∷ 0 ∷ 0 ∷ 0 ∷ 1 ∷ 5 ∷ 0 ∷ 0 ∷ []))
+    ∷ (runs (two_types (0 ∷ 5 ∷ 131 ∷ 1 ∷ 9 ∷ 2 ∷ []) 1 2 7) 1000000 ⇒ says (Ok (Shortest 7 6)) true (0 ∷ 0 ∷ 0 ∷ 0 ∷ 1 ∷ 5 ∷ 0 ∷ 0 ∷ []))
     -- Two marked classes, gaps 1 and 2, one for each: nothing is shared, the larger gap is 2. The first square is given back at the columns 1 to 3.
-    ∷ (runs (two_types (0 ∷ 5 ∷ 129 ∷ 1 ∷ 9 ∷ 130 ∷ []) 1 2 6) 1000000 ⇒ says (Shortest 6 5) true (0 ∷ 0 ∷ 0 ∷ 0 ∷ 1 ∷ 4 ∷ 0 ∷ 0 ∷ []))
+    ∷ (runs (two_types (0 ∷ 5 ∷ 129 ∷ 1 ∷ 9 ∷ 130 ∷ []) 1 2 6) 1000000 ⇒ says (Ok (Shortest 6 5)) true (0 ∷ 0 ∷ 0 ∷ 0 ∷ 1 ∷ 4 ∷ 0 ∷ 0 ∷ []))
     ∷ []
 
 -- "Conflict, wherever it is compared, includes this rule": row and check as well. At (0,0) a square is in conflict with itself and with (1,0), number 12, and at gap 1 also
 -- with (2,0), number 24.
 unfoldable pub cut_conflicts : List Marked
 cut_conflicts =
-    (rows (gap_squares 129 2 4) 0 ⇒ shows (W.Count 1) (4097 ∷ []))
-    ∷ (rows (gap_squares 1 2 4) 0 ⇒ shows (W.Count 1) (16781313 ∷ []))
-    ∷ (checks (gap_squares 129 2 4) (0 ∷ 0 ∷ 0 ∷ 0 ∷ 0 ∷ 2 ∷ 0 ∷ 0 ∷ []) ⇒ finds (C.Passes 4))
-    ∷ (checks (gap_squares 1 2 4) (0 ∷ 0 ∷ 0 ∷ 0 ∷ 0 ∷ 2 ∷ 0 ∷ 0 ∷ []) ⇒ finds (C.Refused 11))
+    (rows (gap_squares 129 2 4) 0 ⇒ shows (Ok 1) (4097 ∷ []))
+    ∷ (rows (gap_squares 1 2 4) 0 ⇒ shows (Ok 1) (16781313 ∷ []))
+    ∷ (checks (gap_squares 129 2 4) (0 ∷ 0 ∷ 0 ∷ 0 ∷ 0 ∷ 2 ∷ 0 ∷ 0 ∷ []) ⇒ finds (Ok 4))
+    ∷ (checks (gap_squares 1 2 4) (0 ∷ 0 ∷ 0 ∷ 0 ∷ 0 ∷ 2 ∷ 0 ∷ 0 ∷ []) ⇒ finds (Err R.Layout))
     -- Two types: both name marked class 0, or only one does.
-    ∷ (checks (two_types (0 ∷ 0 ∷ 129 ∷ []) 1 1 4) (0 ∷ 0 ∷ 0 ∷ 0 ∷ 1 ∷ 2 ∷ 0 ∷ 0 ∷ []) ⇒ finds (C.Passes 4))
-    ∷ (checks (two_types (0 ∷ 0 ∷ 129 ∷ []) 1 0 4) (0 ∷ 0 ∷ 0 ∷ 0 ∷ 1 ∷ 2 ∷ 0 ∷ 0 ∷ []) ⇒ finds (C.Refused 11))
+    ∷ (checks (two_types (0 ∷ 0 ∷ 129 ∷ []) 1 1 4) (0 ∷ 0 ∷ 0 ∷ 0 ∷ 1 ∷ 2 ∷ 0 ∷ 0 ∷ []) ⇒ finds (Ok 4))
+    ∷ (checks (two_types (0 ∷ 0 ∷ 129 ∷ []) 1 0 4) (0 ∷ 0 ∷ 0 ∷ 0 ∷ 1 ∷ 2 ∷ 0 ∷ 0 ∷ []) ⇒ finds (Err R.Layout))
     ∷ []
 
 -- "Refusal 5 now covers gap bytes 64 to 127 and above 191."
@@ -345,11 +342,11 @@ cut_bytes =
 unfoldable pub cut_reads : List Marked
 cut_reads =
     (reads (gap_squares 129 2 4) 23
-    ⇒ shows (W.Count 23) (2 ∷ 4 ∷ 1 ∷ 1 ∷ 0 ∷ 0 ∷ 1 ∷ 1 ∷ 1 ∷ 2 ∷ 1 ∷ 1 ∷ 1 ∷ 4 ∷ 0 ∷ 0 ∷ 2 ∷ 0 ∷ 2 ∷ 2 ∷ 0 ∷ 2 ∷ 2 ∷ []))
+    ⇒ shows (Ok 23) (2 ∷ 4 ∷ 1 ∷ 1 ∷ 0 ∷ 0 ∷ 1 ∷ 1 ∷ 1 ∷ 2 ∷ 1 ∷ 1 ∷ 1 ∷ 4 ∷ 0 ∷ 0 ∷ 2 ∷ 0 ∷ 2 ∷ 2 ∷ 0 ∷ 2 ∷ 2 ∷ []))
     ∷ (reads (gap_squares 63 2 4) 23
-    ⇒ shows (W.Count 23) (2 ∷ 4 ∷ 1 ∷ 1 ∷ 0 ∷ 0 ∷ 63 ∷ 0 ∷ 1 ∷ 2 ∷ 1 ∷ 1 ∷ 1 ∷ 4 ∷ 0 ∷ 0 ∷ 2 ∷ 0 ∷ 2 ∷ 2 ∷ 0 ∷ 2 ∷ 2 ∷ []))
+    ⇒ shows (Ok 23) (2 ∷ 4 ∷ 1 ∷ 1 ∷ 0 ∷ 0 ∷ 63 ∷ 0 ∷ 1 ∷ 2 ∷ 1 ∷ 1 ∷ 1 ∷ 4 ∷ 0 ∷ 0 ∷ 2 ∷ 0 ∷ 2 ∷ 2 ∷ 0 ∷ 2 ∷ 2 ∷ []))
     -- One number fewer, as many as document 01's content had: refused.
-    ∷ (reads (gap_squares 129 2 4) 22 ⇒ shows (W.Refused 9) (replicate 22 7))
+    ∷ (reads (gap_squares 129 2 4) 22 ⇒ shows (Err R.Answer) (replicate 22 7))
     ∷ []
 
 -- A byte that is skipped, the type list, the classes 1 and 0, the board, the trailer. Class 1 is marked, gap byte 131; the type has corners at -1.
@@ -378,25 +375,25 @@ printed_saved =
 unfoldable pub saved_jobs : List Marked
 saved_jobs =
     -- "tells how many it wrote; bytes past the job stay unchanged"
-    (saves printed_job 33 ⇒ shows (W.Count 33) printed_saved)
-    ∷ (saves scattered 41 ⇒ shows (W.Count 39) (scattered_saved ++ (7 ∷ 7 ∷ [])))
+    (saves printed_job 33 ⇒ shows (Ok 33) printed_saved)
+    ∷ (saves scattered 41 ⇒ shows (Ok 39) (scattered_saved ++ (7 ∷ 7 ∷ [])))
     -- What was saved is saved to the same bytes.
-    ∷ (saves printed_saved 33 ⇒ shows (W.Count 33) printed_saved)
-    ∷ (saves scattered_saved 39 ⇒ shows (W.Count 39) scattered_saved)
+    ∷ (saves printed_saved 33 ⇒ shows (Ok 33) printed_saved)
+    ∷ (saves scattered_saved 39 ⇒ shows (Ok 39) scattered_saved)
     -- "types as given": demands 2 and 1, and 1 and 2.
     ∷ (saves (job_of 2 8 [] 2 (square_of 2 0 ++ square_of 1 0)) 46
-    ⇒ shows (W.Count 46)
+    ⇒ shows (Ok 46)
     ((2 ∷ 0 ∷ 8 ∷ 0 ∷ 1 ∷ 0 ∷ []) ++ square_of 2 0 ++ square_of 1 0 ++ (0 ∷ 0 ∷ 6 ∷ 0 ∷ 6 ∷ 0 ∷ 26 ∷ 0 ∷ 0 ∷ 2 ∷ 46 ∷ 0 ∷ 0x44 ∷ 0x42 ∷ [])))
     ∷ (saves (job_of 2 8 [] 2 (square_of 1 0 ++ square_of 2 0)) 46
-    ⇒ shows (W.Count 46)
+    ⇒ shows (Ok 46)
     ((2 ∷ 0 ∷ 8 ∷ 0 ∷ 1 ∷ 0 ∷ []) ++ square_of 1 0 ++ square_of 2 0 ++ (0 ∷ 0 ∷ 6 ∷ 0 ∷ 6 ∷ 0 ∷ 26 ∷ 0 ∷ 0 ∷ 2 ∷ 46 ∷ 0 ∷ 0x44 ∷ 0x42 ∷ [])))
     -- "Writing needs enough answer bytes, else 9": one byte fewer than that.
-    ∷ (saves printed_job 32 ⇒ shows (W.Refused 9) (replicate 32 7))
-    ∷ (saves scattered 38 ⇒ shows (W.Refused 9) (replicate 38 7))
+    ∷ (saves printed_job 32 ⇒ shows (Err R.Answer) (replicate 32 7))
+    ∷ (saves scattered 38 ⇒ shows (Err R.Answer) (replicate 38 7))
     -- "refuses it by 1 to 7 as read does", before 9.
-    ∷ (saves star 64 ⇒ shows (W.Refused 7) (replicate 64 7))
-    ∷ (saves star 0 ⇒ shows (W.Refused 7) [])
-    ∷ (saves (gap_squares 64 2 4) 64 ⇒ shows (W.Refused 5) (replicate 64 7))
+    ∷ (saves star 64 ⇒ shows (Err R.Parts) (replicate 64 7))
+    ∷ (saves star 0 ⇒ shows (Err R.Parts) [])
+    ∷ (saves (gap_squares 64 2 4) 64 ⇒ shows (Err R.Classes) (replicate 64 7))
     ∷ []
 
 -- A triangle whose slanting edge goes from (8,0) to (0,6), 10 long, through (4,3). Its outward normal is (6,8): from (4,3) it leads to (7,7), 5 away.
@@ -454,39 +451,39 @@ plates gap = job_on (6 ∷ 7 ∷ 5 ∷ []) (0 ∷ 0 ∷ gap ∷ []) 1 (2 ∷ 1 �
 unfoldable pub round_services : List Marked
 round_services =
     -- The numbers of the four places are 0, 4, 8 and 12. At gap 5 the last one is not in conflict with the first, at gap 6 it is.
-    (rows (plates 5) 0 ⇒ shows (W.Count 1) (273 ∷ []))
-    ∷ (rows (plates 6) 0 ⇒ shows (W.Count 1) (4369 ∷ []))
-    ∷ (checks (plates 5) (0 ∷ 0 ∷ 0 ∷ 0 ∷ 0 ∷ 1 ∷ 1 ∷ 0 ∷ []) ⇒ finds (C.Passes 7))
-    ∷ (checks (plates 6) (0 ∷ 0 ∷ 0 ∷ 0 ∷ 0 ∷ 1 ∷ 1 ∷ 0 ∷ []) ⇒ finds (C.Refused 11))
-    ∷ (checks (slanting_job 5) (0 ∷ 0 ∷ 0 ∷ 0 ∷ 1 ∷ 7 ∷ 7 ∷ 0 ∷ []) ⇒ finds (C.Passes 9))
-    ∷ (checks (slanting_job 6) (0 ∷ 0 ∷ 0 ∷ 0 ∷ 1 ∷ 7 ∷ 7 ∷ 0 ∷ []) ⇒ finds (C.Refused 11))
-    ∷ (checks (slanting_job 5) (0 ∷ 0 ∷ 0 ∷ 0 ∷ 1 ∷ 6 ∷ 7 ∷ 0 ∷ []) ⇒ finds (C.Refused 11))
+    (rows (plates 5) 0 ⇒ shows (Ok 1) (273 ∷ []))
+    ∷ (rows (plates 6) 0 ⇒ shows (Ok 1) (4369 ∷ []))
+    ∷ (checks (plates 5) (0 ∷ 0 ∷ 0 ∷ 0 ∷ 0 ∷ 1 ∷ 1 ∷ 0 ∷ []) ⇒ finds (Ok 7))
+    ∷ (checks (plates 6) (0 ∷ 0 ∷ 0 ∷ 0 ∷ 0 ∷ 1 ∷ 1 ∷ 0 ∷ []) ⇒ finds (Err R.Layout))
+    ∷ (checks (slanting_job 5) (0 ∷ 0 ∷ 0 ∷ 0 ∷ 1 ∷ 7 ∷ 7 ∷ 0 ∷ []) ⇒ finds (Ok 9))
+    ∷ (checks (slanting_job 6) (0 ∷ 0 ∷ 0 ∷ 0 ∷ 1 ∷ 7 ∷ 7 ∷ 0 ∷ []) ⇒ finds (Err R.Layout))
+    ∷ (checks (slanting_job 5) (0 ∷ 0 ∷ 0 ∷ 0 ∷ 1 ∷ 6 ∷ 7 ∷ 0 ∷ []) ⇒ finds (Err R.Layout))
     -- At gap 5 the plates stand across, which takes two steps; the place (0,5) for the first plate is one more step, which look-ahead gives back, and the others are not
     -- shorter. (By the square measure: none.) At gap 6 each place is a step.
-    ∷ (runs (plates 5) 1000000 ⇒ says (Shortest 7 3) true (0 ∷ 0 ∷ 0 ∷ 0 ∷ 0 ∷ 1 ∷ 1 ∷ 0 ∷ []))
-    ∷ (runs (plates 6) 1000000 ⇒ says (Infeasible 4) true untouched)
+    ∷ (runs (plates 5) 1000000 ⇒ says (Ok (Shortest 7 3)) true (0 ∷ 0 ∷ 0 ∷ 0 ∷ 0 ∷ 1 ∷ 1 ∷ 0 ∷ []))
+    ∷ (runs (plates 6) 1000000 ⇒ says (Ok (Infeasible 4)) true untouched)
     ∷ []
 
 -- Boards of document 02's sixth request: runs that are given a layout to begin from. One square, W 4, L 2, step 2: the rows 0 and 1 are as short as each other.
 -- Row 1 stands, and no step is taken: "and otherwise the given layout".
 unfoldable pub carried_at_once : List Marked
-carried_at_once = (carries (bytes_of 2 (0 ∷ 0 ∷ 1 ∷ 0 ∷ [])) (one_square 4 2) 0 ⇒ says (Shortest 2 0) true (0 ∷ 0 ∷ 1 ∷ 0 ∷ [])) ∷ []
+carried_at_once = (carries (bytes_of 2 (0 ∷ 0 ∷ 1 ∷ 0 ∷ [])) (one_square 4 2) 0 ⇒ says (Ok (Shortest 2 0)) true (0 ∷ 0 ∷ 1 ∷ 0 ∷ [])) ∷ []
 
 -- W 2, L 4: the columns 0 and 1, lengths 2 and 4. From column 1 the other is one step, and shorter; "a run stopped before it finds a shorter one holds the given
 -- layout".
 unfoldable pub carried_one : List Marked
 carried_one =
-    (carries (bytes_of 2 (0 ∷ 1 ∷ 0 ∷ 0 ∷ [])) (one_square 2 4) 1 ⇒ says (Shortest 2 1) true (0 ∷ 0 ∷ 0 ∷ 0 ∷ []))
-    ∷ (carries (bytes_of 2 (0 ∷ 1 ∷ 0 ∷ 0 ∷ [])) (one_square 2 4) 0 ⇒ says (Stopped (Layout 4) 0) true (0 ∷ 1 ∷ 0 ∷ 0 ∷ []))
+    (carries (bytes_of 2 (0 ∷ 1 ∷ 0 ∷ 0 ∷ [])) (one_square 2 4) 1 ⇒ says (Ok (Shortest 2 1)) true (0 ∷ 0 ∷ 0 ∷ 0 ∷ []))
+    ∷ (carries (bytes_of 2 (0 ∷ 1 ∷ 0 ∷ 0 ∷ [])) (one_square 2 4) 0 ⇒ says (Ok (Stopped (Some 4) 0)) true (0 ∷ 1 ∷ 0 ∷ 0 ∷ []))
     ∷ []
 
 -- "A given layout is checked .. and refused by 11 if it does not pass": column 2 is no candidate; a number more, a number fewer and one byte are no layout.
 unfoldable pub carried_counts : List Marked
 carried_counts =
-    (carries (bytes_of 2 (0 ∷ 2 ∷ 0 ∷ 0 ∷ [])) (one_square 2 4) 0 ⇒ says (Refused 11) false (7 ∷ 7 ∷ 7 ∷ 7 ∷ []))
-    ∷ (carries (bytes_of 2 (0 ∷ 1 ∷ 0 ∷ 0 ∷ 0 ∷ [])) (one_square 2 4) 0 ⇒ says (Refused 11) false (7 ∷ 7 ∷ 7 ∷ 7 ∷ []))
-    ∷ (carries (bytes_of 2 (0 ∷ 1 ∷ 0 ∷ [])) (one_square 2 4) 0 ⇒ says (Refused 11) false (7 ∷ 7 ∷ 7 ∷ 7 ∷ []))
-    ∷ (carries (0 ∷ []) (one_square 2 4) 0 ⇒ says (Refused 11) false (7 ∷ 7 ∷ 7 ∷ 7 ∷ []))
+    (carries (bytes_of 2 (0 ∷ 2 ∷ 0 ∷ 0 ∷ [])) (one_square 2 4) 0 ⇒ says (Err R.Layout) false (7 ∷ 7 ∷ 7 ∷ 7 ∷ []))
+    ∷ (carries (bytes_of 2 (0 ∷ 1 ∷ 0 ∷ 0 ∷ 0 ∷ [])) (one_square 2 4) 0 ⇒ says (Err R.Layout) false (7 ∷ 7 ∷ 7 ∷ 7 ∷ []))
+    ∷ (carries (bytes_of 2 (0 ∷ 1 ∷ 0 ∷ [])) (one_square 2 4) 0 ⇒ says (Err R.Layout) false (7 ∷ 7 ∷ 7 ∷ 7 ∷ []))
+    ∷ (carries (0 ∷ []) (one_square 2 4) 0 ⇒ says (Err R.Layout) false (7 ∷ 7 ∷ 7 ∷ 7 ∷ []))
     ∷ []
 
 -- Two squares, W 2, L 6: a square has the columns 0 to 4, with the ends 2 to 6. From the columns
@@ -494,68 +491,68 @@ carried_counts =
 -- gives back.
 unfoldable pub carried_runs : List Marked
 carried_runs =
-    (carries (bytes_of 2 (0 ∷ 1 ∷ 0 ∷ 0 ∷ 0 ∷ 3 ∷ 0 ∷ 0 ∷ [])) (squares 2 6) 3 ⇒ says (Shortest 4 3) true (0 ∷ 0 ∷ 0 ∷ 0 ∷ 0 ∷ 2 ∷ 0 ∷ 0 ∷ []))
-    ∷ (carries (bytes_of 2 (0 ∷ 1 ∷ 0 ∷ 0 ∷ 0 ∷ 3 ∷ 0 ∷ 0 ∷ [])) (squares 2 6) 2 ⇒ says (Stopped (Layout 4) 2) true (0 ∷ 0 ∷ 0 ∷ 0 ∷ 0 ∷ 2 ∷ 0 ∷ 0 ∷ []))
+    (carries (bytes_of 2 (0 ∷ 1 ∷ 0 ∷ 0 ∷ 0 ∷ 3 ∷ 0 ∷ 0 ∷ [])) (squares 2 6) 3 ⇒ says (Ok (Shortest 4 3)) true (0 ∷ 0 ∷ 0 ∷ 0 ∷ 0 ∷ 2 ∷ 0 ∷ 0 ∷ []))
+    ∷ (carries (bytes_of 2 (0 ∷ 1 ∷ 0 ∷ 0 ∷ 0 ∷ 3 ∷ 0 ∷ 0 ∷ [])) (squares 2 6) 2 ⇒ says (Ok (Stopped (Some 4) 2)) true (0 ∷ 0 ∷ 0 ∷ 0 ∷ 0 ∷ 2 ∷ 0 ∷ 0 ∷ []))
     -- "a run stopped before it finds a shorter one holds the given layout"
-    ∷ (carries (bytes_of 2 (0 ∷ 1 ∷ 0 ∷ 0 ∷ 0 ∷ 3 ∷ 0 ∷ 0 ∷ [])) (squares 2 6) 1 ⇒ says (Stopped (Layout 5) 1) true (0 ∷ 1 ∷ 0 ∷ 0 ∷ 0 ∷ 3 ∷ 0 ∷ 0 ∷ []))
-    ∷ (carries (bytes_of 2 (0 ∷ 1 ∷ 0 ∷ 0 ∷ 0 ∷ 3 ∷ 0 ∷ 0 ∷ [])) (squares 2 6) 0 ⇒ says (Stopped (Layout 5) 0) true (0 ∷ 1 ∷ 0 ∷ 0 ∷ 0 ∷ 3 ∷ 0 ∷ 0 ∷ []))
+    ∷ (carries (bytes_of 2 (0 ∷ 1 ∷ 0 ∷ 0 ∷ 0 ∷ 3 ∷ 0 ∷ 0 ∷ [])) (squares 2 6) 1 ⇒ says (Ok (Stopped (Some 5) 1)) true (0 ∷ 1 ∷ 0 ∷ 0 ∷ 0 ∷ 3 ∷ 0 ∷ 0 ∷ []))
+    ∷ (carries (bytes_of 2 (0 ∷ 1 ∷ 0 ∷ 0 ∷ 0 ∷ 3 ∷ 0 ∷ 0 ∷ [])) (squares 2 6) 0 ⇒ says (Ok (Stopped (Some 5) 0)) true (0 ∷ 1 ∷ 0 ∷ 0 ∷ 0 ∷ 3 ∷ 0 ∷ 0 ∷ []))
     ∷ []
 
 -- "and otherwise the given layout", of two squares.
 unfoldable pub carried_kept : List Marked
 carried_kept =
     -- W 5, L 2: the rows 0 and 2, 0 and 3, and 1 and 3 are as short as each other. From the last of them nothing is live, and it stands, though the others come before it.
-    (carries (bytes_of 2 (0 ∷ 0 ∷ 1 ∷ 0 ∷ 0 ∷ 0 ∷ 3 ∷ 0 ∷ [])) (squares 5 2) 0 ⇒ says (Shortest 2 0) true (0 ∷ 0 ∷ 1 ∷ 0 ∷ 0 ∷ 0 ∷ 3 ∷ 0 ∷ []))
-    ∷ (runs (squares 5 2) 1000000 ⇒ says (Shortest 2 2) true (0 ∷ 0 ∷ 0 ∷ 0 ∷ 0 ∷ 0 ∷ 2 ∷ 0 ∷ []))
+    (carries (bytes_of 2 (0 ∷ 0 ∷ 1 ∷ 0 ∷ 0 ∷ 0 ∷ 3 ∷ 0 ∷ [])) (squares 5 2) 0 ⇒ says (Ok (Shortest 2 0)) true (0 ∷ 0 ∷ 1 ∷ 0 ∷ 0 ∷ 0 ∷ 3 ∷ 0 ∷ []))
+    ∷ (runs (squares 5 2) 1000000 ⇒ says (Ok (Shortest 2 2)) true (0 ∷ 0 ∷ 0 ∷ 0 ∷ 0 ∷ 0 ∷ 2 ∷ 0 ∷ []))
     -- W 2, L 6, from the shortest, length 4: the first square at the columns 0 and 1 is given back, and nothing is shorter.
-    ∷ (carries (bytes_of 2 (0 ∷ 0 ∷ 0 ∷ 0 ∷ 0 ∷ 2 ∷ 0 ∷ 0 ∷ [])) (squares 2 6) 2 ⇒ says (Shortest 4 2) true (0 ∷ 0 ∷ 0 ∷ 0 ∷ 0 ∷ 2 ∷ 0 ∷ 0 ∷ []))
-    ∷ (carries (bytes_of 2 (0 ∷ 0 ∷ 0 ∷ 0 ∷ 0 ∷ 2 ∷ 0 ∷ 0 ∷ [])) (squares 2 6) 1 ⇒ says (Stopped (Layout 4) 1) true (0 ∷ 0 ∷ 0 ∷ 0 ∷ 0 ∷ 2 ∷ 0 ∷ 0 ∷ []))
+    ∷ (carries (bytes_of 2 (0 ∷ 0 ∷ 0 ∷ 0 ∷ 0 ∷ 2 ∷ 0 ∷ 0 ∷ [])) (squares 2 6) 2 ⇒ says (Ok (Shortest 4 2)) true (0 ∷ 0 ∷ 0 ∷ 0 ∷ 0 ∷ 2 ∷ 0 ∷ 0 ∷ []))
+    ∷ (carries (bytes_of 2 (0 ∷ 0 ∷ 0 ∷ 0 ∷ 0 ∷ 2 ∷ 0 ∷ 0 ∷ [])) (squares 2 6) 1 ⇒ says (Ok (Stopped (Some 4) 1)) true (0 ∷ 0 ∷ 0 ∷ 0 ∷ 0 ∷ 2 ∷ 0 ∷ 0 ∷ []))
     ∷ []
 
 -- "A given layout is checked under the present rules": under the margin. W 4, L 7, margin 1: the columns 1 and 4 end at 6, length 7; the columns 1 and 3 are shorter, and column 2 for
 -- the first square is given back.
 unfoldable pub carried_clamped : List Marked
 carried_clamped =
-    (clamped 1 (carries (bytes_of 2 (0 ∷ 1 ∷ 1 ∷ 0 ∷ 0 ∷ 4 ∷ 1 ∷ 0 ∷ [])) (squares 4 7) 0) ⇒ says (Stopped (Layout 7) 0) true (0 ∷ 1 ∷ 1 ∷ 0 ∷ 0 ∷ 4 ∷ 1 ∷ 0 ∷ []))
-    ∷ (clamped 1 (carries (bytes_of 2 (0 ∷ 1 ∷ 1 ∷ 0 ∷ 0 ∷ 4 ∷ 1 ∷ 0 ∷ [])) (squares 4 7) 3) ⇒ says (Shortest 6 3) true (0 ∷ 1 ∷ 1 ∷ 0 ∷ 0 ∷ 3 ∷ 1 ∷ 0 ∷ []))
+    (clamped 1 (carries (bytes_of 2 (0 ∷ 1 ∷ 1 ∷ 0 ∷ 0 ∷ 4 ∷ 1 ∷ 0 ∷ [])) (squares 4 7) 0) ⇒ says (Ok (Stopped (Some 7) 0)) true (0 ∷ 1 ∷ 1 ∷ 0 ∷ 0 ∷ 4 ∷ 1 ∷ 0 ∷ []))
+    ∷ (clamped 1 (carries (bytes_of 2 (0 ∷ 1 ∷ 1 ∷ 0 ∷ 0 ∷ 4 ∷ 1 ∷ 0 ∷ [])) (squares 4 7) 3) ⇒ says (Ok (Shortest 6 3)) true (0 ∷ 1 ∷ 1 ∷ 0 ∷ 0 ∷ 3 ∷ 1 ∷ 0 ∷ []))
     -- The columns 0 and 2 pass at margin 0 alone; margin 64 is told before a layout.
-    ∷ (carries (bytes_of 2 (0 ∷ 0 ∷ 0 ∷ 0 ∷ 0 ∷ 2 ∷ 0 ∷ 0 ∷ [])) (squares 4 7) 0 ⇒ says (Stopped (Layout 4) 0) true (0 ∷ 0 ∷ 0 ∷ 0 ∷ 0 ∷ 2 ∷ 0 ∷ 0 ∷ []))
-    ∷ (clamped 1 (carries (bytes_of 2 (0 ∷ 0 ∷ 0 ∷ 0 ∷ 0 ∷ 2 ∷ 0 ∷ 0 ∷ [])) (squares 4 7) 0) ⇒ says (Refused 11) false untouched)
-    ∷ (clamped 64 (carries (0 ∷ []) (squares 4 7) 0) ⇒ says (Refused 13) false untouched)
+    ∷ (carries (bytes_of 2 (0 ∷ 0 ∷ 0 ∷ 0 ∷ 0 ∷ 2 ∷ 0 ∷ 0 ∷ [])) (squares 4 7) 0 ⇒ says (Ok (Stopped (Some 4) 0)) true (0 ∷ 0 ∷ 0 ∷ 0 ∷ 0 ∷ 2 ∷ 0 ∷ 0 ∷ []))
+    ∷ (clamped 1 (carries (bytes_of 2 (0 ∷ 0 ∷ 0 ∷ 0 ∷ 0 ∷ 2 ∷ 0 ∷ 0 ∷ [])) (squares 4 7) 0) ⇒ says (Err R.Layout) false untouched)
+    ∷ (clamped 64 (carries (0 ∷ []) (squares 4 7) 0) ⇒ says (Err R.Margin) false untouched)
     ∷ []
 
 -- "refused by 11 if it does not pass", of two squares: they overlap; they are out of order. With one byte behind it a layout passes: "an incomplete last one does not count".
 unfoldable pub carried_refusals : List Marked
 carried_refusals =
-    (carries (bytes_of 2 (0 ∷ 0 ∷ 0 ∷ 0 ∷ 0 ∷ 1 ∷ 0 ∷ 0 ∷ [])) (squares 2 6) 0 ⇒ says (Refused 11) false untouched)
-    ∷ (carries (bytes_of 2 (0 ∷ 2 ∷ 0 ∷ 0 ∷ 0 ∷ 0 ∷ 0 ∷ 0 ∷ [])) (squares 2 6) 0 ⇒ says (Refused 11) false untouched)
-    ∷ (carries (bytes_of 2 (0 ∷ 0 ∷ 0 ∷ 0 ∷ 0 ∷ 2 ∷ 0 ∷ 0 ∷ []) ++ (0 ∷ [])) (squares 2 6) 0 ⇒ says (Stopped (Layout 4) 0) true (0 ∷ 0 ∷ 0 ∷ 0 ∷ 0 ∷ 2 ∷ 0 ∷ 0 ∷ []))
+    (carries (bytes_of 2 (0 ∷ 0 ∷ 0 ∷ 0 ∷ 0 ∷ 1 ∷ 0 ∷ 0 ∷ [])) (squares 2 6) 0 ⇒ says (Err R.Layout) false untouched)
+    ∷ (carries (bytes_of 2 (0 ∷ 2 ∷ 0 ∷ 0 ∷ 0 ∷ 0 ∷ 0 ∷ 0 ∷ [])) (squares 2 6) 0 ⇒ says (Err R.Layout) false untouched)
+    ∷ (carries (bytes_of 2 (0 ∷ 0 ∷ 0 ∷ 0 ∷ 0 ∷ 2 ∷ 0 ∷ 0 ∷ []) ++ (0 ∷ [])) (squares 2 6) 0 ⇒ says (Ok (Stopped (Some 4) 0)) true (0 ∷ 0 ∷ 0 ∷ 0 ∷ 0 ∷ 2 ∷ 0 ∷ 0 ∷ []))
     ∷ []
 
 -- Boards of document 02's eighth request. At gap 3 two squares stand at the columns 0 and 5, length 7, and the first is given back at the columns 1 to 4.
 unfoldable pub ranked_cut_runs : List Marked
 ranked_cut_runs =
     -- "both pieces in class 0 (rank 1, gap 3) and marked class 2 (rank 9) go from 0 to 3; .."
-    (runs (two_types (0 ∷ 1 ∷ 3 ∷ 2 ∷ 9 ∷ 129 ∷ []) 5 5 7) 1000000 ⇒ says (Shortest 7 6) true (0 ∷ 0 ∷ 0 ∷ 0 ∷ 1 ∷ 5 ∷ 0 ∷ 0 ∷ []))
+    (runs (two_types (0 ∷ 1 ∷ 3 ∷ 2 ∷ 9 ∷ 129 ∷ []) 5 5 7) 1000000 ⇒ says (Ok (Shortest 7 6)) true (0 ∷ 0 ∷ 0 ∷ 0 ∷ 1 ∷ 5 ∷ 0 ∷ 0 ∷ []))
     -- ".. one in both and one in class 2 alone, gap 1, also go from 0 to 3."
-    ∷ (runs (two_types (0 ∷ 1 ∷ 3 ∷ 2 ∷ 9 ∷ 129 ∷ []) 5 4 7) 1000000 ⇒ says (Shortest 7 6) true (0 ∷ 0 ∷ 0 ∷ 0 ∷ 1 ∷ 5 ∷ 0 ∷ 0 ∷ []))
+    ∷ (runs (two_types (0 ∷ 1 ∷ 3 ∷ 2 ∷ 9 ∷ 129 ∷ []) 5 4 7) 1000000 ⇒ says (Ok (Shortest 7 6)) true (0 ∷ 0 ∷ 0 ∷ 0 ∷ 1 ∷ 5 ∷ 0 ∷ 0 ∷ []))
     ∷ []
 
 -- Row and check as well.
 unfoldable pub ranked_cut_conflicts : List Marked
 ranked_cut_conflicts =
     -- The squares at the columns 0 and 2 no longer pass in the two examples, ..
-    (checks (two_types (0 ∷ 1 ∷ 3 ∷ 2 ∷ 9 ∷ 129 ∷ []) 5 5 4) (0 ∷ 0 ∷ 0 ∷ 0 ∷ 1 ∷ 2 ∷ 0 ∷ 0 ∷ []) ⇒ finds (C.Refused 11))
-    ∷ (checks (two_types (0 ∷ 1 ∷ 3 ∷ 2 ∷ 9 ∷ 129 ∷ []) 5 4 4) (0 ∷ 0 ∷ 0 ∷ 0 ∷ 1 ∷ 2 ∷ 0 ∷ 0 ∷ []) ⇒ finds (C.Refused 11))
+    (checks (two_types (0 ∷ 1 ∷ 3 ∷ 2 ∷ 9 ∷ 129 ∷ []) 5 5 4) (0 ∷ 0 ∷ 0 ∷ 0 ∷ 1 ∷ 2 ∷ 0 ∷ 0 ∷ []) ⇒ finds (Err R.Layout))
+    ∷ (checks (two_types (0 ∷ 1 ∷ 3 ∷ 2 ∷ 9 ∷ 129 ∷ []) 5 4 4) (0 ∷ 0 ∷ 0 ∷ 0 ∷ 1 ∷ 2 ∷ 0 ∷ 0 ∷ []) ⇒ finds (Err R.Layout))
     -- .. nor in the second where class 0 is marked too: each best-ranked class is marked, but they are not the same.
-    ∷ (checks (two_types (0 ∷ 1 ∷ 131 ∷ 2 ∷ 9 ∷ 129 ∷ []) 5 4 4) (0 ∷ 0 ∷ 0 ∷ 0 ∷ 1 ∷ 2 ∷ 0 ∷ 0 ∷ []) ⇒ finds (C.Refused 11))
+    ∷ (checks (two_types (0 ∷ 1 ∷ 131 ∷ 2 ∷ 9 ∷ 129 ∷ []) 5 4 4) (0 ∷ 0 ∷ 0 ∷ 0 ∷ 1 ∷ 2 ∷ 0 ∷ 0 ∷ []) ⇒ finds (Err R.Layout))
     -- With the ranks exchanged marked class 2 is the best-ranked of both: they pass.
-    ∷ (checks (two_types (0 ∷ 9 ∷ 3 ∷ 2 ∷ 1 ∷ 129 ∷ []) 5 4 4) (0 ∷ 0 ∷ 0 ∷ 0 ∷ 1 ∷ 2 ∷ 0 ∷ 0 ∷ []) ⇒ finds (C.Passes 4))
+    ∷ (checks (two_types (0 ∷ 9 ∷ 3 ∷ 2 ∷ 1 ∷ 129 ∷ []) 5 4 4) (0 ∷ 0 ∷ 0 ∷ 0 ∷ 1 ∷ 2 ∷ 0 ∷ 0 ∷ []) ⇒ finds (Ok 4))
     -- Two squares of one type in two classes, the marked one of worse rank, in either file order: the gap of the other, 1, at which (0,0) is in conflict with itself, with (1,0),
     -- number 12, and with (2,0), number 24. Then the marked one of better rank: no gap.
-    ∷ (rows (ranked_squares (0 ∷ 5 ∷ 1 ∷ 1 ∷ 9 ∷ 131 ∷ [])) 0 ⇒ shows (W.Count 2) (16781313 ∷ 0 ∷ []))
-    ∷ (rows (ranked_squares (1 ∷ 9 ∷ 131 ∷ 0 ∷ 5 ∷ 1 ∷ [])) 0 ⇒ shows (W.Count 2) (16781313 ∷ 0 ∷ []))
-    ∷ (rows (ranked_squares (0 ∷ 5 ∷ 129 ∷ 1 ∷ 9 ∷ 3 ∷ [])) 0 ⇒ shows (W.Count 2) (4097 ∷ 0 ∷ []))
+    ∷ (rows (ranked_squares (0 ∷ 5 ∷ 1 ∷ 1 ∷ 9 ∷ 131 ∷ [])) 0 ⇒ shows (Ok 2) (16781313 ∷ 0 ∷ []))
+    ∷ (rows (ranked_squares (1 ∷ 9 ∷ 131 ∷ 0 ∷ 5 ∷ 1 ∷ [])) 0 ⇒ shows (Ok 2) (16781313 ∷ 0 ∷ []))
+    ∷ (rows (ranked_squares (0 ∷ 5 ∷ 129 ∷ 1 ∷ 9 ∷ 3 ∷ [])) 0 ⇒ shows (Ok 2) (4097 ∷ 0 ∷ []))
     ∷ []
 
 -- Classes of the gaps 1, 3 and 2: the largest is neither the best-ranked nor the last-ranked one, and neither first nor last in the file.
@@ -564,18 +561,18 @@ three_gaps = 0 ∷ 1 ∷ 1 ∷ 1 ∷ 5 ∷ 3 ∷ 2 ∷ 9 ∷ 2 ∷ []
 
 -- Boards of document 02's ninth request. Two squares in no class: 3 apart, which takes 7 and the six steps of ranked_cut_runs.
 unfoldable pub no_class_runs : List Marked
-no_class_runs = (runs (two_types three_gaps 0 0 7) 1000000 ⇒ says (Shortest 7 6) true (0 ∷ 0 ∷ 0 ∷ 0 ∷ 1 ∷ 5 ∷ 0 ∷ 0 ∷ [])) ∷ []
+no_class_runs = (runs (two_types three_gaps 0 0 7) 1000000 ⇒ says (Ok (Shortest 7 6)) true (0 ∷ 0 ∷ 0 ∷ 0 ∷ 1 ∷ 5 ∷ 0 ∷ 0 ∷ [])) ∷ []
 
 -- Row and check as well.
 unfoldable pub no_class_conflicts : List Marked
 no_class_conflicts =
     -- At gap 3 a square at (0,0) is in conflict with those at the columns 0 to 4, whose numbers are 0, 12, 24, 36 and 48; also if the gap is that of a marked class, 131 - 128.
-    (rows (two_types three_gaps 0 0 7) 0 ⇒ shows (W.Count 2) (281543712968705 ∷ 0 ∷ []))
-    ∷ (rows (two_types (0 ∷ 1 ∷ 1 ∷ 1 ∷ 5 ∷ 131 ∷ []) 0 0 7) 0 ⇒ shows (W.Count 2) (281543712968705 ∷ 0 ∷ []))
+    (rows (two_types three_gaps 0 0 7) 0 ⇒ shows (Ok 2) (281543712968705 ∷ 0 ∷ []))
+    ∷ (rows (two_types (0 ∷ 1 ∷ 1 ∷ 1 ∷ 5 ∷ 131 ∷ []) 0 0 7) 0 ⇒ shows (Ok 2) (281543712968705 ∷ 0 ∷ []))
     -- One square is in class 0, gap 1, and one in no class: the larger gap is that of class 1, which no type names.
-    ∷ (checks (two_types three_gaps 1 0 7) (0 ∷ 0 ∷ 0 ∷ 0 ∷ 1 ∷ 4 ∷ 0 ∷ 0 ∷ []) ⇒ finds (C.Refused 11))
-    ∷ (checks (two_types three_gaps 1 0 7) (0 ∷ 0 ∷ 0 ∷ 0 ∷ 1 ∷ 5 ∷ 0 ∷ 0 ∷ []) ⇒ finds (C.Passes 7))
+    ∷ (checks (two_types three_gaps 1 0 7) (0 ∷ 0 ∷ 0 ∷ 0 ∷ 1 ∷ 4 ∷ 0 ∷ 0 ∷ []) ⇒ finds (Err R.Layout))
+    ∷ (checks (two_types three_gaps 1 0 7) (0 ∷ 0 ∷ 0 ∷ 0 ∷ 1 ∷ 5 ∷ 0 ∷ 0 ∷ []) ⇒ finds (Ok 7))
     -- "Their jobs must put fillers in a class of gap 0": then they touch; with one of them in no class they do not.
-    ∷ (checks (two_types (0 ∷ 1 ∷ 3 ∷ 1 ∷ 5 ∷ 0 ∷ []) 2 2 4) (0 ∷ 0 ∷ 0 ∷ 0 ∷ 1 ∷ 2 ∷ 0 ∷ 0 ∷ []) ⇒ finds (C.Passes 4))
-    ∷ (checks (two_types (0 ∷ 1 ∷ 3 ∷ 1 ∷ 5 ∷ 0 ∷ []) 2 0 4) (0 ∷ 0 ∷ 0 ∷ 0 ∷ 1 ∷ 2 ∷ 0 ∷ 0 ∷ []) ⇒ finds (C.Refused 11))
+    ∷ (checks (two_types (0 ∷ 1 ∷ 3 ∷ 1 ∷ 5 ∷ 0 ∷ []) 2 2 4) (0 ∷ 0 ∷ 0 ∷ 0 ∷ 1 ∷ 2 ∷ 0 ∷ 0 ∷ []) ⇒ finds (Ok 4))
+    ∷ (checks (two_types (0 ∷ 1 ∷ 3 ∷ 1 ∷ 5 ∷ 0 ∷ []) 2 0 4) (0 ∷ 0 ∷ 0 ∷ 0 ∷ 1 ∷ 2 ∷ 0 ∷ 0 ∷ []) ⇒ finds (Err R.Layout))
     ∷ []

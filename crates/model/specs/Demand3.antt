@@ -1,7 +1,7 @@
 -- The third demand, sentence by sentence, as one record over a problem, the layout that a run is given to begin from, if it is given one, a budget and what
 -- the run leaves behind. The theorem `demand3` (proofs/Search/Demand3) says that what `run` leaves behind meets it, for every accepted job, every margin of 0
 -- to 63, every given layout that passes or none, every budget and long enough buffers, whatever these hold.
-use Rattle.std.specs.Prelude.{false, ◌↔◌, ◌⊎◌, ◌≡◌, ℕ, ◌*◌, ◌≤◌, ◌<◌, min, length}
+use Rattle.std.specs.Prelude.{false, ◌↔◌, ◌⊎◌, ◌≡◌, ℕ, ◌*◌, ◌≤◌, ◌<◌, min, length, Result, Ok, Err, Some, None}
 use mathlib.Core.List.{List, Memᴰ}
 use Rattle.std.proofs.Math.Option.{Option, none, some}
 use Rattle.model.specs.Answers.{run_length, run_steps}
@@ -11,40 +11,40 @@ use Rattle.model.specs.Layout.{Layout, layout_length, Passes, FirstOfShortest}
 use Rattle.model.specs.Problem.{Problem, under}
 use Rattle.model.specs.Search.{Step, steps_needed, steps_taken}
 use Rattle.model.specs.Services.{RunOutcome, numbers_in, words_in, work_words, layout_in, given_unfit}
-use Rattle.model.specs.declared.Held.TheVariants as H
-use Rattle.model.specs.declared.RunAnswer.{RunAnswer}
-use Rattle.model.specs.declared.RunAnswer.TheVariants as R
+use Rattle.model.specs.declared.Outcome.{Outcome}
+use Rattle.model.specs.declared.Outcome.TheVariants as O
+use Rattle.model.specs.declared.Refusal.{Refusal}
 
 -- ---- What a run answers
 
 -- It answers "stopped".
-abbrev pub SaysStopped : RunAnswer → Type 0
-SaysStopped (R.Refused n) = ⊥
-SaysStopped (R.Shortest len steps) = ⊥
-SaysStopped (R.Stopped h steps) = Unit {0}
-SaysStopped (R.Infeasible steps) = ⊥
+abbrev pub SaysStopped : Result Outcome Refusal → Type 0
+SaysStopped (Err r) = ⊥
+SaysStopped (Ok (O.Shortest len steps)) = ⊥
+SaysStopped (Ok (O.Stopped h steps)) = Unit {0}
+SaysStopped (Ok (O.Infeasible steps)) = ⊥
 
 -- It answers "shortest".
-abbrev pub SaysShortest : RunAnswer → Type 0
-SaysShortest (R.Refused n) = ⊥
-SaysShortest (R.Shortest len steps) = Unit {0}
-SaysShortest (R.Stopped h steps) = ⊥
-SaysShortest (R.Infeasible steps) = ⊥
+abbrev pub SaysShortest : Result Outcome Refusal → Type 0
+SaysShortest (Err r) = ⊥
+SaysShortest (Ok (O.Shortest len steps)) = Unit {0}
+SaysShortest (Ok (O.Stopped h steps)) = ⊥
+SaysShortest (Ok (O.Infeasible steps)) = ⊥
 
 -- It answers "none".
-abbrev pub SaysNone : RunAnswer → Type 0
-SaysNone (R.Refused n) = ⊥
-SaysNone (R.Shortest len steps) = ⊥
-SaysNone (R.Stopped h steps) = ⊥
-SaysNone (R.Infeasible steps) = Unit {0}
+abbrev pub SaysNone : Result Outcome Refusal → Type 0
+SaysNone (Err r) = ⊥
+SaysNone (Ok (O.Shortest len steps)) = ⊥
+SaysNone (Ok (O.Stopped h steps)) = ⊥
+SaysNone (Ok (O.Infeasible steps)) = Unit {0}
 
 -- It says that it holds a layout: "shortest", or "stopped" with one.
-abbrev pub SaysHeld : RunAnswer → Type 0
-SaysHeld (R.Refused n) = ⊥
-SaysHeld (R.Shortest len steps) = Unit {0}
-SaysHeld (R.Stopped (H.Layout len) steps) = Unit {0}
-SaysHeld (R.Stopped H.Nothing steps) = ⊥
-SaysHeld (R.Infeasible steps) = ⊥
+abbrev pub SaysHeld : Result Outcome Refusal → Type 0
+SaysHeld (Err r) = ⊥
+SaysHeld (Ok (O.Shortest len steps)) = Unit {0}
+SaysHeld (Ok (O.Stopped (Some len) steps)) = Unit {0}
+SaysHeld (Ok (O.Stopped None steps)) = ⊥
+SaysHeld (Ok (O.Infeasible steps)) = ⊥
 
 -- ---- The best of steps
 

@@ -16,6 +16,7 @@ use Rattle.model.specs.Format.{byte_at, word_at, trailer_at, board_at, classes_a
 use Rattle.model.specs.Layout.{entry_of, entry_number, entry_kind, is_entry, entry_extent, conflict, in_order, ordered, copies, demand_met, apart, passes, largest_end, layout_length}
 use Rattle.model.specs.Search.{pieces, candidate_table, free, above_previous, beats, stays_below, live, copies_left, forward_check, then, completed, try_candidates, search_pieces, search_from, length_of, steps_from, steps_needed, is_stopped, steps_taken, latest, best_after, held}
 use Rattle.model.specs.Saving.{board_record, gap_byte, class_record, class_list, signed_byte, vertex_bytes, part_bytes, kind_record, kind_list, section_bytes, pointer_bytes, trailer_bytes, written}
+use Rattle.model.specs.Refusal.{numbered}
 use Rattle.model.specs.Services.{numbers_in, words_in, with_numbers, with_words, coordinate, vertex_numbers, part_numbers, kind_numbers, class_numbers, content_numbers, read_content, read, with_bytes, save_content, save, refusal_under, cause12, row_bit, row_words, row_content, conflict_row, entry_in, layout_in, cause11, check_content, check, work_words, cleared, entry_numbers, layout_numbers, with_layout, held_as, finished_as, given_layout, given_unfit, step_count, verdict, run_from, run_content, run}
 use Rattle.model.specs.Output.{digits_before, decimal, line, shortest_word, stopped_word, none_word, refused_word, held_word, first_line, entry_line, entry_lines, held_lines, layout_lines, printed, program}
 
@@ -64,7 +65,7 @@ unfolding board_record gap_byte class_record class_list signed_byte vertex_bytes
 opened_saving = 0
 
 unfoldable pub opened_services : ℕ
-unfolding numbers_in words_in with_numbers with_words coordinate vertex_numbers part_numbers kind_numbers class_numbers content_numbers read_content read with_bytes save_content save cause13 refusal_under cause12 row_bit row_words row_content conflict_row entry_in layout_in cause11 check_content check work_words cleared entry_numbers layout_numbers with_layout held_as finished_as given_layout given_unfit step_count verdict run_from run_content run
+unfolding numbered numbers_in words_in with_numbers with_words coordinate vertex_numbers part_numbers kind_numbers class_numbers content_numbers read_content read with_bytes save_content save cause13 refusal_under cause12 row_bit row_words row_content conflict_row entry_in layout_in cause11 check_content check work_words cleared entry_numbers layout_numbers with_layout held_as finished_as given_layout given_unfit step_count verdict run_from run_content run
 opened_services = 0
 
 unfoldable pub opened_output : ℕ

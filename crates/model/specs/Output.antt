@@ -1,15 +1,15 @@
 -- Document 01, "Services": what the command program prints.
-use Rattle.std.specs.Prelude.{true, false, List, [], ◌∷◌, ◌++◌, map, ℕ, zero, suc, ◌+◌, ◌*◌, ◌/◌, ◌%◌, eqb, replicate}
+use Rattle.std.specs.Prelude.{true, false, List, [], ◌∷◌, ◌++◌, map, ℕ, zero, suc, ◌+◌, ◌*◌, ◌/◌, ◌%◌, eqb, replicate, Result, Ok, Err, Option, Some, None}
 use Rattle.model.specs.Content.{piece_count}
 use Rattle.model.specs.Format.{content}
 use Rattle.model.specs.Layout as L
 use Rattle.model.specs.Lists.{concat}
 use Rattle.model.specs.Problem.{Problem, under}
+use Rattle.model.specs.Refusal.{number}
 use Rattle.model.specs.Services.{RunOutcome, run, layout_in, entry_numbers, work_words}
-use Rattle.model.specs.declared.Held.{Held}
-use Rattle.model.specs.declared.Held.TheVariants.{Layout, Nothing}
-use Rattle.model.specs.declared.RunAnswer.{RunAnswer}
-use Rattle.model.specs.declared.RunAnswer.TheVariants.{Refused, Shortest, Stopped, Infeasible}
+use Rattle.model.specs.declared.Outcome.{Outcome}
+use Rattle.model.specs.declared.Outcome.TheVariants.{Shortest, Stopped, Infeasible}
+use Rattle.model.specs.declared.Refusal.{Refusal}
 
 -- The digits of n in front of some bytes, by at most so many divisions by ten. "Numbers are written in base ten."
 unfoldable pub digits_before : ℕ → ℕ → List ℕ → List ℕ
@@ -47,16 +47,16 @@ unfoldable pub refused_word : List ℕ
 refused_word = 114 ∷ 101 ∷ 102 ∷ 117 ∷ 115 ∷ 101 ∷ 100 ∷ []
 
 -- "length or `-`"
-unfoldable pub held_word : Held → List ℕ
-held_word (Layout len) = decimal len
-held_word Nothing = 45 ∷ []
+unfoldable pub held_word : Option ℕ → List ℕ
+held_word (Some len) = decimal len
+held_word None = 45 ∷ []
 
 -- "The first line is `shortest`, length, steps; or `stopped`, length or `-`, steps; or `none`, steps; or `refused`, number."
-unfoldable pub first_line : RunAnswer → List ℕ
-first_line (Refused n) = line (refused_word ∷ decimal n ∷ [])
-first_line (Shortest len steps) = line (shortest_word ∷ decimal len ∷ decimal steps ∷ [])
-first_line (Stopped h steps) = line (stopped_word ∷ held_word h ∷ decimal steps ∷ [])
-first_line (Infeasible steps) = line (none_word ∷ decimal steps ∷ [])
+unfoldable pub first_line : Result Outcome Refusal → List ℕ
+first_line (Err r) = line (refused_word ∷ decimal (number r) ∷ [])
+first_line (Ok (Shortest len steps)) = line (shortest_word ∷ decimal len ∷ decimal steps ∷ [])
+first_line (Ok (Stopped h steps)) = line (stopped_word ∷ held_word h ∷ decimal steps ∷ [])
+first_line (Ok (Infeasible steps)) = line (none_word ∷ decimal steps ∷ [])
 
 -- "an entry per line: type, column, row, turn"
 unfoldable pub entry_line : L.Entry → List ℕ
@@ -67,16 +67,16 @@ unfoldable pub entry_lines : L.Layout → List ℕ
 entry_lines es = concat (map entry_line es)
 
 -- The lines of a stopped run's layout, if it holds one.
-unfoldable pub held_lines : Held → L.Layout → List ℕ
-held_lines (Layout len) es = entry_lines es
-held_lines Nothing es = []
+unfoldable pub held_lines : Option ℕ → L.Layout → List ℕ
+held_lines (Some len) es = entry_lines es
+held_lines None es = []
 
 -- "A layout follows", where one is held.
-unfoldable pub layout_lines : RunAnswer → L.Layout → List ℕ
-layout_lines (Refused n) es = []
-layout_lines (Shortest len steps) es = entry_lines es
-layout_lines (Stopped h steps) es = held_lines h es
-layout_lines (Infeasible steps) es = []
+unfoldable pub layout_lines : Result Outcome Refusal → L.Layout → List ℕ
+layout_lines (Err r) es = []
+layout_lines (Ok (Shortest len steps)) es = entry_lines es
+layout_lines (Ok (Stopped h steps)) es = held_lines h es
+layout_lines (Ok (Infeasible steps)) es = []
 
 -- What is printed of a run: its first line, and the layout that the answer numbers hold.
 unfoldable pub printed : Problem → RunOutcome → List ℕ

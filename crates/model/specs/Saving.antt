@@ -57,6 +57,6 @@ pointer_bytes classes kinds size whole =
 unfoldable pub trailer_bytes : ℕ → ℕ → ℕ → List ℕ
 trailer_bytes classes kinds size = pointer_bytes classes kinds size (6 + classes * 3 + size + 14) ++ (0x44 ∷ 0x42 ∷ [])
 
--- The bytes of a content. (`Written` is something else: what a service answers that writes into one buffer.)
+-- The bytes of a content.
 unfoldable pub written : Job → List ℕ
 written j = section_bytes j ++ trailer_bytes (length j.classes) (length j.kinds) (length (kind_list j.kinds))

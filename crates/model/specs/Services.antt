@@ -1,7 +1,8 @@
 -- Document 01, "Services" and "Who can cause a refusal": what each service answers, and what it leaves in every buffer handed in.
 -- "They are tested as 1 to 7, then 12, 11, 8, 9, then 10, each only after those before it." Document 02: "13 .., tested after 7".
 -- So the order is 1 to 7, 13, 12, 11, 8, 9, 10, as far as a service has them. (Cut, which is handed no job, stands with its 14 and 9 in the crate `outlines`.) "Saving, like every later service that is handed a job, refuses it by 1 to 7 as read does."
-use Rattle.std.specs.Prelude.{Bool, true, false, not, ◌&&◌, ◌||◌, cond, List, [], ◌∷◌, ◌++◌, map, ℕ, ◌+◌, ◌*◌, ◌-◌, ltb, eqb, ℤ, pos, negsuc, length, drop, replicate}
+use Rattle.std.specs.Prelude.{Bool, true, false, not, ◌&&◌, ◌||◌, cond, List, [], ◌∷◌, ◌++◌, map, ℕ, ◌+◌, ◌*◌, ◌-◌, ltb, eqb, ℤ, pos, negsuc, length, drop, replicate, Result, Ok, Err, Some, None}
+use Rattle.std.specs.Prelude as Std
 use Rattle.std.proofs.Math.Option.{Option, none, some}
 use Rattle.words.specs.Bits.{bits_where}
 use Rattle.words.specs.Number.{number_at, count, filled}
@@ -12,16 +13,13 @@ use Rattle.model.specs.Grid.{placement, set_words}
 use Rattle.model.specs.Layout.{Entry, Layout, entry, entry_of, conflict, passes, layout_length}
 use Rattle.model.specs.Lists.{concat, below}
 use Rattle.model.specs.Problem.{Problem, under, cause13}
+use Rattle.model.specs.Refusal.{numbered}
 use Rattle.model.specs.Saving.{written}
 use Rattle.model.specs.Search.{is_stopped, steps_taken, held}
-use Rattle.model.specs.declared.Checked.{Checked}
-use Rattle.model.specs.declared.Checked.TheVariants as C
-use Rattle.model.specs.declared.Held as H
-use Rattle.model.specs.declared.Held.TheVariants as HV
-use Rattle.model.specs.declared.RunAnswer.{RunAnswer}
-use Rattle.model.specs.declared.RunAnswer.TheVariants as R
-use Rattle.model.specs.declared.Written.{Written}
-use Rattle.model.specs.declared.Written.TheVariants as W
+use Rattle.model.specs.declared.Outcome.{Outcome}
+use Rattle.model.specs.declared.Outcome.TheVariants as O
+use Rattle.model.specs.declared.Refusal.{Refusal}
+use Rattle.model.specs.declared.Refusal.TheVariants as R
 
 -- "a layout or answer number 2 [bytes], .. an incomplete last one does not count"
 unfoldable pub numbers_in : List ℕ → ℕ
@@ -71,23 +69,23 @@ content_numbers j =
 
 -- What a service that writes into one buffer answers and leaves in it.
 pub record WriteOutcome : Type 0 where
-  pub answer : Written
+  pub answer : Result ℕ Refusal
   pub buffer : List ℕ
 
-abbrev pub write_outcome : Written → List ℕ → WriteOutcome
+abbrev pub write_outcome : Result ℕ Refusal → List ℕ → WriteOutcome
 write_outcome a s = record { answer = a; buffer = s }
 
 -- Read, of an accepted job. "9: answer .. words too few."
 unfoldable pub read_content : Job → List ℕ → WriteOutcome
 read_content j out =
-    cond (ltb (numbers_in out) (length (content_numbers j))) (write_outcome (W.Refused 9) out)
-    (write_outcome (W.Count (length (content_numbers j))) (with_numbers (content_numbers j) out))
+    cond (ltb (numbers_in out) (length (content_numbers j))) (write_outcome (Err R.Answer) out)
+    (write_outcome (Ok (length (content_numbers j))) (with_numbers (content_numbers j) out))
 
 -- The read service. "A refusal returns its number .. and changes no buffer."
 unfoldable pub read : List ℕ → List ℕ → WriteOutcome
 read s out =
     elim (eqb (refusal s) 0) [
-      | false ↦ write_outcome (W.Refused (refusal s)) out
+      | false ↦ write_outcome (Err (numbered (refusal s))) out
       | true ↦ read_content (content s) out
     ]
 
@@ -100,14 +98,14 @@ with_bytes bs s = bs ++ drop (length bs) s
 -- Saving, of an accepted job. "Writing needs enough answer bytes, else 9, and tells how many it wrote."
 unfoldable pub save_content : Job → List ℕ → WriteOutcome
 save_content j out =
-    cond (ltb (length out) (length (written j))) (write_outcome (W.Refused 9) out)
-    (write_outcome (W.Count (length (written j))) (with_bytes (written j) out))
+    cond (ltb (length out) (length (written j))) (write_outcome (Err R.Answer) out)
+    (write_outcome (Ok (length (written j))) (with_bytes (written j) out))
 
 -- The save service. "Saving .. refuses it by 1 to 7 as read does."
 unfoldable pub save : List ℕ → List ℕ → WriteOutcome
 save s out =
     elim (eqb (refusal s) 0) [
-      | false ↦ write_outcome (W.Refused (refusal s)) out
+      | false ↦ write_outcome (Err (numbered (refusal s))) out
       | true ↦ save_content (content s) out
     ]
 
@@ -143,11 +141,11 @@ row_words j t n u = map (λ w. bits_where 64 (λ i. row_bit j t n u (w * 64 + i)
 unfoldable pub row_content : Problem → ℕ → ℕ → ℕ → List ℕ → WriteOutcome
 row_content j t n u out =
     elim (cause12 j t n u) [
-      | true ↦ write_outcome (W.Refused 12) out
+      | true ↦ write_outcome (Err R.Candidate) out
       | false ↦
           elim (ltb (words_in out) (set_words j.sheet)) [
-            | true ↦ write_outcome (W.Refused 9) out
-            | false ↦ write_outcome (W.Count (set_words j.sheet)) (with_words (row_words j t n u) out)
+            | true ↦ write_outcome (Err R.Answer) out
+            | false ↦ write_outcome (Ok (set_words j.sheet)) (with_words (row_words j t n u) out)
           ]
     ]
 
@@ -155,7 +153,7 @@ row_content j t n u out =
 unfoldable pub conflict_row : List ℕ → ℕ → ℕ → ℕ → ℕ → List ℕ → WriteOutcome
 conflict_row s m t n u out =
     elim (eqb (refusal_under m s) 0) [
-      | false ↦ write_outcome (W.Refused (refusal_under m s)) out
+      | false ↦ write_outcome (Err (numbered (refusal_under m s))) out
       | true ↦ row_content (under m (content s)) t n u out
     ]
 
@@ -175,14 +173,14 @@ unfoldable pub cause11 : Problem → List ℕ → Bool
 cause11 j s = not (eqb (numbers_in s) (4 * piece_count j.kinds)) || not (passes j (layout_in j s))
 
 -- Check, of an accepted job and margin. "Check gives a layout's length."
-unfoldable pub check_content : Problem → List ℕ → Checked
-check_content j layout = cond (cause11 j layout) (C.Refused 11) (C.Passes (layout_length j (layout_in j layout)))
+unfoldable pub check_content : Problem → List ℕ → Result ℕ Refusal
+check_content j layout = cond (cause11 j layout) (Err R.Layout) (Ok (layout_length j (layout_in j layout)))
 
 -- The check service. It changes no buffer.
-unfoldable pub check : List ℕ → ℕ → List ℕ → Checked
+unfoldable pub check : List ℕ → ℕ → List ℕ → Result ℕ Refusal
 check s m layout =
     elim (eqb (refusal_under m s) 0) [
-      | false ↦ C.Refused (refusal_under m s)
+      | false ↦ Err (numbered (refusal_under m s))
       | true ↦ check_content (under m (content s)) layout
     ]
 
@@ -200,11 +198,11 @@ given_unfit j (b ∷ bs) = cause11 j (b ∷ bs)
 
 -- What a run answers and what it leaves in the work words and in the answer numbers.
 pub record RunOutcome : Type 0 where
-  pub answer : RunAnswer
+  pub answer : Result Outcome Refusal
   pub work : List ℕ
   pub out : List ℕ
 
-abbrev pub run_outcome : RunAnswer → List ℕ → List ℕ → RunOutcome
+abbrev pub run_outcome : Result Outcome Refusal → List ℕ → List ℕ → RunOutcome
 run_outcome a w o = record { answer = a; work = w; out = o }
 
 -- "T × N × ceil(D / 16) work words (T types)"
@@ -229,14 +227,14 @@ with_layout none out = out
 with_layout (some es) out = with_numbers (layout_numbers es) out
 
 -- "A stopped run says whether it holds a layout, and that layout's length."
-unfoldable pub held_as : Problem → Option Layout → H.Held
-held_as j none = HV.Nothing
-held_as j (some es) = HV.Layout (layout_length j es)
+unfoldable pub held_as : Problem → Option Layout → Std.Option ℕ
+held_as j none = None
+held_as j (some es) = Some (layout_length j es)
 
 -- A run that ended: "shortest" with the layout that it holds, or "10 ..: none; no layout passes".
-unfoldable pub finished_as : Problem → Option Layout → ℕ → RunAnswer
-finished_as j none steps = R.Infeasible steps
-finished_as j (some es) steps = R.Shortest (layout_length j es) steps
+unfoldable pub finished_as : Problem → Option Layout → ℕ → Outcome
+finished_as j none steps = O.Infeasible steps
+finished_as j (some es) steps = O.Shortest (layout_length j es) steps
 
 -- "The steps reported are the ones that walk took": "as many as it needs, or the whole budget if that is less".
 unfoldable pub step_count : Problem → Option Layout → ℕ → ℕ
@@ -244,23 +242,23 @@ step_count j begin budget = length (steps_taken j begin budget)
 
 -- What the walk answers under a budget: stopped or not, with the best layout of the steps taken and their number. "The walk then begins at step 0 with
 -- that layout as best."
-unfoldable pub verdict : Problem → Option Layout → ℕ → RunAnswer
+unfoldable pub verdict : Problem → Option Layout → ℕ → Outcome
 verdict j begin budget =
-    cond (is_stopped j begin budget) (R.Stopped (held_as j (held j begin budget)) (step_count j begin budget))
+    cond (is_stopped j begin budget) (O.Stopped (held_as j (held j begin budget)) (step_count j begin budget))
     (finished_as j (held j begin budget) (step_count j begin budget))
 
 -- What it answers and leaves: the needed work words zero, and the layout held in the answer numbers.
 abbrev pub walked : Problem → Option Layout → ℕ → List ℕ → List ℕ → RunOutcome
-walked j begin budget work out = run_outcome (verdict j begin budget) (cleared j work) (with_layout (held j begin budget) out)
+walked j begin budget work out = run_outcome (Ok (verdict j begin budget)) (cleared j work) (with_layout (held j begin budget) out)
 
 -- Run, with this layout as best to begin with, or with none. "8: work words too few. 9: answer .. words too few."
 unfoldable pub run_from : Problem → Option Layout → ℕ → List ℕ → List ℕ → RunOutcome
 run_from j begin budget work out =
     elim (ltb (words_in work) (work_words j)) [
-      | true ↦ run_outcome (R.Refused 8) work out
+      | true ↦ run_outcome (Err R.Work) work out
       | false ↦
           elim (ltb (numbers_in out) (4 * piece_count j.kinds)) [
-            | true ↦ run_outcome (R.Refused 9) work out
+            | true ↦ run_outcome (Err R.Answer) work out
             | false ↦ walked j begin budget work out
           ]
     ]
@@ -269,7 +267,7 @@ run_from j begin budget work out =
 unfoldable pub run_content : Problem → ℕ → List ℕ → List ℕ → List ℕ → RunOutcome
 run_content j budget given work out =
     elim (given_unfit j given) [
-      | true ↦ run_outcome (R.Refused 11) work out
+      | true ↦ run_outcome (Err R.Layout) work out
       | false ↦ run_from j (given_layout j given) budget work out
     ]
 
@@ -277,6 +275,6 @@ run_content j budget given work out =
 unfoldable pub run : List ℕ → ℕ → ℕ → List ℕ → List ℕ → List ℕ → RunOutcome
 run s m budget given work out =
     elim (eqb (refusal_under m s) 0) [
-      | false ↦ run_outcome (R.Refused (refusal_under m s)) work out
+      | false ↦ run_outcome (Err (numbered (refusal_under m s))) work out
       | true ↦ run_content (under m (content s)) budget given work out
     ]

@@ -1,4 +1,5 @@
-// The answers of the services. What the paper's number and values of each are, `specs/Answers` says.
+// The answers of the services: `Result<u16, Refusal>`, of how many numbers, bytes, words or triangles were written (read, save, row, cut) or of the layout's
+// length (check), and `Result<Outcome, Refusal>` (run). What the paper's number and values of each are, `specs/Answers` says.
 #![tactic(auto)]
 
 ghost use Rattle.std.specs.Prelude.{◌≡◌};
@@ -56,33 +57,11 @@ impl fmt::Display for Refusal {
 
 impl Error for Refusal {}
 
-// What read, save, row and cut answer: the number of a refusal, or how many numbers, bytes, words or triangles they wrote.
-#[derive(Clone, Copy)]
-pub enum Written {
-    Refused(u8),
-    Count(u16),
-}
-
-// What check answers: the number of a refusal, or the length of the layout.
-#[derive(Clone, Copy)]
-pub enum Checked {
-    Refused(u8),
-    Passes(u16),
-}
-
-// What a stopped run holds: a layout of this length, or nothing.
-#[derive(Clone, Copy)]
-pub enum Held {
-    Layout(u16),
-    Nothing,
-}
-
-// What run answers. Shortest: the layout's length and the steps; Stopped: what it holds and the steps;
-// Infeasible, the paper's "none": no layout passes, and the steps.
-#[derive(Clone, Copy)]
-pub enum RunAnswer {
-    Refused(u8),
-    Shortest(u16, u32),
-    Stopped(Held, u32),
-    Infeasible(u32),
+// How a run that is not refused ends, after so many steps: with the shortest layout, of this length; stopped, and then it holds a layout of this length or
+// none; or with the paper's "none", since no layout passes.
+#[derive(Clone, Copy, PartialEq, Eq, Debug)]
+pub enum Outcome {
+    Shortest { length: u16, steps: u32 },
+    Stopped { held: Option<u16>, steps: u32 },
+    Infeasible { steps: u32 },
 }

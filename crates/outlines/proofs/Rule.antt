@@ -20,7 +20,6 @@ use Rattle.outlines.specs.Outline.{Place, place, first_where, is_zero, in_line, 
 use Rattle.outlines.specs.Simple.{Edge, Distinct, IsSimple}
 use Rattle.outlines.proofs.Tools.{◌≼◌, ◌≺◌, #, ◌⊞◌, ◌≲◌, ◌≈◌, hyp, ◌⊕◌, ◌⊢◌by◌, order, third_lt, times}
 use Rattle.outlines.proofs.Crossing.{sum-cross}
-use Rattle.outlines.proofs.EdgeSums.{before, after}
 use Rattle.outlines.proofs.Winding.Turning.{κ, Three, not_last}
 use Rattle.outlines.proofs.Kept.Reach.{Outside, depth}
 use Rattle.outlines.proofs.Kept.EarClipped.{Ear, simple_clip, κ_clip}

@@ -10,12 +10,14 @@ use lib.Dec.{eqb, leb, ltb}
 use lib.IntN.{ℤ, pos}
 use lib.ListN.{length}
 use lib.Signed.{le_z, lt_z, ◌<ℤ◌, <ℤ_irrefl}
+use Rattle.std.specs.Prelude.{Ok, Err}
 use Rattle.integers.proofs.Order as Order
 use Rattle.model.specs.Content.{Vertex}
 use Rattle.model.specs.Format.{vertices, vertex_in_range}
 use Rattle.model.specs.Lists.{all, between, concat, count_of}
 use Rattle.model.specs.Services.{numbers_in, vertex_numbers, with_numbers, write_outcome}
-use Rattle.model.specs.declared.Written.TheVariants as W
+use Rattle.model.specs.declared.Refusal.{Refusal}
+use Rattle.model.specs.declared.Refusal.TheVariants as R
 use Rattle.model.proofs.Lists.{and_left, and_right, or_left, or_right}
 use Rattle.model.proofs.Records.{length-vertices}
 use Rattle.outlines.specs.Outline.{doubled_area, Triangle, triangles, triangle_area, area_sum, crossings, is_around, off_lines, meet, edges_meet, outline_in, count_unfit, odd_byte, out_of_range, area_unfit, cause14}
@@ -129,18 +131,18 @@ well_cut s e = let r = cut s e in let two : 2 ≤ length (outline_in s) = omega 
 -- ---- What the service tells
 
 -- "Checks: 14, before 9 ..".
-pub refused-14 : (s out : List ℕ) → cause14 s ≡ true → Service.cut s out ≡ write_outcome (W.Refused 14) out
+pub refused-14 : (s out : List ℕ) → cause14 s ≡ true → Service.cut s out ≡ write_outcome (Err R.Outline) out
 unfolding Service.cut
 refused-14 s out e = rw (e, Service.cut)
 
 -- "The service needs 36 answer numbers .., else 9".
-pub refused-9 : (s out : List ℕ) → cause14 s ≡ false → ltb (numbers_in out) 36 ≡ true → Service.cut s out ≡ write_outcome (W.Refused 9) out
+pub refused-9 : (s out : List ℕ) → cause14 s ≡ false → ltb (numbers_in out) 36 ≡ true → Service.cut s out ≡ write_outcome (Err R.Answer) out
 unfolding Service.cut
 refused-9 s out e f = rw (e, f, Service.cut)
 
 -- Otherwise it tells the number of triangles and writes their numbers.
 pub told : (s out : List ℕ) → cause14 s ≡ false → ltb (numbers_in out) 36 ≡ false →
-    Service.cut s out ≡ write_outcome (W.Count (length (triangles_of (outline_in s)))) (with_numbers (triangles_numbers (triangles_of (outline_in s))) out)
+    Service.cut s out ≡ write_outcome (Ok (length (triangles_of (outline_in s)))) (with_numbers (triangles_numbers (triangles_of (outline_in s))) out)
 unfolding Service.cut
 told s out e f = rw (e, f, Service.cut)
 
@@ -150,14 +152,14 @@ unfolding listed
 listed-some ts = refl
 
 -- Document 01: "A refusal .. changes no buffer".
-pub cut_keeps : (s out : List ℕ) (n : ℕ) → (Service.cut s out).answer ≡ W.Refused n → (Service.cut s out).buffer ≡ out
+pub cut_keeps : (s out : List ℕ) (n : Refusal) → (Service.cut s out).answer ≡ Err n → (Service.cut s out).buffer ≡ out
 cut_keeps s out n e = by_14 (cause14 s) refl
   where
     by_9 : cause14 s ≡ false → (b : Bool) → ltb (numbers_in out) 36 ≡ b → (Service.cut s out).buffer ≡ out
     by_9 f true g = ap (λ o. o.buffer) (refused-9 s out f g)
     by_9 f false g = counted (length (triangles_of (outline_in s))) (sym (ap (λ o. o.answer) (told s out f g)) ∙ e)
       where
-        counted : (k : ℕ) → W.Count k ≡ W.Refused n → (Service.cut s out).buffer ≡ out
+        counted : (k : ℕ) → Ok k ≡ Err n → (Service.cut s out).buffer ≡ out
         counted k q = let z : ◌≡◌ {A = ℕ} 0 1 = cc in absurd (omega arith)
 
     by_14 : (b : Bool) → cause14 s ≡ b → (Service.cut s out).buffer ≡ out
@@ -173,13 +175,13 @@ six_each (t ∷ ts) = omega (arith, six_each ts)
 -- What the service answers and leaves where it does not refuse: the triangles of a well cut outline.
 pub record Served (s out : List ℕ) : Type 0 where
   pub well : WellCut s
-  pub says : Service.cut s out ≡ write_outcome (W.Count (length well.ts)) (with_numbers (triangles_numbers well.ts) out)
+  pub says : Service.cut s out ≡ write_outcome (Ok (length well.ts)) (with_numbers (triangles_numbers well.ts) out)
 
 -- Without cause for 14, and with 36 numbers or more, it answers so.
 pub served : (s out : List ℕ) → cause14 s ≡ false → ltb (numbers_in out) 36 ≡ false → Served s out
 served s out e f = let w = well_cut s e in record {
   well = w;
-  says = told s out e f ∙ ap (λ ts. write_outcome (W.Count (length ts)) (with_numbers (triangles_numbers ts) out)) (ap listed w.is ∙ listed-some w.ts);
+  says = told s out e f ∙ ap (λ ts. write_outcome (Ok (length ts)) (with_numbers (triangles_numbers ts) out)) (ap listed w.is ∙ listed-some w.ts);
 }
 
 -- ---- That the refusal is exact

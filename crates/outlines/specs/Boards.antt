@@ -1,13 +1,13 @@
 -- Outlines that are cut and outlines that are refused: tables of questions to the definitions and the service of request 7/13, each with the answer that its
 -- text asks for.
-use Rattle.std.specs.Prelude.{Bool, true, false, List, [], ◌∷◌, ◌++◌, ℕ, ℤ, pos, negsuc, replicate}
+use Rattle.std.specs.Prelude.{Bool, true, false, List, [], ◌∷◌, ◌++◌, ℕ, ℤ, pos, negsuc, replicate, Result, Ok, Err}
 use Rattle.words.specs.Number.{bytes_of}
 use Rattle.model.specs.Boards.{numbers_of}
 use Rattle.model.specs.Content.{Vertex, vertex}
 use Rattle.model.specs.Lists.{count_of, rising, below}
 use Rattle.model.specs.Services.{WriteOutcome}
-use Rattle.model.specs.declared.Written.{Written}
-use Rattle.model.specs.declared.Written.TheVariants as W
+use Rattle.model.specs.declared.Refusal.{Refusal}
+use Rattle.model.specs.declared.Refusal.TheVariants as R
 use Rattle.outlines.specs.Outline.{outline_in, area_unfit, edges_meet, cause14, crossings, is_around}
 use Rattle.outlines.specs.Service.{cut, triangles_of}
 
@@ -27,7 +27,7 @@ pub data Question : Type 0 where
 pub data Answer : Type 0 where
   is_so : Bool → Answer
   sees : ℤ → ℕ → Answer
-  shows : Written → List ℕ → Answer
+  shows : Result ℕ Refusal → List ℕ → Answer
 
 -- A question, and the answer that the request asks for.
 pub record Row : Type 0 where
@@ -197,45 +197,45 @@ ray_rows =
 -- "14, before 9". Document 01: "A refusal .. changes no buffer".
 unfoldable pub refused_rows : List Row
 refused_rows =
-    (cuts clockwise 36 ⇒ shows (W.Refused 14) (sevens 36))
-    ∷ (cuts clockwise 35 ⇒ shows (W.Refused 14) (sevens 35))
-    ∷ (cuts [] 0 ⇒ shows (W.Refused 14) [])
+    (cuts clockwise 36 ⇒ shows (Err R.Outline) (sevens 36))
+    ∷ (cuts clockwise 35 ⇒ shows (Err R.Outline) (sevens 35))
+    ∷ (cuts [] 0 ⇒ shows (Err R.Outline) [])
     ∷ []
 
 -- "The service needs 36 answer numbers .., else 9"; "an incomplete last one does not count".
 unfoldable pub short_rows : List Row
 short_rows =
-    (cuts square 35 ⇒ shows (W.Refused 9) (sevens 35))
-    ∷ (fills three_corners (below 71) ⇒ shows (W.Refused 9) (below 71))
+    (cuts square 35 ⇒ shows (Err R.Answer) (sevens 35))
+    ∷ (fills three_corners (below 71) ⇒ shows (Err R.Answer) (below 71))
     ∷ []
 
 -- The triangles "in the order they are cut off, and their number, each starting at the corner cut off and going on to its successor"; "those past the triangles given stay unchanged".
 unfoldable pub square_rows : List Row
 square_rows =
-    (cuts three_corners 36 ⇒ shows (W.Count 1) ((0 ∷ 0 ∷ 3 ∷ 0 ∷ 1 ∷ 2 ∷ []) ++ sevens 30))
-    ∷ (cuts square 36 ⇒ shows (W.Count 2) ((0 ∷ 0 ∷ 2 ∷ 0 ∷ 0 ∷ 2 ∷ []) ++ (2 ∷ 0 ∷ 2 ∷ 2 ∷ 0 ∷ 2 ∷ []) ++ sevens 24))
+    (cuts three_corners 36 ⇒ shows (Ok 1) ((0 ∷ 0 ∷ 3 ∷ 0 ∷ 1 ∷ 2 ∷ []) ++ sevens 30))
+    ∷ (cuts square 36 ⇒ shows (Ok 2) ((0 ∷ 0 ∷ 2 ∷ 0 ∷ 0 ∷ 2 ∷ []) ++ (2 ∷ 0 ∷ 2 ∷ 2 ∷ 0 ∷ 2 ∷ []) ++ sevens 24))
     ∷ []
 
 -- "A corner in line with its neighbours is dropped first": it gives no triangle.
 unfoldable pub straight_rows : List Row
 straight_rows =
-    (cuts straight 36 ⇒ shows (W.Count 2) ((0 ∷ 0 ∷ 2 ∷ 0 ∷ 0 ∷ 2 ∷ []) ++ (2 ∷ 0 ∷ 2 ∷ 2 ∷ 0 ∷ 2 ∷ []) ++ sevens 24))
+    (cuts straight 36 ⇒ shows (Ok 2) ((0 ∷ 0 ∷ 2 ∷ 0 ∷ 0 ∷ 2 ∷ []) ++ (2 ∷ 0 ∷ 2 ∷ 2 ∷ 0 ∷ 2 ∷ []) ++ sevens 24))
     ∷ []
 
 -- "the lowest-numbered left turn is cut off whose triangle, border included, holds no other remaining corner": of the first the second corner, of the second the third.
 unfoldable pub hollow_rows : List Row
 hollow_rows =
-    (cuts on_border 36 ⇒ shows (W.Count 3) ((4 ∷ 4 ∷ 2 ∷ 2 ∷ 4 ∷ 0 ∷ []) ++ (4 ∷ 0 ∷ 2 ∷ 2 ∷ 0 ∷ 0 ∷ []) ++ (2 ∷ 2 ∷ 0 ∷ 3 ∷ 0 ∷ 0 ∷ []) ++ sevens 18))
-    ∷ (cuts notch 36 ⇒ shows (W.Count 3) ((6 ∷ 6 ∷ 3 ∷ 1 ∷ 6 ∷ 0 ∷ []) ++ (6 ∷ 0 ∷ 3 ∷ 1 ∷ 0 ∷ 0 ∷ []) ++ (0 ∷ 0 ∷ 3 ∷ 1 ∷ 0 ∷ 6 ∷ []) ++ sevens 18))
+    (cuts on_border 36 ⇒ shows (Ok 3) ((4 ∷ 4 ∷ 2 ∷ 2 ∷ 4 ∷ 0 ∷ []) ++ (4 ∷ 0 ∷ 2 ∷ 2 ∷ 0 ∷ 0 ∷ []) ++ (2 ∷ 2 ∷ 0 ∷ 3 ∷ 0 ∷ 0 ∷ []) ++ sevens 18))
+    ∷ (cuts notch 36 ⇒ shows (Ok 3) ((6 ∷ 6 ∷ 3 ∷ 1 ∷ 6 ∷ 0 ∷ []) ++ (6 ∷ 0 ∷ 3 ∷ 1 ∷ 0 ∷ 0 ∷ []) ++ (0 ∷ 0 ∷ 3 ∷ 1 ∷ 0 ∷ 6 ∷ []) ++ sevens 18))
     ∷ []
 
 -- "a negative one written as 65,536 plus it"
 unfoldable pub negative_rows : List Row
 negative_rows =
     (cuts largest 36
-    ⇒ shows (W.Count 2) ((127 ∷ 65409 ∷ 127 ∷ 127 ∷ 65409 ∷ 65409 ∷ []) ++ (127 ∷ 127 ∷ 65409 ∷ 127 ∷ 65409 ∷ 65409 ∷ []) ++ sevens 24))
+    ⇒ shows (Ok 2) ((127 ∷ 65409 ∷ 127 ∷ 127 ∷ 65409 ∷ 65409 ∷ []) ++ (127 ∷ 127 ∷ 65409 ∷ 127 ∷ 65409 ∷ 65409 ∷ []) ++ sevens 24))
     ∷ (cuts hook 37
-    ⇒ shows (W.Count 6)
+    ⇒ shows (Ok 6)
     ((65533 ∷ 65534 ∷ 3 ∷ 65534 ∷ 65533 ∷ 0 ∷ [])
     ++ (65535 ∷ 3 ∷ 65535 ∷ 1 ∷ 3 ∷ 3 ∷ [])
     ++ (65535 ∷ 1 ∷ 1 ∷ 1 ∷ 3 ∷ 3 ∷ [])
@@ -248,5 +248,5 @@ negative_rows =
 -- The bytes: the numbers, low byte first, and every byte behind them as it was.
 unfoldable pub byte_rows : List Row
 byte_rows =
-    (fills three_corners (below 75) ⇒ shows (W.Count 1) ((0 ∷ 0 ∷ 0 ∷ 0 ∷ 3 ∷ 0 ∷ 0 ∷ 0 ∷ 1 ∷ 0 ∷ 2 ∷ 0 ∷ []) ++ rising 12 63))
+    (fills three_corners (below 75) ⇒ shows (Ok 1) ((0 ∷ 0 ∷ 0 ∷ 0 ∷ 3 ∷ 0 ∷ 0 ∷ 0 ∷ 1 ∷ 0 ∷ 2 ∷ 0 ∷ []) ++ rising 12 63))
     ∷ []

@@ -1,9 +1,9 @@
 -- The cut service of request 7/13: what it answers, and what it leaves in the answer.
-use Rattle.std.specs.Prelude.{true, false, List, [], map, ◌++◌, ℕ, ltb, length}
+use Rattle.std.specs.Prelude.{true, false, List, [], map, ◌++◌, ℕ, ltb, length, Ok, Err}
 use Rattle.std.proofs.Math.Option.{Option, none, some}
 use Rattle.model.specs.Lists.{concat}
 use Rattle.model.specs.Services.{vertex_numbers, numbers_in, with_numbers, WriteOutcome, write_outcome}
-use Rattle.model.specs.declared.Written.TheVariants as W
+use Rattle.model.specs.declared.Refusal.TheVariants as R
 use Rattle.model.specs.Content.{Vertex}
 use Rattle.outlines.specs.Outline.{Triangle, triangles, outline_in, cause14}
 
@@ -30,10 +30,10 @@ triangles_numbers ts = concat (map triangle_numbers ts)
 unfoldable pub cut : List ℕ → List ℕ → WriteOutcome
 cut s out =
     elim (cause14 s) [
-      | true ↦ write_outcome (W.Refused 14) out
+      | true ↦ write_outcome (Err R.Outline) out
       | false ↦
           elim (ltb (numbers_in out) 36) [
-            | true ↦ write_outcome (W.Refused 9) out
-            | false ↦ write_outcome (W.Count (length (triangles_of (outline_in s)))) (with_numbers (triangles_numbers (triangles_of (outline_in s))) out)
+            | true ↦ write_outcome (Err R.Answer) out
+            | false ↦ write_outcome (Ok (length (triangles_of (outline_in s)))) (with_numbers (triangles_numbers (triangles_of (outline_in s))) out)
           ]
     ]

@@ -1,8 +1,7 @@
 -- How far the walk has come at each turn, and what is told of it.
-use Rattle.std.specs.Prelude.{Bool, true, false, ℕ, ◌-◌}
-use Rattle.model.specs.declared.Held.TheVariants as HV
-use Rattle.model.specs.declared.RunAnswer.{RunAnswer}
-use Rattle.model.specs.declared.RunAnswer.TheVariants as R
+use Rattle.std.specs.Prelude.{Bool, true, false, ℕ, ◌-◌, Some, None}
+use Rattle.model.specs.declared.Outcome.{Outcome}
+use Rattle.model.specs.declared.Outcome.TheVariants as O
 use Rattle.runs.specs.declared.progress.Progress.{Progress}
 
 -- The whole budget is left, an end has to stay below the bound, and a layout is held or not.
@@ -22,8 +21,8 @@ abbrev pub completed : Progress → ℕ → ℕ → Progress
 completed st end span = record { left = st.left; bound = end; span = span; found = true; stopped = false }
 
 -- The answer by whether the walk stopped, whether a layout is held, that layout's length and the steps.
-abbrev pub told : Bool → Bool → ℕ → ℕ → RunAnswer
-told true true len steps = R.Stopped (HV.Layout len) steps
-told true false len steps = R.Stopped HV.Nothing steps
-told false true len steps = R.Shortest len steps
-told false false len steps = R.Infeasible steps
+abbrev pub told : Bool → Bool → ℕ → ℕ → Outcome
+told true true len steps = O.Stopped (Some len) steps
+told true false len steps = O.Stopped None steps
+told false true len steps = O.Shortest len steps
+told false false len steps = O.Infeasible steps

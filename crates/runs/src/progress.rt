@@ -2,7 +2,7 @@
 ghost use Rattle.std.specs.Prelude.{◌≡◌, ◌+◌, ◌-◌, ◌≤◌, ◌<◌};
 ghost use Rattle.runs.specs.Told.{begun, stepped, halted, completed, told};
 
-use model::{Held, RunAnswer};
+use model::Outcome;
 
 // How far the walk has come: what is left of the budget, what an end has to stay below, in how many words of a live set candidates lie that do so, whether a
 // layout is held, whether the walk stopped.
@@ -11,6 +11,7 @@ pub struct Progress {
     pub left: u32,
     pub bound: usize,
     pub span: usize,
+    // A flag beside the bound, and no Option: each comparison with the bound would ask first whether a layout is held, and it does not depend on that.
     pub found: bool,
     pub stopped: bool,
 }
@@ -35,10 +36,8 @@ pub fn step(st: Progress) -> Progress
 {
     Progress {
         left: st.left - 1,
-        bound: st.bound,
-        span: st.span,
-        found: st.found,
         stopped: false,
+        ..st
     }
 }
 
@@ -48,10 +47,8 @@ pub fn halt(st: Progress) -> Progress
 {
     Progress {
         left: 0,
-        bound: st.bound,
-        span: st.span,
-        found: st.found,
         stopped: true,
+        ..st
     }
 }
 
@@ -60,29 +57,27 @@ pub fn complete(st: Progress, end: usize, span: usize) -> Progress
     ensures { result ≡ completed st end span }
 {
     Progress {
-        left: st.left,
         bound: end,
         span,
         found: true,
         stopped: false,
+        ..st
     }
 }
 
 // What is answered where the walk came so far. A length is an end plus the margin.
-pub fn tell(budget: u32, margin: usize, st: Progress) -> RunAnswer
+pub fn tell(budget: u32, margin: usize, st: Progress) -> Outcome
     requires { (st.left ≤ budget) × ((margin ≤ 63) × (st.bound ≤ 1001)) }
     ensures { result ≡ told st.stopped st.found (st.bound + margin) (budget - st.left) }
 {
     let steps = budget - st.left;
     let length = (st.bound + margin) as u16;
+    let held = st.found.then_some(length);
     if st.stopped {
-        if st.found {
-            return RunAnswer::Stopped(Held::Layout(length), steps);
-        }
-        return RunAnswer::Stopped(Held::Nothing, steps);
+        return Outcome::Stopped { held, steps };
     }
-    if st.found {
-        return RunAnswer::Shortest(length, steps);
+    match held {
+        Some(length) => Outcome::Shortest { length, steps },
+        None => Outcome::Infeasible { steps },
     }
-    RunAnswer::Infeasible(steps)
 }

@@ -7,6 +7,7 @@ use Prim.Native.Nat.{ℕ, ◌≤◌}
 use native.Mathlib.Omega.{arith}
 use borrow.Author.Tests.{le-ltb, eq-eqb}
 use lib.ListN.{length}
+use Rattle.std.specs.Prelude.{Ok}
 use Rattle.words.specs.Bytes.{AreBytes}
 use Rattle.model.specs.Content.{Job}
 use Rattle.model.specs.ContentFit.{ContentFit}
@@ -14,7 +15,6 @@ use Rattle.model.specs.Format.{content, refusal}
 use Rattle.model.specs.SameAnswers.{SameAnswers}
 use Rattle.model.specs.Saving.{written}
 use Rattle.model.specs.Services.{content_numbers, write_outcome, with_bytes, save_content, save}
-use Rattle.model.specs.declared.Written.TheVariants as W
 use Rattle.model.proofs.SameAnswers.{same-answers}
 use Rattle.model.proofs.Saving.Accepted.{fit-accepted, fit-content}
 use Rattle.model.proofs.Saving.Bytes.{fit-bytes}
@@ -57,7 +57,7 @@ module _ (s : List ℕ) (b : AreBytes s) (e : refusal s ≡ 0) where
   room out (inr h) = omega (arith, fit_length (content s) (content-fit s e b))
 
   pub save-enough : (out : List ℕ) → (length s ≤ length out) ⊎ (892 ≤ length out)
-      → save s out ≡ write_outcome (W.Count (length (written (content s)))) (with_bytes (written (content s)) out)
+      → save s out ≡ write_outcome (Ok (length (written (content s)))) (with_bytes (written (content s)) out)
   unfolding save save_content
   save-enough out h = rw (eq-eqb (refusal s) 0 e, save, le-ltb (length out) (length (written (content s))) (room out h))
 

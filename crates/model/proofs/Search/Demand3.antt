@@ -10,6 +10,7 @@ use native.Mathlib.Omega.{arith}
 use borrow.Author.Tests.{le-ltb, eq-eqb, not-false}
 use lib.Dec.{eqb}
 use lib.ListN.{length-map}
+use Rattle.std.specs.Prelude.{Ok}
 use Rattle.model.specs.Content.{piece_count}
 use Rattle.model.specs.Demand3.{SaysShortest, SaysStopped, SaysHeld, Completed, BestOf, SomethingShorter, StandsFirst, Fit, held_in, Demand3}
 use Rattle.model.specs.Format.{refusal, content}
@@ -19,7 +20,7 @@ use Rattle.model.specs.Lists.{below}
 use Rattle.model.specs.Problem.{Problem, under}
 use Rattle.model.specs.Search.{steps_from, steps_needed, is_stopped, steps_taken, best_after, held}
 use Rattle.model.specs.Services.{RunOutcome, run_outcome, numbers_in, words_in, work_words, cleared, entry_in, layout_in, with_layout, held_as, finished_as, cause11, given_layout, given_unfit, step_count, verdict, walked, run_from, run_content, run, refusal_under}
-use Rattle.model.specs.declared.RunAnswer.TheVariants as R
+use Rattle.model.specs.declared.Outcome.TheVariants as O
 use Rattle.model.proofs.Accepted.{Sensible, accepted-kinds, accepted-sensible, accepted-dots}
 use Rattle.model.proofs.Lists.{length-below, or_right}
 use Rattle.model.proofs.Margin.{accepted-under}
@@ -83,7 +84,7 @@ module _ (s : List ℕ) (m : ℕ) (accepted : refusal s ≡ 0) (begin : Option L
 
   -- The answer and the buffers, by whether the walk is stopped and what it holds.
   abbrev outcome : Bool → Option Layout → RunOutcome
-  outcome b h = run_outcome (cond b (R.Stopped (held_as j h) (step_count j begin budget)) (finished_as j h (step_count j begin budget))) work (with_layout h out)
+  outcome b h = run_outcome (Ok (cond b (O.Stopped (held_as j h) (step_count j begin budget)) (finished_as j h (step_count j begin budget)))) work (with_layout h out)
 
   -- What is held where the walk is not stopped is the first of the shortest, or the given layout where nothing is shorter.
   finished_first : (es : Layout) → is_stopped j begin budget ≡ false → held j begin budget ≡ some es → StandsFirst j begin es
