@@ -32,14 +32,12 @@ pub fn furthest(p: &[i16], a: i32, b: i32) -> usize
     let n = p.len() / 2;
     let mut best: usize = 0;
     let mut most = vertex_along(p, 0, a, b);
-    let mut k: usize = 1;
-    while k < n {
+    for k in 1..n {
         let here = vertex_along(p, k, a, b);
         if most < here {
             best = k;
             most = here;
         }
-        k += 1;
     }
     best
 }

@@ -34,21 +34,18 @@ pub fn edges_separate(p: &[i16], q: &[i16], dx: i16, dy: i16) -> bool
 {
     let n = p.len() / 2;
     let count = q.len() / 2;
-    let mut k: usize = 0;
-    'directions: while k < n {
+    'directions: for k in 0..n {
         // (a, b) is the outward normal of the edge from vertex k to vertex m.
         let m = next_vertex(p, k);
         let a = difference(p, m, k, 1);
         let b = difference(p, k, m, 0);
         let limit = vertex_along(p, k, a, b) - move_along(a, b, dx, dy);
-        let mut i: usize = 0;
-        while limit <= vertex_along(q, i, a, b) {
-            i += 1;
-            if i == count {
-                break 'directions;
+        for i in 0..count {
+            if vertex_along(q, i, a, b) < limit {
+                continue 'directions;
             }
         }
-        k += 1;
+        return true;
     }
-    k < n
+    false
 }

@@ -1,6 +1,7 @@
 -- The box of a part, one vertex after the other, and of two lists of vertices. Assumes nothing.
 use mathlib.Core.Bool.{Bool, ◌||◌}
 use mathlib.Core.List.{List, [], ◌∷◌, ◌++◌, map, map-append}
+use mathlib.Core.Logic.{⊎_elim}
 use mathlib.Core.Path.{◌≡◌, refl, sym, ap, ◌∙◌}
 use Prim.Native.Nat.{ℕ, suc, ◌+◌, ◌≤◌, ◌<◌}
 use native.Mathlib.Nat.{not-suc-le-zero}
@@ -9,13 +10,24 @@ use native.Mathlib.Omega.{arith}
 use lib.IntN.{ℤ}
 use lib.ListN.{length, length-map, get_or, drop, drop_of_length-le}
 use lib.Seq.{drop-cons}
+use Rattle.std.specs.Int.{int_max, int_min}
 use Rattle.integers.specs.Extrema.{max_z, min_z}
+use Rattle.integers.proofs.Order.{le_or_lt, le_le_z, lt_le_z, le_lt_z, lt_lt_z}
 use Rattle.model.specs.Content.{Vertex, Part, origin}
 use Rattle.model.specs.Geometry.{vertex_at}
 use Rattle.model.specs.Lists.{largest_from, smallest_from, largest_z, smallest_z}
 use Rattle.model.proofs.Extremes.{largest-append, smallest_append}
 use Rattle.polygons.specs.Boxes.{box, box_of, extents_of, joined}
 use Rattle.polygons.specs.declared.extents.Extents.{Extents}
+
+-- std's smaller and larger of two integers are the definition's
+pub min-is : (a b : ℤ) → int_min a b ≡ min_z a b
+unfolding min_z
+min-is a b = ⊎_elim (λ h. rw (le_lt_z b a h, le_le_z a b h)) (λ h. rw (lt_lt_z b a h, lt_le_z a b h)) (le_or_lt a b)
+
+pub max-is : (a b : ℤ) → int_max a b ≡ max_z a b
+unfolding max_z
+max-is a b = ⊎_elim (λ h. rw (le_lt_z b a h, le_le_z a b h)) (λ h. rw (lt_lt_z b a h, lt_le_z a b h)) (le_or_lt a b)
 
 -- boxes with equal sides
 pub same-box : {a b c d a' b' c' d' : ℤ} → a ≡ a' → b ≡ b' → c ≡ c' → d ≡ d' → box a b c d ≡ box a' b' c' d'

@@ -1,6 +1,5 @@
 // The bounding box of a part.
 ghost use Rattle.std.specs.Prelude.{◌≡◌, ◌+◌, ◌*◌, ◌<◌, length};
-ghost use Rattle.integers.specs.Extrema.{max_z, min_z};
 ghost use Rattle.model.specs.Geometry.{vertex_at};
 ghost use Rattle.polygons.specs.Flat.{part_of};
 ghost use Rattle.polygons.specs.Boxes.{box, box_of, extents_of, joined};
@@ -14,20 +13,6 @@ pub struct Extents {
     pub max_x: i16,
     pub min_y: i16,
     pub max_y: i16,
-}
-
-// The smaller of two coordinates.
-fn smaller(a: i16, b: i16) -> i16
-    ensures { result ≡ min_z a b }
-{
-    if a <= b { a } else { b }
-}
-
-// The larger of two coordinates.
-fn larger(a: i16, b: i16) -> i16
-    ensures { result ≡ max_z a b }
-{
-    if a <= b { b } else { a }
 }
 
 // The box of one vertex.
@@ -47,10 +32,10 @@ pub fn join(e: Extents, f: Extents) -> Extents
     ensures { result ≡ joined e f }
 {
     Extents {
-        min_x: smaller(e.min_x, f.min_x),
-        max_x: larger(e.max_x, f.max_x),
-        min_y: smaller(e.min_y, f.min_y),
-        max_y: larger(e.max_y, f.max_y),
+        min_x: e.min_x.min(f.min_x),
+        max_x: e.max_x.max(f.max_x),
+        min_y: e.min_y.min(f.min_y),
+        max_y: e.max_y.max(f.max_y),
     }
 }
 
@@ -71,10 +56,8 @@ pub fn bounds(p: &[i16]) -> Extents
         return point(0, 0);
     }
     let mut e = corner(p, 0);
-    let mut k: usize = 1;
-    while k < n {
+    for k in 1..n {
         e = join(e, corner(p, k));
-        k += 1;
     }
     e
 }

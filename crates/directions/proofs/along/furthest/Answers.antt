@@ -1,4 +1,4 @@
-use mathlib.Core.Path.{◌≡◌, refl, sym, ◌∙◌, subst}
+use mathlib.Core.Path.{◌≡◌, sym, ◌∙◌, subst}
 use Prim.Native.Nat.{ℕ, ◌<◌}
 use native.Mathlib.Omega.{arith}
 use borrow.Author.Rules.{sfits_of}
@@ -26,12 +26,9 @@ loop-k-init c =
     let start : to_z w64 (of_z w64 c.vertex_along-most.result) ≡ along (bearing c.args.a c.args.b)
     (vertex_at (part_of c.args.p.now) 0) =
     to_z-of_z w64 c.vertex_along-most.result (sfits_of c.vertex_along-most.type_inv)
-    ∙ c.vertex_along-most.ensures.value in (
-      omega (arith, c.requires),
-      refl,
-      leading_first (along (bearing c.args.a c.args.b)) (part_of c.args.p.now) _
-          (omega (arith, c.requires, part_length c.args.p.now)) start,
-    )
+    ∙ c.vertex_along-most.ensures.value in
+    leading_first (along (bearing c.args.a c.args.b)) (part_of c.args.p.now) _
+    (omega (arith, c.requires, part_length c.args.p.now)) start
 
 -- the vertex kept and its place, by their locals
 kept : (d : Direction) (P : Part) (k n m : ℕ) (u v : ℤ) → m ≡ n → v ≡ u → Leading (along d) P k n u
@@ -47,18 +44,15 @@ loop-k-preserved c =
     to_z-of_z w64 c.vertex_along-here.result (sfits_of c.vertex_along-here.type_inv)
     ∙ c.vertex_along-here.ensures.value in
     let inside : c.loop-k.k < length part =
-    omega (arith, c.loop-k.invariant.1, c.loop-k-test.true, part_length c.args.p.now) in (
-      omega arith,
-      refl,
-      elim c.if-most-here.branch [
-        | then-most-here w ↦ kept d part _ _ _ _ _ w.best-is w.most-is
-            (leading_new (along d) part c.loop-k.k _ _ _ c.loop-k.invariant.2 inside reached
-            (lt_z_true _ _ w.if-most-here.true))
-        | else-most-here w ↦ kept d part _ _ _ _ _ w.best-is w.most-is
-            (leading_old (along d) part c.loop-k.k _ _ _ c.loop-k.invariant.2 inside reached
-            (lt_z_false _ _ w.if-most-here.false))
-      ],
-    )
+    omega (arith, part_length c.args.p.now) in
+    elim c.if-most-here.branch [
+      | then-most-here w ↦ kept d part _ _ _ _ _ w.best-is w.most-is
+          (leading_new (along d) part c.loop-k.k _ _ _ c.loop-k.invariant inside reached
+          (lt_z_true _ _ w.if-most-here.true))
+      | else-most-here w ↦ kept d part _ _ _ _ _ w.best-is w.most-is
+          (leading_old (along d) part c.loop-k.k _ _ _ c.loop-k.invariant inside reached
+          (lt_z_false _ _ w.if-most-here.false))
+    ]
 
 pub returns : goal.returns
 returns c =
@@ -67,5 +61,5 @@ returns c =
     let is_bearing : d ≡ direction c.args.a c.args.b =
     λ i. direction (to_z-of_z w32 c.args.a c.ranges.a i) (to_z-of_z w32 c.args.b c.ranges.b i) in
     subst (λ (e : Direction). Furthest part e c.loop-k.best) is_bearing
-    (leading_last d part c.loop-k.k c.loop-k.best _ c.loop-k.invariant.2
-    (omega (arith, c.loop-k.invariant.1, c.loop-k-test.false, part_length c.args.p.now)))
+    (leading_last d part c.loop-k.k c.loop-k.best _ c.loop-k.invariant
+    (omega (arith, part_length c.args.p.now)))

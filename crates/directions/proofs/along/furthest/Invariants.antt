@@ -1,15 +1,8 @@
 -- Of the vertices that the loop has passed, none lies further than the one that it keeps. Assumes nothing.
-use mathlib.Core.Path.{◌≡◌}
-use Prim.Native.Nat.{◌-◌, ◌/◌, ◌≤◌}
-use lib.ListN.{length}
 use Rattle.model.specs.Geometry.{along, direction}
 use Rattle.polygons.specs.Flat.{part_of}
 use Rattle.directions.proofs.Leading.{Leading}
 use Rattle.directions.proofs.along.furthest.Given as goal
 
 abbrev pub invariant-loop-k : goal.invariant-loop-k
-invariant-loop-k l = (l.k ≤ l.n) × (l.n ≡ length l.p / 2)
-    × Leading (along (direction l.a l.b)) (part_of l.p) l.k l.best l.most
-
-abbrev pub decreases-loop-k : goal.decreases-loop-k
-decreases-loop-k l = l.n - l.k
+invariant-loop-k l = Leading (along (direction l.a l.b)) (part_of l.p) l.k l.best l.most

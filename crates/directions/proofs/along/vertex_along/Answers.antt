@@ -1,17 +1,10 @@
 -- `directions::along::vertex_along` meets its contract: the dot product of the direction and the vertex is small.
 -- Assumes nothing.
-use native.Mathlib.Omega.{arith}
 use borrow.Author.Rules.{sfits_of}
 use lib.IntN.{◌+ℤ◌, ◌*ℤ◌}
 use Rattle.model.specs.Geometry.{along}
 use Rattle.directions.proofs.Sizes.{small-as, small_at, small-read, dot_small}
 use Rattle.directions.proofs.along.vertex_along.Goals as goal
-
-pub coordinate-requires : goal.coordinate-requires
-coordinate-requires c = (c.requires, omega arith)
-
-pub coordinate-requires-2 : goal.coordinate-requires-2
-coordinate-requires-2 c = (c.requires, omega arith)
 
 pub returns : goal.returns
 unfolding along

@@ -1,19 +1,18 @@
 use mathlib.Core.Bool.{Bool, true, false}
 use mathlib.Core.List.{map}
-use mathlib.Core.Path.{◌≡◌, refl, sym, ◌∙◌, ap, subst}
-use Prim.Native.Nat.{ℕ, ◌+◌, ◌/◌, ◌<◌}
+use mathlib.Core.Path.{◌≡◌, sym, ◌∙◌, ap, subst}
+use Prim.Native.Nat.{ℕ, ◌+◌, ◌<◌}
 use native.Mathlib.Omega.{arith}
-use borrow.Author.Count.{below_none, below_more}
+use borrow.Author.Count.{below_more}
 use borrow.Author.Rules.{sfits_of}
-use borrow.Author.Tests.{lt-ltb, le-ltb}
 use lib.IntN.{ℤ, ◌+ℤ◌, ◌-ℤ◌}
 use lib.ListN.{length}
-use lib.Signed.{le_z, ◌≤ℤ◌}
+use lib.Signed.{le_z, lt_z, ◌≤ℤ◌}
 use mir.Syntax.{w16, w32, w64}
 use mir.Val.{SFits, to_z, of_z}
 use mir.ValLaws.{to_z-of_z}
 use Rattle.convexity.specs.Parts.{SoundPart}
-use Rattle.integers.proofs.Order.{le_z_true, le_z_false}
+use Rattle.integers.proofs.Order.{lt_z_true, lt_z_false}
 use Rattle.model.specs.Content.{Vertex, vertex, Part}
 use Rattle.model.specs.Geometry.{Direction, along, direction, vertex_at, following, normals, outward_normal}
 use Rattle.model.specs.Lists.{any, largest_z, smallest_z}
@@ -23,7 +22,6 @@ use Rattle.directions.specs.Directions.{Small, separates_moved}
 use Rattle.directions.proofs.EdgeLaws.{no_normal, some-normal, normal_at, all-beyond, one_before, one_within, own_furthest, refuted, confirmed}
 use Rattle.directions.proofs.Sizes.{less_gives}
 use Rattle.directions.proofs.edges.edges_separate.Goals as goal
-use Rattle.directions.proofs.edges.edges_separate.Goals.{else-directions-test, then-directions-test+then-loop-i-test+then-i-count}
 
 -- ---- what is known of one direction
 
@@ -80,13 +78,13 @@ module _ (P Q : Part) (e : Vertex) (is_sound : SoundPart P) (k m : ℕ) (h : k <
   is_limit = less_gives hx hy
 
   -- a vertex that lies before the limit refutes it,
-  gives_up : (i : ℕ) (z : ℤ) → i < length Q → z ≡ along (bearing a b) (vertex_at Q i) → le_z limit z ≡ false
+  gives_up : (i : ℕ) (z : ℤ) → i < length Q → z ≡ along (bearing a b) (vertex_at Q i) → lt_z z limit ≡ true
       → separates_moved P Q e (normal_of P k) ≡ false
   gives_up i z l g f =
       verdict false
       (refuted near far way low (one_within (along (bearing a b)) P k h)
       (ap (λ u. le_z u low) (sym is_limit)
-      ∙ one_before (along (bearing a b)) Q limit i l (le_z_false _ _ (ap (le_z limit) (sym g) ∙ f))))
+      ∙ one_before (along (bearing a b)) Q limit i l (lt_z_true _ _ (ap (λ u. lt_z u limit) (sym g) ∙ f))))
 
   -- and where none does it is confirmed
   separates : ((j : ℕ) → j < length Q → limit ≤ℤ along (bearing a b) (vertex_at Q j))
@@ -97,86 +95,57 @@ module _ (P Q : Part) (e : Vertex) (is_sound : SoundPart P) (k m : ℕ) (h : k <
 
 -- one more vertex lies beyond the limit
 further : (d : Direction) (Q : Part) (limit z : ℤ) (i : ℕ) → ((j : ℕ) → j < i → limit ≤ℤ along d (vertex_at Q j))
-    → z ≡ along d (vertex_at Q i) → le_z limit z ≡ true
+    → z ≡ along d (vertex_at Q i) → lt_z z limit ≡ false
     → (j : ℕ) → j < i + 1 → limit ≤ℤ along d (vertex_at Q j)
-further d Q limit z i f g h = below_more _ i f (le_z_true _ _ (ap (le_z limit) (sym g) ∙ h))
+further d Q limit z i f g h = below_more _ i f (lt_z_false _ _ (ap (λ u. lt_z u limit) (sym g) ∙ h))
 
 -- ---- the answers
 
-pub loop-i-init : goal.loop-i-init
-loop-i-init c = (omega (arith, c.directions.invariant.1, c.requires.1.corners, part_length c.args.q.now), below_none _)
-
 pub loop-i-preserved : goal.loop-i-preserved
-loop-i-preserved c = (
-  omega arith,
-  further (bearing c.difference-a.result c.difference-b.result) (part_of c.args.q.now) _ _ c.loop-i.i
-      c.loop-i.invariant.1
-      (to_z-of_z w64 c.vertex_along-in-loop-i.result (sfits_of c.vertex_along-in-loop-i.type_inv)
-      ∙ c.vertex_along-in-loop-i.ensures.value)
-      c.loop-i-test.true,
-)
+loop-i-preserved c =
+    further (bearing c.difference-a.result c.difference-b.result) (part_of c.args.q.now) _ _ c.loop-i.i
+    c.loop-i.invariant
+    (to_z-of_z w64 c.vertex_along-in-loop-i.result (sfits_of c.vertex_along-in-loop-i.type_inv)
+    ∙ c.vertex_along-in-loop-i.ensures.value)
+    c.if-vertex_along-limit.false
 
 pub directions-preserved : goal.directions-preserved
 directions-preserved c =
-    let n = part_length c.args.p.now in
-    let m = part_length c.args.q.now in
-    let inside : c.directions.k < length (part_of c.args.p.now) =
-    omega (arith, c.directions.invariant.0, c.directions-test.true) in
-    let some : 0 < length (part_of c.args.q.now) = omega (arith, c.requires.1.corners) in
-    let below : c.loop-i.i < length (part_of c.args.q.now) =
-    omega (arith, c.loop-i.invariant.0, c.directions.invariant.1) in (
-      refl,
-      refl,
-      omega (arith, c.directions-test.true, c.directions.invariant.0),
-      below_more _ _ c.directions.invariant.3
-          (gives_up (part_of c.args.p.now) (part_of c.args.q.now) (offset c.args.dx c.args.dy) c.requires.0
-          c.directions.k c.next_vertex-m.result inside some
-          c.difference-a.result c.difference-b.result c.vertex_along.result c.move_along.result
-          (sfits_of c.difference-a.type_inv) (sfits_of c.difference-b.type_inv)
-          c.next_vertex-m.ensures.0 c.difference-a.ensures c.difference-b.ensures c.vertex_along.ensures
-          c.move_along.ensures
-          c.loop-i.i (held c.vertex_along-in-loop-i.result) below
-          (to_z-of_z w64 c.vertex_along-in-loop-i.result (sfits_of c.vertex_along-in-loop-i.type_inv)
-          ∙ c.vertex_along-in-loop-i.ensures.value)
-          c.loop-i-test.false),
-    )
+    below_more _ _ c.directions.invariant
+    (gives_up (part_of c.args.p.now) (part_of c.args.q.now) (offset c.args.dx c.args.dy) c.requires.0
+    c.directions.k c.next_vertex-m.result (omega (arith, part_length c.args.p.now))
+    (omega (arith, part_length c.args.q.now))
+    c.difference-a.result c.difference-b.result c.vertex_along.result c.move_along.result
+    (sfits_of c.difference-a.type_inv) (sfits_of c.difference-b.type_inv)
+    c.next_vertex-m.ensures.0 c.difference-a.ensures c.difference-b.ensures c.vertex_along.ensures
+    c.move_along.ensures
+    c.loop-i.i (held c.vertex_along-in-loop-i.result) (omega (arith, part_length c.args.q.now))
+    (to_z-of_z w64 c.vertex_along-in-loop-i.result (sfits_of c.vertex_along-in-loop-i.type_inv)
+    ∙ c.vertex_along-in-loop-i.ensures.value)
+    c.if-vertex_along-limit.true)
+
+-- the move, as its locals' bits say it
+is_offset : {x y : ℤ} → SFits w16 x → SFits w16 y → offset x y ≡ vertex x y
+is_offset {x} {y} hx hy = λ i. vertex (to_z-of_z w16 x hx i) (to_z-of_z w16 y hy i)
+
+pub returns-in-directions : goal.returns-in-directions
+returns-in-directions c =
+    let P : Part = part_of c.args.p.now in
+    let Q : Part = part_of c.args.q.now in
+    sym (some-normal (separates_moved P Q (offset c.args.dx c.args.dy)) P c.directions.k
+    (omega (arith, part_length c.args.p.now))
+    (separates P Q (offset c.args.dx c.args.dy) c.requires.0 c.directions.k c.next_vertex-m.result
+    (omega (arith, part_length c.args.p.now)) (omega (arith, part_length c.args.q.now))
+    c.difference-a.result c.difference-b.result c.vertex_along.result c.move_along.result
+    (sfits_of c.difference-a.type_inv) (sfits_of c.difference-b.type_inv)
+    c.next_vertex-m.ensures.0 c.difference-a.ensures c.difference-b.ensures c.vertex_along.ensures
+    c.move_along.ensures (λ j h. c.loop-i.invariant j (omega (arith, part_length c.args.q.now)))))
+    ∙ ap (λ (e : Vertex). any (separates_moved P Q e) (normals P)) (is_offset c.ranges.dx c.ranges.dy)
 
 pub returns : goal.returns
 returns c =
-    let n = part_length c.args.p.now in
-    let m = part_length c.args.q.now in
     let P : Part = part_of c.args.p.now in
     let Q : Part = part_of c.args.q.now in
-    let test : Direction → Bool = separates_moved P Q (offset c.args.dx c.args.dy) in
-    let is_offset : offset c.args.dx c.args.dy ≡ vertex c.args.dx c.args.dy =
-    λ i. vertex (to_z-of_z w16 c.args.dx c.ranges.dx i) (to_z-of_z w16 c.args.dy c.ranges.dy i) in
-    let answer : any test (normals P) ≡ any (separates_moved P Q (vertex c.args.dx c.args.dy)) (normals P) =
-    ap (λ (e : Vertex). any (separates_moved P Q e) (normals P)) is_offset in
-    elim c.directions-test.branch [
-      | else-directions-test w ↦
-          le-ltb c.directions.k (length c.args.p.now / 2)
-          (omega (arith, c.directions.invariant.0, w.directions-test.false))
-          ∙ sym (no_normal test P (λ j h. c.directions.invariant.3 j
-          (omega (arith, c.directions.invariant.0, w.directions-test.false))))
-          ∙ answer
-      | then-directions-test+then-loop-i-test+then-i-count w ↦
-          let inside : c.directions.k < length P = omega (arith, c.directions.invariant.0, w.directions-test.true) in
-          let some : 0 < length Q = omega (arith, c.requires.1.corners) in
-          let all : (j : ℕ) → j < length Q
-          → held (held w.vertex_along.result -ℤ held w.move_along.result) ≤ℤ along
-          (bearing w.difference-a.result w.difference-b.result) (vertex_at Q j) =
-          λ j g.
-          further (bearing w.difference-a.result w.difference-b.result) Q _ _ w.loop-i.i w.loop-i.invariant.1
-          (to_z-of_z w64 w.vertex_along-in-loop-i.result (sfits_of w.vertex_along-in-loop-i.type_inv)
-          ∙ w.vertex_along-in-loop-i.ensures.value)
-          w.loop-i-test.true j (omega (arith, c.directions.invariant.1, w.if-i-count.true)) in
-          lt-ltb c.directions.k (length c.args.p.now / 2)
-          (omega (arith, c.directions.invariant.0, w.directions-test.true))
-          ∙ sym (some-normal test P c.directions.k inside
-          (separates P Q (offset c.args.dx c.args.dy) c.requires.0 c.directions.k w.next_vertex-m.result inside some
-          w.difference-a.result w.difference-b.result w.vertex_along.result w.move_along.result
-          (sfits_of w.difference-a.type_inv) (sfits_of w.difference-b.type_inv)
-          w.next_vertex-m.ensures.0 w.difference-a.ensures w.difference-b.ensures w.vertex_along.ensures
-          w.move_along.ensures all))
-          ∙ answer
-    ]
+    sym (no_normal (separates_moved P Q (vertex c.args.dx c.args.dy)) P
+    (λ j h. ap (λ (e : Vertex). separates_moved P Q e (normal_of P j)) (sym (is_offset c.ranges.dx c.ranges.dy))
+    ∙ c.directions.invariant j (omega (arith, part_length c.args.p.now))))

@@ -1,7 +1,6 @@
-use mathlib.Core.Path.{◌≡◌, refl, sym, ◌∙◌, ap, subst}
-use Prim.Native.Nat.{◌+◌, ◌-◌, ◌/◌, ◌≤◌}
+use mathlib.Core.Path.{sym, ◌∙◌, ap, subst}
+use Prim.Native.Nat.{◌+◌}
 use native.Mathlib.Omega.{arith}
-use lib.ListN.{length}
 use Rattle.polygons.specs.Boxes.{joined}
 use Rattle.polygons.specs.Flat.{part_of}
 use Rattle.polygons.proofs.BoxLaws.{Covering, covers-none, covers-first, covers-next, covers-last}
@@ -14,18 +13,16 @@ returns-then-n-eq0 c = c.point.ensures ∙ covers-none (part_of c.args.p.now) (o
 pub loop-k-init : goal.loop-k-init
 loop-k-init c =
     let p = c.args.p.now in
-    (refl, omega arith, subst (Covering (part_of p) 1) (sym c.corner-e.ensures) (covers-first (part_of p) (omega (arith, part_length p))))
+    subst (Covering (part_of p) 1) (sym c.corner-e.ensures) (covers-first (part_of p) (omega (arith, part_length p)))
 
 pub loop-k-preserved : goal.loop-k-preserved
 loop-k-preserved c =
     let l = c.loop-k in
-    let p = c.args.p.now in (
-      refl,
-      omega arith,
-      subst (Covering (part_of p) (l.k + 1)) (sym (c.join-e.ensures ∙ ap (joined l.e) c.corner.ensures)) (covers-next (part_of p) l.k l.e (omega (arith, part_length p)) l.invariant.2),
-    )
+    let p = c.args.p.now in
+    subst (Covering (part_of p) (l.k + 1)) (sym (c.join-e.ensures ∙ ap (joined l.e) c.corner.ensures))
+    (covers-next (part_of p) l.k l.e (omega (arith, part_length p)) l.invariant)
 
 pub returns : goal.returns
 returns c =
     let p = c.args.p.now in
-    covers-last (part_of p) c.loop-k.k c.loop-k.e (omega (arith, part_length p)) c.loop-k.invariant.2
+    covers-last (part_of p) c.loop-k.k c.loop-k.e (omega (arith, part_length p)) c.loop-k.invariant

@@ -1,4 +1,4 @@
--- `geometry::extents::corner` meets its contract. Assumes nothing.
+-- `polygons::extents::corner` meets its contract. Assumes nothing.
 use mathlib.Core.Path.{◌∙◌}
 use native.Mathlib.Omega.{arith}
 use borrow.Author.Rules.{sfits_of}

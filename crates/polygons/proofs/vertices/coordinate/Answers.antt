@@ -1,7 +1,6 @@
--- `geometry::vertices::coordinate` meets its contract: vertex k stands at 2 k and 2 k + 1. Assumes nothing.
+-- `polygons::vertices::coordinate` meets its contract: vertex k stands at 2 k and 2 k + 1. Assumes nothing.
 use mathlib.Core.Path.{◌∙◌}
-use native.Mathlib.Omega.{arith}
-use borrow.Author.Rules.{rules, sfits_of}
+use borrow.Author.Rules.{sfits_of}
 use mir.Syntax.{w16}
 use mir.ValLaws.{to_z-of_z}
 use Rattle.polygons.proofs.Flat.{coordinate-at}
