@@ -3,10 +3,10 @@ use mathlib.Core.Bool.{Bool, true, false, not, cond, ◌&&◌, and-true, and-fal
 use mathlib.Core.List.{List, [], ◌∷◌, ◌++◌, map}
 use mathlib.Core.Option.{Option, none, some}
 use mathlib.Core.Path.{◌≡◌, refl, sym, ap, ap₂, ◌∙◌}
-use Prim.Native.Nat.{ℕ, zero, suc, ◌+◌, ◌*◌, max}
+use Prim.Native.Nat.{ℕ, zero, suc, ◌+◌, ◌*◌, ◌<◌, ◌≤◌, max}
 use native.Mathlib.Numerals.{add-one}
 use native.Mathlib.Omega.{arith}
-use borrow.Author.Tests.{ltb-true, ne_eqb}
+use borrow.Author.Tests.{ltb-true, lt-ltb, le-ltb, ne_eqb}
 use lib.Dec.{eqb, ltb, eqb-suc-suc}
 use Rattle.words.specs.Bits.{test_bit}
 use Rattle.model.specs.Content.{SpacingClass, Kind}
@@ -134,18 +134,20 @@ largest-risen s o n e = largest-permuted (map-permuted (λ c. c.gap) (risen_perm
 
 -- ---- One id in the code
 
-module _ (s : List ℕ) (o n mask id : ℕ) (b : Best) (j : ℕ) (t : Bool) where
-  pub offered-yes : (c d : Best) → j ≡ index_of s o n id → t ≡ test_bit mask id → (ltb j n && t) ≡ true → d ≡ best_at s (o + j * 3) id → c ≡ offered b d → c ≡ offered_id s o n mask id b
+module _ (s : List ℕ) (o n mask id : ℕ) (b : Best) where
+  pub offered-yes : (j : ℕ) (c d : Best) → (j ≡ index_of s o n id) × (index_of s o n id < n) → test_bit mask id ≡ true
+      → d ≡ best_at s (o + j * 3) id → c ≡ offered b d → c ≡ offered_id s o n mask id b
   unfolding offered_id
-  offered-yes c d ej et e ed ec =
-      let e' : (ltb (index_of s o n id) n && test_bit mask id) ≡ true = rw (ej, et) at e in
-      ec ∙ ap (offered b) (ed ∙ ap (λ j. best_at s (o + j * 3) id) ej) ∙ rw e'
+  offered-yes j c d f e ed ec =
+      ec ∙ ap (offered b) (ed ∙ ap (λ j. best_at s (o + j * 3) id) f.0) ∙ rw (lt-ltb (index_of s o n id) n f.1, e)
 
-  pub offered-no : j ≡ index_of s o n id → t ≡ test_bit mask id → (ltb j n && t) ≡ false → b ≡ offered_id s o n mask id b
+  pub offered-unnamed : test_bit mask id ≡ false → b ≡ offered_id s o n mask id b
   unfolding offered_id
-  offered-no ej et e =
-      let e' : (ltb (index_of s o n id) n && test_bit mask id) ≡ false = rw (ej, et) at e in
-      rw e'
+  offered-unnamed e = rw (e, and-false)
+
+  pub offered-absent : n ≤ index_of s o n id → b ≡ offered_id s o n mask id b
+  unfolding offered_id
+  offered-absent h = rw (le-ltb (index_of s o n id) n h)
 
 pub best-more : (s : List ℕ) (o n default mask i : ℕ) → best_below s o n default mask (i + 1) ≡ offered_id s o n mask i (best_below s o n default mask i)
 unfolding best_below

@@ -12,6 +12,9 @@ use Rattle.model.specs.Format.{byte_at, word_at, board_at, got, many, read_kind,
 use Rattle.model.specs.Gap.{best_class, kind_gap}
 use Rattle.model.specs.Lists.{any, sum}
 use Rattle.model.specs.Grid.{rows, columns}
+use Rattle.model.specs.Refusal.{number}
+use Rattle.model.specs.declared.Refusal.{Refusal}
+use Rattle.model.specs.declared.Refusal.TheVariants as R
 use Rattle.model.proofs.Causes.{no_cause, NoCause, none_before, refusal_is, Sections, sections, board-fits, KindsFit, kinds-fit}
 use Rattle.model.proofs.Folds.{any-take-more}
 use Rattle.model.proofs.Readers.{many-length}
@@ -191,41 +194,6 @@ module _ (s : List ℕ) (e : refusal_to6 s ≡ 0) where
               };
         }
 
--- The view with another margin.
-abbrev pub clamped : View → ℕ → View
-clamped v m =
-    record {
-      width = v.width;
-      length = v.length;
-      step = v.step;
-      rows = v.rows;
-      columns = v.columns;
-      margin = m;
-      kinds = v.kinds;
-      pieces = v.pieces;
-      demands = v.demands;
-      rotations = v.rotations;
-      gaps = v.gaps;
-      cuts = v.cuts;
-      parts = v.parts;
-      part_at = v.part_at;
-    }
-
--- It is a view of the same job, if the margin is allowed.
-pub with_margin : (s : List ℕ) (v : View) (m : ℕ) → m ≤ 63 → ViewOf s v → ViewOf s (clamped v m)
-with_margin s v m h x =
-    record {
-      width = x.width;
-      len = x.len;
-      step = x.step;
-      rows = x.rows;
-      columns = x.columns;
-      margin = h;
-      kinds = x.kinds;
-      pieces = x.pieces;
-      kind = λ t l. let k = x.kind t l in record { demand = k.demand; rotations = k.rotations; gap = k.gap; cut = k.cut; parts = k.parts; few_parts = k.few_parts; part = k.part };
-    }
-
 -- The board that was read is that of the job.
 pub board-read : (s : List ℕ) (o : ℕ) (b : Board) → o ≡ board_at s → BoardIn s o b
     → (b.width ≡ (board_of s).W) × (b.length ≡ (board_of s).L) × (b.step ≡ (board_of s).g)
@@ -245,9 +213,26 @@ part-judged s o n r en er =
 abbrev sixth : Bool → Bool → Bool → Bool → Bool → Bool → ℕ → ℕ
 sixth a b c d e f r = cond a 1 (cond b 2 (cond c 3 (cond d 4 (cond e 5 (cond f 6 r)))))
 
-pub refusal-six : (s : List ℕ) → (refusal_to6 s ≡ 0 → ⊥) → refusal_to6 s ≡ refusal s
+-- No refusal has the number 0.
+pub some_number : (r : Refusal) → number r ≡ 0 → ⊥
+some_number R.Size = λ z. omega arith
+some_number R.Mark = λ z. omega arith
+some_number R.Sections = λ z. omega arith
+some_number R.Board = λ z. omega arith
+some_number R.Classes = λ z. omega arith
+some_number R.Kinds = λ z. omega arith
+some_number R.Parts = λ z. omega arith
+some_number R.Work = λ z. omega arith
+some_number R.Answer = λ z. omega arith
+some_number R.Layout = λ z. omega arith
+some_number R.Candidate = λ z. omega arith
+some_number R.Margin = λ z. omega arith
+some_number R.Outline = λ z. omega arith
+
+pub refusal-six : (s : List ℕ) (r : Refusal) → number r ≡ refusal_to6 s → number r ≡ refusal s
 unfolding refusal_to6
-refusal-six s h = sym (refusal_is s ∙ same (cause1 s) (cause2 s) (cause3 s) (cause4 s) (cause5 s) (cause6 s) h)
+refusal-six s r e =
+    e ∙ sym (refusal_is s ∙ same (cause1 s) (cause2 s) (cause3 s) (cause4 s) (cause5 s) (cause6 s) (λ z. some_number r (e ∙ z)))
   where
     same : (a b c d e f : Bool) → (sixth a b c d e f 0 ≡ 0 → ⊥) → sixth a b c d e f (cond (cause7 s) 7 0) ≡ sixth a b c d e f 0
     same true b c d e f h = refl

@@ -55,11 +55,10 @@ fn offer_id(job: &[u8], at: usize, n: usize, mask: usize, id: usize, best: Best)
     requires { ((n < 256) × (id < 64)) × (at + n * 3 ≤ length job.now) }
     ensures { result ≡ offered_id job.now at n mask id best }
 {
-    let j = classes::find(job, at, n, id);
-    if (j < n) & kinds::names(mask, id) {
-        return offer(best, class_at(job, at + j * 3, id));
+    match classes::find(job, at, n, id) {
+        Some(j) if kinds::names(mask, id) => offer(best, class_at(job, at + j * 3, id)),
+        _ => best,
     }
-    best
 }
 
 // The best-ranked class of a type with this class mask, of the n classes from byte `at` on; a type in no class has the default gap.

@@ -1,10 +1,13 @@
 // An accepted job: the first of the sender's causes of refusal, 1 to 7, and 13 for a margin; and the view that the layers above use.
 #![tactic(auto)]
 
-ghost use Rattle.std.specs.Prelude.{◌≡◌};
+ghost use Rattle.std.specs.Prelude.{◌≡◌, IfOk};
 ghost use Rattle.model.specs.Format.{refusal};
+ghost use Rattle.model.specs.Refusal.{refused_by};
 ghost use Rattle.model.specs.Services.{refusal_under};
 ghost use Rattle.job.specs.View.{Viewed};
+
+use model::Refusal;
 
 mod accepted;
 mod causes;
@@ -33,67 +36,27 @@ pub struct View {
     pub part_at: [usize; 48],
 }
 
-// The number of the refusal, 0 if nothing is refused, and then the job's view under the margin.
-#[derive(Clone, Copy)]
-pub struct Opened {
-    pub refusal: u8,
-    pub view: View,
-}
-
-// The view that stands beside a refusal by 1 to 6: nothing.
-fn no_view() -> View {
-    View {
-        width: 0,
-        length: 0,
-        step: 0,
-        rows: 0,
-        columns: 0,
-        margin: 0,
-        kinds: 0,
-        pieces: 0,
-        demands: [0usize; 8],
-        rotations: [0usize; 8],
-        gaps: [0usize; 8],
-        cuts: [0usize; 8],
-        parts: [0usize; 8],
-        part_at: [0usize; 48],
-    }
-}
-
 // Reads a job, at margin 0. Type records are judged whole, cause 6, before any part's soundness, cause 7.
-pub fn open(job: &[u8]) -> Opened
-    ensures refusal_value { result.refusal ≡ refusal job.now }
-    ensures viewed { result.refusal ≡ 0 → Viewed job.now result.view }
+pub fn open(job: &[u8]) -> Result<View, Refusal>
+    ensures refusal_value { refused_by result ≡ refusal job.now }
+    ensures viewed { IfOk result (λ view. Viewed job.now view) }
 {
-    let first = causes::first_of_six(job);
-    if first != 0 {
-        let view = no_view();
-        return Opened {
-            refusal: first,
-            view,
-        };
-    }
+    causes::first_of_six(job)?;
     let view = accepted::view_of(job);
     if accepted::unsound(job, view) {
-        return Opened { refusal: 7, view };
+        return Err(Refusal::Parts);
     }
-    Opened { refusal: 0, view }
+    Ok(view)
 }
 
 // Reads a job under a margin. The margin is judged after the job.
-pub fn open_under(job: &[u8], margin: usize) -> Opened
-    ensures refusal_value { result.refusal ≡ refusal_under margin job.now }
-    ensures viewed { result.refusal ≡ 0 → Viewed job.now result.view × (result.view.margin ≡ margin) }
+pub fn open_under(job: &[u8], margin: usize) -> Result<View, Refusal>
+    ensures refusal_value { refused_by result ≡ refusal_under margin job.now }
+    ensures viewed { IfOk result (λ view. Viewed job.now view × (view.margin ≡ margin)) }
 {
-    let opened = open(job);
-    let refusal = opened.refusal;
-    let mut view = opened.view;
-    if refusal != 0 {
-        return Opened { refusal, view };
-    }
+    let view = open(job)?;
     if margin > 63 {
-        return Opened { refusal: 13, view };
+        return Err(Refusal::Margin);
     }
-    view.margin = margin;
-    Opened { refusal: 0, view }
+    Ok(View { margin, ..view })
 }

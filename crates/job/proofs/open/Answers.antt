@@ -1,40 +1,27 @@
-use mathlib.Core.Bool.{true, false}
-use mathlib.Core.Path.{sym, ◌∙◌}
-use native.Mathlib.Omega.{arith}
+use Rattle.std.proofs.Common.{sym, ◌∙◌}
+use Rattle.std.proofs.lemmas.Result.{err_from_is_err_and}
 use Rattle.job.proofs.ViewLaws.{refusal-six, refusal-seven, few-kinds}
 use Rattle.job.proofs.open.Goals as goal
 
-pub returns-then-first-ne0 : goal.returns-then-first-ne0
-returns-then-first-ne0 c =
-    let s = c.args.job.now in
-    let e = c.first_of_six-first.ensures in
-    record {
-      refusal_value = e ∙ refusal-six s (λ z. c.if-first-ne0.true (e ∙ z));
-      viewed = λ z. absurd (c.if-first-ne0.true z);
-    }
-
-pub view_of-view-requires : goal.view_of-view-requires
-view_of-view-requires c = sym c.first_of_six-first.ensures ∙ c.if-first-ne0.false
+pub returns-in_err-first_of_six-clause-refusal_value : goal.returns-in_err-first_of_six-clause-refusal_value
+returns-in_err-first_of_six-clause-refusal_value c =
+    let p = err_from_is_err_and c.from_residual.result c.from_residual.ensures.1 in
+    rw (p.1, p.2) (refusal-six c.args.job.now _ c.in_err-first_of_six.ensures)
 
 pub unsound-requires : goal.unsound-requires
-unsound-requires c = (c.view_of-view.ensures, few-kinds _ (sym c.first_of_six-first.ensures ∙ c.if-first-ne0.false))
+unsound-requires c = (c.view_of-view.ensures, few-kinds _ (sym c.in_ok-first_of_six.ensures))
 
-pub returns-then-unsound : goal.returns-then-unsound
-returns-then-unsound c =
-    let s = c.args.job.now in
-    record {
-      refusal_value =
-          sym
-          (refusal-seven s true
-          (sym c.first_of_six-first.ensures ∙ c.if-first-ne0.false) (sym c.unsound.ensures ∙ c.if-unsound.true));
-      viewed = λ z. absurd (omega arith);
-    }
+pub returns-then-unsound-clause-refusal_value : goal.returns-then-unsound-clause-refusal_value
+returns-then-unsound-clause-refusal_value c =
+    sym (refusal-seven c.args.job.now _ (sym c.in_ok-first_of_six.ensures) (sym c.unsound.ensures ∙ c.if-unsound.true))
 
-pub returns : goal.returns
-returns c =
-    let s = c.args.job.now in
-    let told = sym (refusal-seven s false (sym c.first_of_six-first.ensures ∙ c.if-first-ne0.false) (sym c.unsound.ensures ∙ c.if-unsound.false)) in
+pub returns-clause-refusal_value : goal.returns-clause-refusal_value
+returns-clause-refusal_value c =
+    sym (refusal-seven c.args.job.now _ (sym c.in_ok-first_of_six.ensures) (sym c.unsound.ensures ∙ c.if-unsound.false))
+
+pub returns-clause-viewed : goal.returns-clause-viewed
+returns-clause-viewed c =
     record {
-      refusal_value = told;
-      viewed = λ z. record { accepted = sym told; view = c.view_of-view.ensures };
+      accepted = refusal-seven c.args.job.now _ (sym c.in_ok-first_of_six.ensures) (sym c.unsound.ensures ∙ c.if-unsound.false);
+      view = c.view_of-view.ensures;
     }

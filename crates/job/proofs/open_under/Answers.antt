@@ -1,43 +1,21 @@
-use mathlib.Core.Path.{refl, sym, ◌∙◌}
-use native.Mathlib.Omega.{arith}
+use Rattle.std.proofs.Common.{arith, sym, ◌∙◌}
+use Rattle.std.proofs.lemmas.Result.{err_from_is_err_and}
 use Rattle.model.proofs.Margin.{refused-first, refused-13, accepted-under}
-use Rattle.job.proofs.ViewLaws.{with_margin}
+use Rattle.job.proofs.ViewLaws.{some_number}
 use Rattle.job.proofs.open_under.Goals as goal
 
--- the job is refused by itself
-pub returns-then-refusal-ne0 : goal.returns-then-refusal-ne0
-returns-then-refusal-ne0 c =
-    let e = c.open-opened.ensures.refusal_value in
-    record {
-      refusal_value = e ∙ sym (refused-first c.args.job.now c.args.margin (λ z. c.if-refusal-ne0.true (e ∙ z)));
-      viewed = λ z. absurd (c.if-refusal-ne0.true z);
-    }
+-- The job is refused by itself.
+pub returns-in_err-view-clause-refusal_value : goal.returns-in_err-view-clause-refusal_value
+returns-in_err-view-clause-refusal_value c =
+    let p = err_from_is_err_and c.from_residual.result c.from_residual.ensures.1 in
+    let e = c.in_err-view.ensures.refusal_value in
+    rw (p.1, p.2) (e ∙ sym (refused-first c.args.job.now c.args.margin (λ z. some_number _ (e ∙ z))))
 
--- the margin is refused
-pub returns-then-margin-gt63 : goal.returns-then-margin-gt63
-returns-then-margin-gt63 c =
-    let accepted = sym c.open-opened.ensures.refusal_value ∙ c.if-refusal-ne0.false in
-    record {
-      refusal_value =
-          sym ((refused-13 c.args.job.now c.args.margin).1 (accepted, omega (arith, c.if-margin-gt63.true)));
-      viewed = λ z. absurd (omega arith);
-    }
+-- The margin is refused.
+pub returns-then-margin-gt63-clause-refusal_value : goal.returns-then-margin-gt63-clause-refusal_value
+returns-then-margin-gt63-clause-refusal_value c =
+    sym ((refused-13 c.args.job.now c.args.margin).1 (sym c.in_ok-view.ensures.refusal_value, omega arith))
 
-pub returns : goal.returns
-returns c =
-    let o = c.open-opened.ensures in
-    let accepted = sym o.refusal_value ∙ c.if-refusal-ne0.false in
-    record {
-      refusal_value =
-          sym ((accepted-under c.args.job.now c.args.margin).1 (accepted, omega (arith, c.if-margin-gt63.false)));
-      viewed =
-          λ z. (
-            record {
-              accepted = accepted;
-              view =
-                  with_margin c.args.job.now _ c.args.margin
-                  (omega (arith, c.if-margin-gt63.false)) (o.viewed c.if-refusal-ne0.false).view;
-            },
-            refl,
-          );
-    }
+pub returns-clause-refusal_value : goal.returns-clause-refusal_value
+returns-clause-refusal_value c =
+    sym ((accepted-under c.args.job.now c.args.margin).1 (sym c.in_ok-view.ensures.refusal_value, omega arith))

@@ -1,15 +1,19 @@
-use Prim.Native.Nat.{◌<◌}
+use Rattle.std.proofs.Common.{sym, ◌∙◌}
 use native.Mathlib.Omega.{arith}
-use borrow.Author.Tests.{ltb-true}
-use Rattle.model.proofs.Lists.{and_left}
-use Rattle.job.proofs.GapLaws.{offered-yes, offered-no}
+use Rattle.records.proofs.ClassLaws.{some-found, none-found}
+use Rattle.job.proofs.GapLaws.{offered-yes, offered-unnamed, offered-absent}
 use Rattle.job.proofs.gaps.offer_id.Goals as goal
 
 pub class_at-requires : goal.class_at-requires
-class_at-requires c = let h : c.find-j.result < c.args.n = ltb-true _ _ (and_left _ _ c.if-j-n.true) in (omega arith, omega arith)
+class_at-requires c = let f = some-found _ _ _ _ c.find.ensures c.in-Some.is in (omega arith, omega arith)
 
-pub returns-then-j-n : goal.returns-then-j-n
-returns-then-j-n c = offered-yes c.args.job.now _ _ _ _ _ _ _ _ _ c.find-j.ensures.0 c.names.ensures c.if-j-n.true c.class_at.ensures c.offer.ensures
+pub returns-in-Some : goal.returns-in-Some
+returns-in-Some c =
+    offered-yes c.args.job.now _ _ _ _ _ _ _ _ (some-found _ _ _ _ c.find.ensures c.in-Some.is) (sym c.names.ensures ∙ c.if-names.true)
+    c.class_at.ensures c.offer.ensures
 
-pub returns : goal.returns
-returns c = offered-no c.args.job.now _ _ _ _ _ _ _ c.find-j.ensures.0 c.names.ensures c.if-j-n.false
+pub returns-in_default : goal.returns-in_default
+returns-in_default c = offered-unnamed c.args.job.now _ _ _ _ _ (sym c.names.ensures ∙ c.if-names.false)
+
+pub returns-in_default-2 : goal.returns-in_default-2
+returns-in_default-2 c = offered-absent c.args.job.now _ _ _ _ _ (none-found _ _ _ c.find.ensures c.in_default.is)
