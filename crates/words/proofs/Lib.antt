@@ -7,4 +7,5 @@ pub mod Bit
 pub mod HowMany
 pub mod Member
 pub mod First
+pub mod Tested
 pub mod StringLaws

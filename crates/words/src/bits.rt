@@ -1,5 +1,5 @@
 // Bits of a word of 64 bits: a place is taken modulo 64, so that every place is one of the word.
-ghost use Rattle.std.specs.Prelude.{◌≡◌, ◌%◌, ◌^◌, ◌≤◌};
+ghost use Rattle.std.specs.Prelude.{true, false, ◌≡◌, ℕ, ◌%◌, ◌^◌, ◌≤◌, ◌<◌};
 ghost use Rattle.std.specs.Int.Count.{ones};
 ghost use Rattle.words.specs.Sets.{first_from};
 ghost use Rattle.words.specs.Bits.{test_bit, with_bit, without_bit, assigned_bit};
@@ -54,4 +54,32 @@ pub fn lowest_bit(w: u64) -> usize
     ensures { (result ≡ first_from (test_bit w) 64 0) × (result ≤ 64) }
 {
     u64::trailing_zeros(w) as usize
+}
+
+// The word whose bit i, for each i, is what the test says of i.
+pub fn word_of<F: Fn(usize) -> bool>(test: F) -> u64
+    requires { (i : ℕ) → i < 64 → F.pre test i }
+    ensures { (i : ℕ) → i < 64 → F.post test i (test_bit result i) }
+{
+    let mut word = 0;
+    for i in 0..64 {
+        word = assign_bit(word, i as u64, test(i));
+    }
+    word
+}
+
+// w with those of its bits that pass the test. Only the bits that are set are tested.
+pub fn keep<F: Fn(usize) -> bool>(w: u64, test: F) -> u64
+    requires { (i : ℕ) → i < 64 → test_bit w i ≡ true → F.pre test i }
+    ensures tested { (i : ℕ) → i < 64 → test_bit w i ≡ true → F.post test i (test_bit result i) }
+    ensures untested { (i : ℕ) → test_bit w i ≡ false → test_bit result i ≡ false }
+{
+    let mut kept = w;
+    let mut left = w;
+    while left != 0 {
+        let i = lowest_bit(left);
+        kept = assign_bit(kept, i as u64, test(i));
+        left = clear_bit(left, i as u64);
+    }
+    kept
 }

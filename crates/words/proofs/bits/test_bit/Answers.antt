@@ -1,6 +1,5 @@
 -- `words::bits::test_bit` meets its contract.
 use Prim.Native.Nat.{◌%◌}
-use native.Mathlib.Omega.{arith}
 use Rattle.words.proofs.Bit.{shifted_test}
 use Rattle.words.proofs.bits.test_bit.Goals as goal
 

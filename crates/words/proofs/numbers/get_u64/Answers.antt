@@ -1,6 +1,5 @@
 -- `words::numbers::get_u64` meets its contract.
 use mathlib.Core.Path.{sym}
-use native.Mathlib.Omega.{arith}
 use Rattle.words.proofs.Place.{number_at-four}
 use Rattle.words.proofs.numbers.get_u64.Goals as goal
 

@@ -1,11 +1,8 @@
 -- `words::numbers::put_u64` meets its contract. The invariant: what is left of the write, done to the bytes as they are, comes to the whole write.
-use mathlib.Core.Path.{◌≡◌, sym, ap, ◌∙◌}
-use Prim.Native.Nat.{ℕ, ◌+◌, ◌-◌, ◌≤◌}
-use native.Mathlib.Nat.{add-zero}
-use native.Mathlib.Omega.{arith}
-use lib.ListN.{length, length-set}
+use mathlib.Core.Path.{◌≡◌}
+use Prim.Native.Nat.{◌+◌, ◌-◌, ◌≤◌}
+use lib.ListN.{length}
 use Rattle.words.specs.Number.{with_number}
-use Rattle.words.proofs.Place.{with_number-none, with_number-next}
 use Rattle.words.proofs.numbers.put_u64.Given as goal
 
 abbrev pub invariant-loop-k : goal.invariant-loop-k

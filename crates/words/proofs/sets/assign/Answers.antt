@@ -1,5 +1,4 @@
 -- `words::sets::assign` meets its contract.
-use native.Mathlib.Omega.{arith}
 use Rattle.words.specs.Sets.{changed}
 use Rattle.words.proofs.sets.assign.Goals as goal
 

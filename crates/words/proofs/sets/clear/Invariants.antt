@@ -1,13 +1,8 @@
 -- `words::sets::clear` meets its contract. The invariant: the words passed are zero, and nothing else changed.
-use borrow.Author.Rules.{rules}
-use mathlib.Core.List.{List}
-use mathlib.Core.Path.{◌≡◌, sym, ap, ◌∙◌}
-use Prim.Native.Nat.{ℕ, ◌*◌, ◌≤◌, ◌-◌}
-use native.Mathlib.Omega.{arith}
+use mathlib.Core.Path.{◌≡◌}
+use Prim.Native.Nat.{◌≤◌, ◌-◌}
 use lib.ListN.{length}
-use Rattle.words.specs.Number.{with_number}
 use Rattle.words.specs.Sets.{cleared_words}
-use Rattle.words.proofs.Member.{cleared-none, cleared_more}
 use Rattle.words.proofs.sets.clear.Given as goal
 
 abbrev pub invariant-loop-done : goal.invariant-loop-done

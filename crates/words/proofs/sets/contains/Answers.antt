@@ -1,5 +1,4 @@
 -- `words::sets::contains` meets its contract.
-use native.Mathlib.Omega.{arith}
 use Rattle.words.specs.Sets.{member}
 use Rattle.words.proofs.sets.contains.Goals as goal
 

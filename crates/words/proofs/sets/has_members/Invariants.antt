@@ -1,13 +1,7 @@
 -- `words::sets::has_members` meets its contract. The invariant: the members of the words passed are counted.
-use mathlib.Core.Logic.{⊎_elim}
-use mathlib.Core.Path.{◌≡◌, sym, ap, ap₂, ◌∙◌}
-use Prim.Native.Nat.{◌+◌, ◌*◌, ◌≤◌, ◌-◌}
-use native.Mathlib.Omega.{arith}
-use borrow.Author.Tests.{le-leb}
-use lib.Count.{ones}
-use lib.Dec.{leb}
+use mathlib.Core.Path.{◌≡◌}
+use Prim.Native.Nat.{◌*◌, ◌≤◌, ◌-◌}
 use Rattle.words.specs.Sets.{count_members}
-use Rattle.words.proofs.Member.{count-no_words, count_word, count-empty, count-le}
 use Rattle.words.proofs.sets.has_members.Given as goal
 
 abbrev pub invariant-loop-k : goal.invariant-loop-k

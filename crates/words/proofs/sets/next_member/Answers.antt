@@ -1,8 +1,7 @@
 use mathlib.Core.Path.{◌≡◌, refl, sym, ap, ◌∙◌}
-use Prim.Native.Nat.{ℕ, ◌*◌, ◌-◌, ◌/◌, ◌%◌, ◌^◌}
+use Prim.Native.Nat.{ℕ, ◌*◌, ◌/◌, ◌%◌, ◌^◌}
 use native.Mathlib.Omega.{arith}
 use Rattle.words.specs.Number.{number_at}
-use Rattle.words.specs.Sets.{next_member}
 use Rattle.words.proofs.First.{next_none, next_word, next_here}
 use Rattle.words.proofs.sets.next_member.Goals as goal
 

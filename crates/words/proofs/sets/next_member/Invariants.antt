@@ -1,10 +1,7 @@
 -- `words::sets::next_member` meets its contract. The invariant: the numbers passed are no members.
-use mathlib.Core.Path.{◌≡◌, refl, sym, ap, ◌∙◌}
-use Prim.Native.Nat.{ℕ, ◌*◌, ◌-◌, ◌/◌, ◌%◌, ◌^◌}
-use native.Mathlib.Omega.{arith}
-use Rattle.words.specs.Number.{number_at}
+use mathlib.Core.Path.{◌≡◌}
+use Prim.Native.Nat.{◌*◌, ◌-◌}
 use Rattle.words.specs.Sets.{next_member}
-use Rattle.words.proofs.First.{next_none, next_word, next_here}
 use Rattle.words.proofs.sets.next_member.Given as goal
 
 abbrev pub invariant-loop-at : goal.invariant-loop-at

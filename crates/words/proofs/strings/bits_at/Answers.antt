@@ -1,5 +1,4 @@
 -- `words::strings::bits_at` meets its contract.
-use native.Mathlib.Omega.{arith}
 use Rattle.words.proofs.StringLaws.{bits-joined}
 use Rattle.words.proofs.strings.bits_at.Goals as goal
 
