@@ -7,6 +7,7 @@ use native.Mathlib.Omega.{arith}
 use borrow.Author.Tests.{lt-ltb, le-ltb}
 use lib.Dec.{eqb, ltb}
 use lib.ListN.{length, drop}
+use Rattle.std.specs.Prelude.{Option, Some}
 use Rattle.words.specs.Bits.{test_bit}
 use Rattle.model.specs.Content.{SpacingClass, Kind, no_kind}
 use Rattle.model.specs.Format.{byte_at, class_from, bad, got, many, read_kind, names_present, kinds_unfit}
@@ -15,8 +16,8 @@ use Rattle.model.proofs.Folds.{all_same, all_more, sum_more, map-append}
 use Rattle.model.proofs.Records.{byte_first, byte_behind, kind-read}
 use Rattle.records.specs.Classes.{classes_from, entry_at, first_from, has_id, index_of}
 use Rattle.records.specs.Kinds.{present, not_absent, absent_none, list_unfit}
-use Rattle.records.specs.Records.{size_of, value_of, values_of, Reads}
-use Rattle.records.proofs.RecordLaws.{next_got, kind-none, values_none, values_more}
+use Rattle.records.specs.Records.{taken, value_of, values_of, Reads}
+use Rattle.records.proofs.RecordLaws.{next_got, values_none, values_more}
 
 -- ---- The classes that a mask names
 
@@ -72,13 +73,13 @@ module _ (cs : List SpacingClass) (list : List ℕ) where
       }
 
   -- The next record takes r bytes.
-  pub seen_more : (t here demand r d m : ℕ) (named fit : Bool) → Seen cs list t here demand named
-      → r ≡ size_of (read_kind (lib.ListN.take (length list - here) (drop here list))) → (r ≡ 0 → ⊥)
+  pub seen_more : (t here demand r d m : ℕ) (named fit : Bool) (o : Option ℕ) → Seen cs list t here demand named
+      → o ≡ taken (read_kind (lib.ListN.take (length list - here) (drop here list))) → o ≡ Some r
       → d ≡ byte_at list here → m ≡ byte_at list (here + 2) → fit ≡ absent_none cs m
       → Seen cs list (t + 1) (here + r) (demand + d) (named && fit)
-  seen_more t here demand r d m named fit w e h p q a =
+  seen_more t here demand r d m named fit o w e h p q a =
       let k = value_of no_kind (read_kind (drop here list)) in
-      let g : read_kind (drop here list) ≡ got k r = next_got read_kind no_kind kind-none list here r e h in
+      let g : read_kind (drop here list) ≡ got k r = next_got read_kind list here o e no_kind r h in
       let f = kind-read (drop here list) k r g in
       let more : values_of (many read_kind (t + 1) list) ≡ values_of (many read_kind t list) ++ (k ∷ []) = values_more read_kind list t here k r w.reads g in
       let kd : k.demand ≡ d = f.demand ∙ byte_first list here ∙ sym p in
@@ -106,6 +107,6 @@ module _ (cs : List SpacingClass) (list : List ℕ) where
       rw (w.demands, w.present)
       (sym (ap (λ i. kinds_unfit cs (length list) (many read_kind i list)) (sym q) ∙ ap (kinds_unfit cs (length list)) w.reads))
 
--- A kind that takes bytes takes at least those of its four fields.
-pub kind-room : (list : List ℕ) (here r : ℕ) → r ≡ size_of (read_kind (lib.ListN.take (length list - here) (drop here list))) → (r ≡ 0 → ⊥) → 4 ≤ r
-kind-room list here r e h = (kind-read (drop here list) _ r (next_got read_kind no_kind kind-none list here r e h)).head
+-- A kind that can be read takes at least the bytes of its four fields.
+pub kind-room : (list : List ℕ) (here r : ℕ) (o : Option ℕ) → o ≡ taken (read_kind (lib.ListN.take (length list - here) (drop here list))) → o ≡ Some r → 4 ≤ r
+kind-room list here r o e h = (kind-read (drop here list) _ r (next_got read_kind list here o e no_kind r h)).head

@@ -8,32 +8,44 @@ use borrow.Author.Tests.{le-leb, lt-leb, leb-true}
 use lib.Dec.{leb}
 use lib.ListN.{length, take, drop, length-drop}
 use lib.Seq.{take_all}
-use Rattle.model.specs.Content.{Part, Kind}
+use Rattle.std.specs.Bool.{then_some}
+use Rattle.std.specs.List.{slice_get}
+use Rattle.std.specs.Prelude.{Option, Some, None}
+use Rattle.model.specs.Content.{Part}
 use Rattle.model.specs.Format.{byte_at, Got, bad, got, many, read_part, read_kind, head_in_range, with_parts, vertices}
 use Rattle.model.specs.Lists.{between}
 use Rattle.model.proofs.Lists.{and_four}
-use Rattle.model.proofs.Readers.{many-none, many_more, many-bad, many-least}
-use Rattle.model.proofs.Records.{between-both, part-read, kind-read}
-use Rattle.records.specs.Records.{size_of, value_of, values_of, Reads}
+use Rattle.model.proofs.Readers.{many-none, many_more, many-bad}
+use Rattle.model.proofs.Records.{between-both}
+use Rattle.records.specs.Records.{size_of, taken, value_of, values_of, Reads}
 
 -- A piece of a slice from a place to its end.
 pub tail : (s : List ℕ) (a : ℕ) → take (length s - a) (drop a s) ≡ drop a s
 tail s a = take_all (length s - a) (drop a s) (rw length-drop (omega arith))
 
 module _ {A : Type 0} where
-  -- What takes bytes was read.
-  pub size-got : (d : A) (g : Got A) → 0 < size_of g → g ≡ got (value_of d g) (size_of g)
-  unfolding size_of value_of
-  size-got d bad h = absurd (omega arith)
-  size-got d (got a k) h = refl
+  -- What was read, by the bytes that it takes.
+  pub taken-got : (d : A) (g : Got A) (k : ℕ) → taken g ≡ Some k → g ≡ got (value_of d g) k
+  unfolding taken value_of
+  taken-got d bad k e = cc
+  taken-got d (got a m) k e = let q : m ≡ k = cc in ap (got a) q
+
+  pub taken-bad : (g : Got A) → taken g ≡ None → g ≡ bad
+  unfolding taken
+  taken-bad bad e = refl
+  taken-bad (got a k) e = cc
+
+  pub none-taken : (g : Got A) → g ≡ bad → None ≡ taken g
+  unfolding taken
+  none-taken g e = sym (ap taken e)
+
+  pub some-taken : (g : Got A) (a : A) (k : ℕ) → g ≡ got a k → Some k ≡ taken g
+  unfolding taken
+  some-taken g a k e = sym (ap taken e)
 
   pub size_is : (g : Got A) (a : A) (k : ℕ) → g ≡ got a k → size_of g ≡ k
   unfolding size_of
   size_is g a k e = ap size_of e
-
-  pub size-bad : (g : Got A) → g ≡ bad → size_of g ≡ 0
-  unfolding size_of
-  size-bad g e = ap size_of e
 
   pub reads-from : (g : Got (List A)) (xs : List A) (m : ℕ) → g ≡ got xs m → Reads g m
   unfolding values_of
@@ -60,21 +72,22 @@ module _ {A : Type 0} where
     pub reads-bad : (n l m : ℕ) → n < l → Reads (many f n s) m → f (drop m s) ≡ bad → many f l s ≡ bad
     reads-bad n l m h r e = many-bad f n l s _ m h r e
 
--- A loop over records of which one that cannot be read takes no byte, and only such a one. r is the size of the next.
-module _ {A : Type 0} (f : List ℕ → Got A) (d : A) (none : (s : List ℕ) → size_of (f s) ≡ 0 → f s ≡ bad) (s : List ℕ) where
-  pub next_got : (m r : ℕ) → r ≡ size_of (f (take (length s - m) (drop m s))) → (r ≡ 0 → ⊥) → f (drop m s) ≡ got (value_of d (f (drop m s))) r
-  next_got m r e h =
-      let q : r ≡ size_of (f (drop m s)) = e ∙ ap (λ l. size_of (f l)) (tail s m) in
-      size-got d (f (drop m s)) (omega arith) ∙ ap (got (value_of d (f (drop m s)))) (sym q)
+-- A loop over records. r is how many bytes the next one takes, from byte m on.
+module _ {A : Type 0} (f : List ℕ → Got A) (s : List ℕ) (m : ℕ) (r : Option ℕ) (e : r ≡ taken (f (take (length s - m) (drop m s)))) where
+  here : r ≡ taken (f (drop m s))
+  here = e ∙ ap (λ l. taken (f l)) (tail s m)
 
-  pub step : (n m r : ℕ) → Reads (many f n s) m → r ≡ size_of (f (take (length s - m) (drop m s))) → (r ≡ 0 → ⊥) → Reads (many f (n + 1) s) (m + r)
-  step n m r w e h = reads_more f s n m _ r w (next_got m r e h)
+  pub next_got : (d : A) (k : ℕ) → r ≡ Some k → f (drop m s) ≡ got (value_of d (f (drop m s))) k
+  next_got d k h = taken-got d (f (drop m s)) k (sym here ∙ h)
 
-  pub stop : (n l m r : ℕ) → n < l → Reads (many f n s) m → r ≡ size_of (f (take (length s - m) (drop m s))) → r ≡ 0 → many f l s ≡ bad
-  stop n l m r h w e z = reads-bad f s n l m h w (none (drop m s) (ap (λ x. size_of (f x)) (sym (tail s m)) ∙ sym e ∙ z))
+  pub step : (d : A) (n k : ℕ) → Reads (many f n s) m → r ≡ Some k → Reads (many f (n + 1) s) (m + k)
+  step d n k w h = reads_more f s n m _ k w (next_got d k h)
 
-  pub done : (n l m : ℕ) → n ≡ l → Reads (many f n s) m → m ≡ size_of (many f l s)
-  done n l m e w = sym (ap (λ i. size_of (many f i s)) (sym e) ∙ size_is (many f n s) _ m w)
+  pub stop : (n l : ℕ) → n < l → Reads (many f n s) m → r ≡ None → many f l s ≡ bad
+  stop n l h w z = reads-bad f s n l m h w (taken-bad (f (drop m s)) (sym here ∙ z))
+
+pub done : {A : Type 0} (f : List ℕ → Got A) (s : List ℕ) (n l m : ℕ) → n ≡ l → Reads (many f n s) m → Some m ≡ taken (many f l s)
+done f s n l m e w = some-taken (many f n s) _ m w ∙ ap (λ i. taken (many f i s)) e
 
 -- The length of a piece to the end.
 pub tail_length : (s : List ℕ) (a : ℕ) → length (take (length s - a) (drop a s)) ≡ length s - a
@@ -82,42 +95,28 @@ tail_length s a = ap length (tail s a) ∙ length-drop a s
 
 -- ---- A part
 
--- A part that cannot be read takes no byte, and only such a one.
-pub part_none : (s : List ℕ) → size_of (read_part s) ≡ 0 → read_part s ≡ bad
-part_none s e = go (read_part s) refl e
-  where
-    go : (g : Got Part) → read_part s ≡ g → size_of g ≡ 0 → g ≡ bad
-    go bad q h = refl
-    go (got P k) q h = let z = (part-read s P k q).size in let y : k ≡ 0 = sym (size_is (got P k) P k refl) ∙ h in absurd (omega arith)
-
 -- The size of a part, by its test.
-pub part-size-is : (s : List ℕ)
-    → size_of (read_part s) ≡ cond (between 3 8 (byte_at s 0) && leb (1 + byte_at s 0 * 2) (length s)) (1 + byte_at s 0 * 2) 0
-unfolding size_of read_part
-part-size-is s = go (between 3 8 (byte_at s 0) && leb (1 + byte_at s 0 * 2) (length s))
+part-taken : (s : List ℕ)
+    → then_some (between 3 8 (byte_at s 0) && leb (1 + byte_at s 0 * 2) (length s)) (1 + byte_at s 0 * 2) ≡ taken (read_part s)
+unfolding taken read_part
+part-taken s = go (between 3 8 (byte_at s 0) && leb (1 + byte_at s 0 * 2) (length s))
   where
-    go : (t : Bool) → size_of (cond t (got (vertices (byte_at s 0) (drop 1 s)) (1 + byte_at s 0 * 2)) bad) ≡ cond t (1 + byte_at s 0 * 2) 0
+    go : (t : Bool) → then_some t (1 + byte_at s 0 * 2) ≡ taken (cond t (got (vertices (byte_at s 0) (drop 1 s)) (1 + byte_at s 0 * 2)) bad)
     go true = refl
     go false = refl
 
-pub part-sized : (s : List ℕ) (n : ℕ) (t b : Bool) → n ≡ byte_at s 0 → t ≡ between 3 8 n → (t && leb (1 + n * 2) (length s)) ≡ b
-    → cond b (1 + n * 2) 0 ≡ size_of (read_part s)
-part-sized s n t b en et eb = sym (part-size-is s ∙ rw (← en, ← et, eb))
+-- A first byte b and the test of it.
+pub part-sized : (s : List ℕ) (b : ℕ) (t : Bool) → Some b ≡ slice_get s 0 → t ≡ between 3 8 b
+    → then_some (t && leb (1 + b * 2) (length s)) (1 + b * 2) ≡ taken (read_part s)
+unfolding byte_at
+part-sized [] b t e h = cc
+part-sized (x ∷ s) b t e h = let q : b ≡ x = cc in rw (h, q) (part-taken (x ∷ s))
 
 -- No bytes, no part.
-pub no_part : (s : List ℕ) → length s ≡ 0 → size_of (read_part s) ≡ 0
+pub no_part : (s : List ℕ) → None ≡ slice_get s 0 → None ≡ taken (read_part s)
 unfolding byte_at between
-no_part [] e = part-size-is []
-no_part (b ∷ s) e = absurd (omega arith)
-
--- ---- Parts
-
-part-takes : (s : List ℕ) (P : Part) (k : ℕ) → read_part s ≡ got P k → 7 ≤ k
-part-takes s P k e = let r = part-read s P k e in omega arith
-
--- Some parts take some bytes.
-pub parts-least : (n m : ℕ) (s : List ℕ) → Reads (many read_part n s) m → 1 ≤ n → 1 ≤ m
-parts-least n m s r h = omega (arith, many-least read_part 7 (λ t P k e. part-takes t P k e) n s _ m r)
+no_part [] e = part-taken []
+no_part (x ∷ s) e = cc
 
 -- ---- A kind
 
@@ -128,14 +127,6 @@ head_short s h = ap (λ b. b && between 1 12 (byte_at s 0) && between 1 15 (byte
 pub head_long : (s : List ℕ) → 4 ≤ length s → head_in_range s ≡ (between 1 12 (byte_at s 0) && between 1 15 (byte_at s 1) && between 1 6 (byte_at s 3))
 unfolding head_in_range
 head_long s h = ap (λ b. b && between 1 12 (byte_at s 0) && between 1 15 (byte_at s 1) && between 1 6 (byte_at s 3)) (le-leb 4 (length s) h)
-
--- A kind that cannot be read takes no byte, and only such a one.
-pub kind-none : (s : List ℕ) → size_of (read_kind s) ≡ 0 → read_kind s ≡ bad
-kind-none s e = go (read_kind s) refl e
-  where
-    go : (g : Got Kind) → read_kind s ≡ g → size_of g ≡ 0 → g ≡ bad
-    go bad q h = refl
-    go (got k m) q h = let z = (kind-read s k m q).head in let y : m ≡ 0 = sym (size_is (got k m) k m refl) ∙ h in absurd (omega arith)
 
 pub record HeadFits (s : List ℕ) : Type 0 where
   pub whole : 4 ≤ length s
@@ -151,33 +142,31 @@ head_fits s e =
 
 -- The size of a kind, from the size of its parts.
 module _ (s : List ℕ) where
-  pub kind-headless : head_in_range s ≡ false → 0 ≡ size_of (read_kind s)
-  unfolding read_kind size_of
+  pub kind-headless : head_in_range s ≡ false → None ≡ taken (read_kind s)
+  unfolding read_kind taken
   kind-headless e = rw (e, read_kind)
 
   read_kind-parts : head_in_range s ≡ true → read_kind s ≡ with_parts s (many read_part (byte_at s 3) (drop 4 s))
   unfolding read_kind
   read_kind-parts e = rw (e, read_kind)
 
-  size-parts : (g : Got (List Part)) → 0 < size_of g → 4 + size_of g ≡ size_of (with_parts s g)
-  unfolding size_of with_parts
-  size-parts bad h = absurd (omega arith)
-  size-parts (got ps m) h = refl
+  with-taken : (g : Got (List Part)) (k : ℕ) → taken g ≡ Some k → Some (4 + k) ≡ taken (with_parts s g)
+  unfolding taken with_parts
+  with-taken bad k e = cc
+  with-taken (got ps m) k e = let q : m ≡ k = cc in ap (λ j. Some (4 + j)) (sym q)
 
-  -- The n parts behind the fields take r bytes.
-  pub kind-taken : (r n : ℕ) → head_in_range s ≡ true → n ≡ byte_at s 3 → r ≡ size_of (many read_part n (take (length s - 4) (drop 4 s))) → (r ≡ 0 → ⊥)
-      → 4 + r ≡ size_of (read_kind s)
-  kind-taken r n h en e z =
-      let q : r ≡ size_of (many read_part (byte_at s 3) (drop 4 s)) = e ∙ ap₂ (λ m l. size_of (many read_part m l)) en (tail s 4) in
-      ap (λ x. 4 + x) q ∙ size-parts (many read_part (byte_at s 3) (drop 4 s)) (omega arith) ∙ sym (ap size_of (read_kind-parts h))
+  with-none : (g : Got (List Part)) → taken g ≡ None → None ≡ taken (with_parts s g)
+  unfolding taken with_parts
+  with-none bad e = refl
+  with-none (got ps m) e = cc
 
-  no_parts : (g : Got (List Part)) → many read_part (byte_at s 3) (drop 4 s) ≡ g → 1 ≤ byte_at s 3 → size_of g ≡ 0 → 0 ≡ size_of (with_parts s g)
-  unfolding size_of with_parts
-  no_parts bad q h e = refl
-  no_parts (got ps m) q h e = absurd (omega (arith, parts-least _ m _ (reads-from _ ps m q) h))
+  -- The n parts behind the fields take r bytes, if they can be read.
+  module _ (r : Option ℕ) (n : ℕ) (h : head_in_range s ≡ true) (en : n ≡ byte_at s 3) (e : r ≡ taken (many read_part n (take (length s - 4) (drop 4 s)))) where
+    parts-taken : r ≡ taken (many read_part (byte_at s 3) (drop 4 s))
+    parts-taken = e ∙ ap₂ (λ m l. taken (many read_part m l)) en (tail s 4)
 
-  pub kind-refused : (r n : ℕ) → head_in_range s ≡ true → n ≡ byte_at s 3 → r ≡ size_of (many read_part n (take (length s - 4) (drop 4 s))) → r ≡ 0
-      → 0 ≡ size_of (read_kind s)
-  kind-refused r n h en e z =
-      let q : r ≡ size_of (many read_part (byte_at s 3) (drop 4 s)) = e ∙ ap₂ (λ m l. size_of (many read_part m l)) en (tail s 4) in
-      no_parts (many read_part (byte_at s 3) (drop 4 s)) refl (head_fits s h).parts_least (sym q ∙ z) ∙ sym (ap size_of (read_kind-parts h))
+    pub kind-taken : (k : ℕ) → r ≡ Some k → Some (4 + k) ≡ taken (read_kind s)
+    kind-taken k z = with-taken (many read_part (byte_at s 3) (drop 4 s)) k (sym parts-taken ∙ z) ∙ sym (ap taken (read_kind-parts h))
+
+    pub kind-refused : r ≡ None → None ≡ taken (read_kind s)
+    kind-refused z = with-none (many read_part (byte_at s 3) (drop 4 s)) (sym parts-taken ∙ z) ∙ sym (ap taken (read_kind-parts h))

@@ -1,5 +1,5 @@
 -- Records as the readers of the code see them: how many bytes they take, and what they hold.
-use Rattle.std.specs.Prelude.{List, [], ◌≡◌, ℕ}
+use Rattle.std.specs.Prelude.{List, [], ◌≡◌, ℕ, Option, Some, None}
 use Rattle.model.specs.Format.{Got, bad, got}
 
 module _ {A : Type 0} where
@@ -7,6 +7,11 @@ module _ {A : Type 0} where
   unfoldable pub size_of : Got A → ℕ
   size_of bad = 0
   size_of (got a k) = k
+
+  -- How many bytes were taken, if there was something to read.
+  unfoldable pub taken : Got A → Option ℕ
+  taken bad = None
+  taken (got a k) = Some k
 
   -- What was read.
   unfoldable pub value_of : A → Got A → A

@@ -30,16 +30,13 @@ pub fn unfit(job: &[u8], at: usize, n: usize, list: &[u8], kinds: usize) -> bool
     let mut here = 0;
     let mut demand = 0;
     let mut present = true;
-    let mut t = 0;
-    while t < kinds {
-        let size = sizes::kind_size(&list[here..]);
-        if size == 0 {
+    for _ in 0..kinds {
+        let Some(size) = sizes::kind_size(&list[here..]) else {
             return true;
-        }
+        };
         demand += fields::byte(list, here);
-        present = present & none_absent(job, at, n, fields::byte(list, here + 2));
+        present &= none_absent(job, at, n, fields::byte(list, here + 2));
         here += size;
-        t += 1;
     }
-    !(here == list.len()) | (12 < demand) | !present
+    (here != list.len()) | (12 < demand) | !present
 }

@@ -1,41 +1,31 @@
-// How many bytes a part and a type record take. 0 says that none can stand there.
-ghost use Rattle.std.specs.Prelude.{◌≡◌, ◌≤◌, ◌<◌, length};
+// How many bytes a part and a type record take, where one can stand.
+ghost use Rattle.std.specs.Prelude.{IfSome, ◌≡◌, ◌≤◌, ◌<◌, length};
 ghost use Rattle.model.specs.Format.{many, read_part, read_kind, head_in_range};
-ghost use Rattle.records.specs.Records.{size_of};
+ghost use Rattle.records.specs.Records.{taken};
 
 use frame::fields;
 
 // The part at the front of a piece of the type list that begins at the part: the number of its corners, then two bytes for each.
-pub fn part_size(part: &[u8]) -> usize
-    ensures { (result ≡ size_of (read_part part.now)) × (result ≤ length part.now) }
+pub fn part_size(part: &[u8]) -> Option<usize>
+    ensures value { result ≡ taken (read_part part.now) }
+    ensures within { IfSome result (λ size. size ≤ length part.now) }
 {
-    if part.len() == 0 {
-        return 0;
-    }
-    let corners = fields::byte(part, 0);
+    let corners = usize::from(*part.first()?);
     let size = 1 + corners * 2;
-    if fields::in_range(3, 8, corners) & (size <= part.len()) {
-        return size;
-    }
-    0
+    (fields::in_range(3, 8, corners) & (size <= part.len())).then_some(size)
 }
 
 // The n parts at the front.
-fn parts_size(parts: &[u8], n: usize) -> usize
-    requires { (1 ≤ n) × (n < 256) }
-    ensures { (result ≡ size_of (many read_part n parts.now)) × (result ≤ length parts.now) }
+fn parts_size(parts: &[u8], n: usize) -> Option<usize>
+    requires { n < 256 }
+    ensures value { result ≡ taken (many read_part n parts.now) }
+    ensures within { IfSome result (λ size. size ≤ length parts.now) }
 {
     let mut at = 0;
-    let mut i = 0;
-    while i < n {
-        let size = part_size(&parts[at..]);
-        if size == 0 {
-            return 0;
-        }
-        at += size;
-        i += 1;
+    for _ in 0..n {
+        at += part_size(&parts[at..])?;
     }
-    at
+    Some(at)
 }
 
 // The four fields in front of a type's parts are there and in range.
@@ -51,15 +41,13 @@ fn head_in_range(kind: &[u8]) -> bool
 }
 
 // The type record at the front.
-pub fn kind_size(kind: &[u8]) -> usize
-    ensures { (result ≡ size_of (read_kind kind.now)) × (result ≤ length kind.now) }
+pub fn kind_size(kind: &[u8]) -> Option<usize>
+    ensures value { result ≡ taken (read_kind kind.now) }
+    ensures within { IfSome result (λ size. size ≤ length kind.now) }
 {
     if !head_in_range(kind) {
-        return 0;
+        return None;
     }
-    let size = parts_size(&kind[4..], fields::byte(kind, 3));
-    if size == 0 {
-        return 0;
-    }
-    4 + size
+    let parts = parts_size(&kind[4..], fields::byte(kind, 3))?;
+    Some(4 + parts)
 }

@@ -1,21 +1,25 @@
 use mathlib.Core.List.{[]}
-use mathlib.Core.Path.{sym}
+use mathlib.Core.Path.{◌∙◌}
 use native.Mathlib.Omega.{arith}
 use Rattle.model.specs.Format.{read_part}
-use Rattle.records.proofs.RecordLaws.{reads_none, part_none, step, stop, done, size-bad, tail_length}
+use Rattle.records.proofs.RecordLaws.{reads_none, step, stop, done, none-taken, tail_length}
 use Rattle.records.proofs.sizes.parts_size.Goals as goal
 
-pub loop-i-init : goal.loop-i-init
-loop-i-init c = (omega arith, reads_none read_part _)
+pub loop-init : goal.loop-init
+loop-init c = (omega arith, reads_none read_part _)
 
-pub returns-then-size-eq0 : goal.returns-then-size-eq0
-returns-then-size-eq0 c = (sym (size-bad _ (stop read_part [] part_none c.args.parts.now c.loop-i.i c.args.n c.loop-i.at _ c.loop-i-test.true c.loop-i.invariant.1 c.part_size-size.ensures.0 c.if-size-eq0.true)), omega arith)
+pub returns-in_err-at-clause-value : goal.returns-in_err-at-clause-value
+returns-in_err-at-clause-value c =
+    c.from_residual.ensures
+    ∙ none-taken _ (stop read_part c.args.parts.now c.loop.at c.part_size.result c.part_size.ensures.value c.loop.counter c.args.n c.loop-test.true
+    c.loop.invariant.1 c.in_err-at.was)
 
-pub overflow_add-at : goal.overflow_add-at
-overflow_add-at c = omega (arith, tail_length c.args.parts.now c.loop-i.at)
+pub loop-preserved : goal.loop-preserved
+loop-preserved c = (
+  omega (arith, tail_length c.args.parts.now c.loop.at, c.in_ok-at.ensures.within),
+  step read_part c.args.parts.now c.loop.at c.part_size.result c.part_size.ensures.value [] c.loop.counter c.in_ok-at.field-0 c.loop.invariant.1
+      c.in_ok-at.was,
+)
 
-pub loop-i-preserved : goal.loop-i-preserved
-loop-i-preserved c = (omega (arith, tail_length c.args.parts.now c.loop-i.at), step read_part [] part_none c.args.parts.now c.loop-i.i c.loop-i.at _ c.loop-i.invariant.1 c.part_size-size.ensures.0 c.if-size-eq0.false)
-
-pub returns : goal.returns
-returns c = (done read_part [] part_none c.args.parts.now c.loop-i.i c.args.n c.loop-i.at (omega arith) c.loop-i.invariant.1, omega arith)
+pub returns-clause-value : goal.returns-clause-value
+returns-clause-value c = done read_part c.args.parts.now c.loop.counter c.args.n c.loop.at (omega arith) c.loop.invariant.1
