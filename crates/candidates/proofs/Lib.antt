@@ -2,3 +2,4 @@
 pub mod PlacementLaws
 pub mod ConflictLaws
 pub mod PreparedLaws
+pub mod StandingLaws

@@ -1,9 +1,9 @@
 -- The test of a placement, step by step as the code makes it. Assumes nothing.
-use mathlib.Core.Bool.{Bool, true, false, not, ◌&&◌, ◌||◌}
+use mathlib.Core.Bool.{Bool, cond, true, false, not, ◌&&◌, ◌||◌}
 use mathlib.Core.List.{[], ◌∷◌}
 use mathlib.Core.Logic.{◌⊎◌, ⊎_elim}
 use mathlib.Core.Path.{◌≡◌, refl, sym, ap, ap₂, subst, ◌∙◌}
-use Prim.Native.Nat.{ℕ, ◌+◌, ◌%◌, ◌^◌, ◌≤◌, ◌<◌}
+use Prim.Native.Nat.{ℕ, zero, suc, ◌+◌, ◌%◌, ◌^◌, ◌≤◌, ◌<◌}
 use native.Mathlib.Nat.{le_trans, lt_of_le_of_lt}
 use native.Mathlib.Omega.{arith}
 use borrow.Author.Tests.{lt-ltb, le-ltb, le-leb, lt-leb, leb-false, not-true, not-false}
@@ -13,6 +13,7 @@ use lib.Signed.{lt_z, non_neg, ◌<ℤ◌}
 use mir.Syntax.{w16, w64}
 use mir.Val.{Fits, SFits, to_z, of_z}
 use mir.ValLaws.{to_z-of_z, to_z_pos}
+use Rattle.std.specs.Int.{int_max}
 use Rattle.integers.proofs.Order.{lt_z_true, lt_z_false, <ℤ-pos}
 use Rattle.integers.proofs.Products.{widened}
 use Rattle.integers.proofs.Sizes.{bounded, size_of, fits-64}
@@ -60,18 +61,20 @@ module _ (l m : ℕ) (hl : l ≤ 1000) (hm : m ≤ 1000) where
 
 -- ---- an end
 
-pub end_before : (z : ℤ) → lt_z z (pos 0) ≡ true → 0 ≡ natural z
+-- the larger of a number and 0
+end-at : (z : ℤ) → int_max z (pos 0) ≡ pos (natural z)
 unfolding natural
-end_before (pos n) e = absurd (never (<ℤ-pos (lt_z_true (pos n) (pos 0) e)))
-  where
-    never : n < 0 → ⊥
-    never h = omega arith
-end_before (negsuc n) e = refl
+end-at (pos zero) = refl
+end-at (pos (suc n)) = ap (λ b. cond b (pos (suc n)) (pos 0)) (lt-ltb 0 (suc n) (omega arith))
+end-at (negsuc n) = refl
 
-pub end-number : (z : ℤ) → lt_z z (pos 0) ≡ false → nat_abs z ≡ natural z
+pub end_is : {y : ℤ} (r v : ℤ) → SFits w64 r → r ≡ int_max v (pos 0) → v ≡ y → to_z w64 (of_z w64 r) ≡ pos (natural y)
+end_is r v f e g = to_z-of_z w64 r f ∙ e ∙ ap (λ z. int_max z (pos 0)) g ∙ end-at _
+
+natural-most : (z : ℤ) → natural z ≤ nat_abs z
 unfolding natural
-end-number (pos n) e = refl
-end-number (negsuc n) e = absurd (lt_z_false (negsuc n) (pos 0) e).le
+natural-most (pos n) = omega arith
+natural-most (negsuc n) = omega arith
 
 pub end-nonneg : (z : ℤ) → lt_z z (pos 0) ≡ false → T (non_neg z)
 end-nonneg (pos n) e = tt
@@ -117,5 +120,5 @@ allowed a b t y r ea eb et e = rw (ea, eb, et) e
 pub both : {a b c d : Bool} → a ≡ b → c ≡ d → (a && c) ≡ (b && d)
 both p q = ap₂ ◌&&◌ p q
 
-pub end_fits : (z : ℤ) (n : ℕ) → SFits w16 z → n ≤ 1000 → Fits w64 (nat_abs (z +ℤ pos n))
-end_fits z n f h = record { fits = lt_of_le_of_lt (bounded (2 ^ 15 ∷ 1000 ∷ []) 2 (λ z n. z ⊞ n) z (pos n) (size_of w16 z f) h) (lit< tt) }
+pub end_fits : (z : ℤ) (n : ℕ) → SFits w16 z → n ≤ 1000 → Fits w64 (natural (z +ℤ pos n))
+end_fits z n f h = record { fits = lt_of_le_of_lt (le_trans (natural-most (z +ℤ pos n)) (bounded (2 ^ 15 ∷ 1000 ∷ []) 2 (λ z n. z ⊞ n) z (pos n) (size_of w16 z f) h)) (lit< tt) }

@@ -38,7 +38,7 @@ use Rattle.geometry.specs.declared.pieces.Piece.{Piece}
 use Rattle.shapes.specs.Boxes.{box_at, turned_vertices, BoxesOf}
 use Rattle.shapes.specs.Pieces.{PieceOf}
 use Rattle.candidates.specs.Placements.{Bounded, within, fits_at, placeable, offered, extent_at}
-use Rattle.candidates.specs.Conflicts.{placed_of, Near, conflict_between, gap_between, view_gap}
+use Rattle.candidates.specs.Conflicts.{placement_at, placed_of, Near, conflict_between, gap_between, view_gap}
 use Rattle.shapes.specs.Turned.{TurnedOf}
 use Rattle.shapes.specs.declared.boxes.Boxes.{Boxes}
 use Rattle.candidates.specs.declared.conflicts.Placed.{Placed}
@@ -161,10 +161,6 @@ module _ (s : List ℕ) (v : View) (b : Boxes) (x : Viewed s v) (y : BoxesOf s b
       rw (y.exact t k h l, x.view.step) (sym (extent-placed (content s).sheet (kind_at (content s).kinds t) (placement c r k) (some-vertex s v x t h k)))
 
 -- ---- conflicts
-
--- The model's placement of a place.
-abbrev pub placement_at : Placed → Placement
-placement_at a = placement a.column a.row a.rotation
 
 module _ (s : List ℕ) (v : View) (table : List ℤ) (x : Viewed s v) (z : TurnedOf s table) (t u : ℕ) (ht : t < kind_count (content s).kinds) (hu : u < kind_count (content s).kinds)
     (p q : Piece) (ep : PieceOf s t p) (eq : PieceOf s u q) where

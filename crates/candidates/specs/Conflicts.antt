@@ -1,6 +1,7 @@
 -- Two pieces on their dots, and their conflict, as the code computes it. The laws say that it is the model's `conflict`.
 use Rattle.std.specs.Prelude.{Bool, cond, List, map, ℕ, ◌*◌, ◌/◌, ◌%◌, ◌≤◌, ◌<◌, max, ℤ, pos, ◌-ℤ◌, get_or}
 use Rattle.model.specs.Geometry.{pieces_conflict}
+use Rattle.model.specs.Grid.{Placement, placement}
 use Rattle.polygons.specs.Flat.{shifted}
 use Rattle.job.specs.Gaps.{same_cut}
 use Rattle.job.specs.View.{Viewed}
@@ -22,6 +23,10 @@ pub record Prepared (s : List ℕ) (v : View) (table : List ℤ) (b : Boxes) : T
 -- A place on the dots, by column, row and rotation.
 abbrev pub placed : ℕ → ℕ → ℕ → Placed
 placed c r k = record { column = c; row = r; rotation = k }
+
+-- The model's placement of a place.
+abbrev pub placement_at : Placed → Placement
+placement_at a = placement a.column a.row a.rotation
 
 -- The place of this candidate number, on a board of so many rows.
 abbrev pub placed_of : ℕ → ℕ → Placed

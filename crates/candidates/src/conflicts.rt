@@ -80,7 +80,7 @@ pub fn gap_between(g: usize, h: usize, shared: bool) -> u16
     if shared {
         return 0;
     }
-    if g < h { h as u16 } else { g as u16 }
+    g.max(h) as u16
 }
 
 // The gap of a pair of kinds.
@@ -88,6 +88,5 @@ pub fn pair_gap(view: View, kind: usize, other: usize) -> u16
     requires { Bounded view × ((kind < view.kinds) × (other < view.kinds)) }
     ensures { result ≡ view_gap view kind other }
 {
-    let gaps = view.gaps;
-    gap_between(gaps[kind], gaps[other], share_cut(view, kind, other))
+    gap_between(view.gaps[kind], view.gaps[other], share_cut(view, kind, other))
 }

@@ -3,6 +3,7 @@ ghost use Rattle.std.specs.Prelude.{◌≡◌, ◌+◌, ◌*◌, ◌≤◌, ◌<
 ghost use Rattle.model.specs.Candidate.{natural};
 ghost use Rattle.candidates.specs.Placements.{Bounded, within, fits_at, placeable, offered, extent_at};
 
+use crate::conflicts::{Placed, placed_of};
 use job::View;
 use polygons::extents::Extents;
 use shapes::boxes::{Boxes, box_at};
@@ -16,40 +17,27 @@ fn stays_within(low: i16, high: i16, by: usize, margin: usize, limit: usize) -> 
         & ((high as i64) + (by as i64) <= (limit as i64) - (margin as i64))
 }
 
-// Whether a box stays on the board, clear of the margin, if it is moved to a column and a row.
-fn stays_on_board(view: View, e: Extents, column: usize, row: usize) -> bool
-    requires { Bounded view × ((column < view.columns) × (row < view.rows)) }
-    ensures { result ≡ fits_at view e column row }
+// Whether a box stays on the board, clear of the margin, if it is moved to a place.
+fn stays_on_board(view: View, e: Extents, place: Placed) -> bool
+    requires { Bounded view × ((place.column < view.columns) × (place.row < view.rows)) }
+    ensures { result ≡ fits_at view e place.column place.row }
 {
-    stays_within(
-        e.min_x,
-        e.max_x,
-        column * view.step,
-        view.margin,
-        view.length,
-    ) & stays_within(e.min_y, e.max_y, row * view.step, view.margin, view.width)
+    stays_within(e.min_x, e.max_x, place.column * view.step, view.margin, view.length)
+        & stays_within(e.min_y, e.max_y, place.row * view.step, view.margin, view.width)
 }
 
-// Whether a kind may stand on this dot at this rotation.
-pub fn is_placement(
-    view: View,
-    boxes: Boxes,
-    kind: usize,
-    column: usize,
-    row: usize,
-    rotation: usize,
-) -> bool
+// Whether a kind may stand at a place.
+pub fn is_placement(view: View, boxes: Boxes, kind: usize, place: Placed) -> bool
     requires { Bounded view × (kind < view.kinds) }
-    ensures { result ≡ placeable view boxes kind column row rotation }
+    ensures { result ≡ placeable view boxes kind place.column place.row place.rotation }
 {
-    if (column >= view.columns) | (row >= view.rows) {
+    if (place.column >= view.columns) | (place.row >= view.rows) {
         return false;
     }
-    let masks = view.rotations;
-    if (rotation >= 4) | !words::bits::test_bit(masks[kind] as u64, rotation as u64) {
+    if (place.rotation >= 4) | !words::bits::test_bit(view.rotations[kind] as u64, place.rotation as u64) {
         return false;
     }
-    stays_on_board(view, box_at(boxes, kind, rotation), column, row)
+    stays_on_board(view, box_at(boxes, kind, place.rotation), place)
 }
 
 // Whether a kind has a candidate of this number.
@@ -57,15 +45,7 @@ pub fn is_candidate(view: View, boxes: Boxes, kind: usize, number: usize) -> boo
     requires { Bounded view × (kind < view.kinds) }
     ensures { result ≡ offered view boxes kind number }
 {
-    let rows = view.rows;
-    is_placement(
-        view,
-        boxes,
-        kind,
-        number / 4 / rows,
-        number / 4 % rows,
-        number % 4,
-    )
+    is_placement(view, boxes, kind, placed_of(view.rows, number))
 }
 
 // The x of what ends at `high`, moved by this much; 0 where that lies before the board.
@@ -74,17 +54,14 @@ pub fn end_of(high: i16, by: usize) -> usize
     ensures { result ≡ natural (high +ℤ pos by) }
 {
     let x = (high as i64) + (by as i64);
-    if x < 0 {
-        return 0;
-    }
-    x as usize
+    x.max(0) as usize
 }
 
-// The largest x of a kind at a column and a rotation.
-pub fn extent(view: View, boxes: Boxes, kind: usize, column: usize, rotation: usize) -> usize
-    requires { (Bounded view × (kind < view.kinds)) × ((column < view.columns) × (rotation < 4)) }
-    ensures { result ≡ extent_at view boxes kind column rotation }
+// The largest x of a kind at a place.
+pub fn extent(view: View, boxes: Boxes, kind: usize, place: Placed) -> usize
+    requires { (Bounded view × (kind < view.kinds)) × ((place.column < view.columns) × (place.rotation < 4)) }
+    ensures { result ≡ extent_at view boxes kind place.column place.rotation }
 {
-    let e = box_at(boxes, kind, rotation);
-    end_of(e.max_x, column * view.step)
+    let e = box_at(boxes, kind, place.rotation);
+    end_of(e.max_x, place.column * view.step)
 }

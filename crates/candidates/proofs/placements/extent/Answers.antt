@@ -14,8 +14,8 @@ use Rattle.candidates.proofs.placements.extent.Goals as goal
 pub box_at-e-requires : goal.box_at-e-requires
 box_at-e-requires c = (omega (arith, c.requires.0.0.kinds, c.requires.0.1), c.requires.1.1)
 
-pub overflow_mul-column : goal.overflow_mul-column
-overflow_mul-column c = omega (arith, c.requires.0.0.across _ c.requires.1.0)
+pub overflow_mul-place : goal.overflow_mul-place
+overflow_mul-place c = omega (arith, c.requires.0.0.across _ c.requires.1.0)
 
 pub end_of-requires : goal.end_of-requires
 end_of-requires c = omega (arith, c.requires.0.0.across _ c.requires.1.0)
@@ -23,7 +23,7 @@ end_of-requires c = omega (arith, c.requires.0.0.across _ c.requires.1.0)
 pub returns : goal.returns
 unfolding extent_at
 returns c =
-    let by = c.args.column * c.args.view.step in
+    let by = c.args.place.column * c.args.view.step in
     c.end_of.ensures
     ∙ ap (λ z. natural (z +ℤ pos by)) (to_z-of_z w16 c.box_at-e.result.max_x (sfits_of c.struct_told-1.given.1.0.1))
     ∙ ap (λ (b : Extents). natural (b.max_x +ℤ pos by)) c.box_at-e.ensures

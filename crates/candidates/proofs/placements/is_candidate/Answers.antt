@@ -1,8 +1,10 @@
--- `candidates::placements::is_candidate` meets its contract. Assumes nothing.
-use Rattle.candidates.specs.Placements.{offered}
-use borrow.Author.Rules.{rules}
+use mathlib.Core.Path.{ap, ◌∙◌}
+use Rattle.candidates.specs.Placements.{placeable, offered}
+use Rattle.candidates.specs.declared.conflicts.Placed.{Placed}
 use Rattle.candidates.proofs.placements.is_candidate.Goals as goal
 
 pub returns : goal.returns
 unfolding offered
-returns c = c.is_placement.ensures
+returns c =
+    c.is_placement.ensures
+    ∙ ap (λ (a : Placed). placeable c.args.view c.args.boxes c.args.kind a.column a.row a.rotation) c.placed_of.ensures

@@ -14,33 +14,33 @@ use Rattle.candidates.proofs.PlacementLaws.{past_board, on_dots, turn-refused, t
 use borrow.Author.Rules.{rules}
 use Rattle.candidates.proofs.placements.is_placement.Goals as goal
 
-pub returns-then-column-view : goal.returns-then-column-view
+pub returns-then-place-view : goal.returns-then-place-view
 unfolding placeable
-returns-then-column-view c = past_board c.args.column c.args.view.columns c.args.row c.args.view.rows _ _ c.if-column-view.true
+returns-then-place-view c = past_board c.args.place.column c.args.view.columns c.args.place.row c.args.view.rows _ _ c.if-place-view.true
 
-pub returns-then-rotation-test_bit : goal.returns-then-rotation-test_bit
+pub returns-then-place-test_bit : goal.returns-then-place-test_bit
 unfolding placeable
-returns-then-rotation-test_bit c =
-    refused-turn (ltb c.args.column c.args.view.columns) (ltb c.args.row c.args.view.rows) _
-    (fits_at c.args.view (box_at c.args.boxes c.args.kind c.args.rotation) c.args.column c.args.row) (turn-refused (get_or c.args.view.rotations c.args.kind 0) c.args.rotation _ (c.requires.0.rotations _ c.requires.1) c.test_bit.ensures c.if-rotation-test_bit.true)
+returns-then-place-test_bit c =
+    refused-turn (ltb c.args.place.column c.args.view.columns) (ltb c.args.place.row c.args.view.rows) _
+    (fits_at c.args.view (box_at c.args.boxes c.args.kind c.args.place.rotation) c.args.place.column c.args.place.row) (turn-refused (get_or c.args.view.rotations c.args.kind 0) c.args.place.rotation _ (c.requires.0.rotations _ c.requires.1) c.test_bit.ensures c.if-place-test_bit.true)
 
 pub box_at-requires : goal.box_at-requires
 box_at-requires c =
-    let turn : (c.args.rotation < 4)
-    × (test_bit (get_or c.args.view.rotations c.args.kind 0) c.args.rotation ≡ true) = turn-allowed (get_or c.args.view.rotations c.args.kind 0) c.args.rotation _ (c.requires.0.rotations _ c.requires.1) c.test_bit.ensures c.if-rotation-test_bit.false in
+    let turn : (c.args.place.rotation < 4)
+    × (test_bit (get_or c.args.view.rotations c.args.kind 0) c.args.place.rotation ≡ true) = turn-allowed (get_or c.args.view.rotations c.args.kind 0) c.args.place.rotation _ (c.requires.0.rotations _ c.requires.1) c.test_bit.ensures c.if-place-test_bit.false in
     (omega (arith, c.requires.0.kinds, c.requires.1), (turn).0)
 
 pub stays_on_board-requires : goal.stays_on_board-requires
 stays_on_board-requires c =
-    let dots : (c.args.column < c.args.view.columns) × (c.args.row < c.args.view.rows) = on_dots c.args.column c.args.view.columns c.args.row c.args.view.rows c.if-column-view.false in
+    let dots : (c.args.place.column < c.args.view.columns) × (c.args.place.row < c.args.view.rows) = on_dots c.args.place.column c.args.view.columns c.args.place.row c.args.view.rows c.if-place-view.false in
     (c.requires.0, dots)
 
 pub returns : goal.returns
 unfolding placeable
 returns c =
-    let dots : (c.args.column < c.args.view.columns) × (c.args.row < c.args.view.rows) = on_dots c.args.column c.args.view.columns c.args.row c.args.view.rows c.if-column-view.false in
-    let turn : (c.args.rotation < 4)
-    × (test_bit (get_or c.args.view.rotations c.args.kind 0) c.args.rotation ≡ true) = turn-allowed (get_or c.args.view.rotations c.args.kind 0) c.args.rotation _ (c.requires.0.rotations _ c.requires.1) c.test_bit.ensures c.if-rotation-test_bit.false in
+    let dots : (c.args.place.column < c.args.view.columns) × (c.args.place.row < c.args.view.rows) = on_dots c.args.place.column c.args.view.columns c.args.place.row c.args.view.rows c.if-place-view.false in
+    let turn : (c.args.place.rotation < 4)
+    × (test_bit (get_or c.args.view.rotations c.args.kind 0) c.args.place.rotation ≡ true) = turn-allowed (get_or c.args.view.rotations c.args.kind 0) c.args.place.rotation _ (c.requires.0.rotations _ c.requires.1) c.test_bit.ensures c.if-place-test_bit.false in
     let on = dots in
     allowed _ _ _ _ _ (lt-ltb _ _ on.0) (lt-ltb _ _ on.1) (turn).1
-    (c.stays_on_board.ensures ∙ ap (λ (b : Extents). fits_at c.args.view b c.args.column c.args.row) c.box_at.ensures)
+    (c.stays_on_board.ensures ∙ ap (λ (b : Extents). fits_at c.args.view b c.args.place.column c.args.place.row) c.box_at.ensures)

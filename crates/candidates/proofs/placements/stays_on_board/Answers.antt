@@ -9,14 +9,14 @@ use native.Mathlib.Omega.{arith}
 use Rattle.candidates.specs.Placements.{within, fits_at}
 use Rattle.candidates.proofs.placements.stays_on_board.Goals as goal
 
-pub overflow_mul-column : goal.overflow_mul-column
-overflow_mul-column c = omega (arith, c.requires.0.across _ c.requires.1.0)
+pub overflow_mul-place : goal.overflow_mul-place
+overflow_mul-place c = omega (arith, c.requires.0.across _ c.requires.1.0)
 
 pub stays_within-requires : goal.stays_within-requires
 stays_within-requires c = (omega (arith, c.requires.0.across _ c.requires.1.0), (c.requires.0.margin, c.requires.0.size.0))
 
-pub overflow_mul-row : goal.overflow_mul-row
-overflow_mul-row c = omega (arith, c.requires.0.up _ c.requires.1.1)
+pub overflow_mul-place-2 : goal.overflow_mul-place-2
+overflow_mul-place-2 c = omega (arith, c.requires.0.up _ c.requires.1.1)
 
 pub stays_within-requires-2 : goal.stays_within-requires-2
 stays_within-requires-2 c = (omega (arith, c.requires.0.up _ c.requires.1.1), (c.requires.0.margin, c.requires.0.size.1))
@@ -24,9 +24,9 @@ stays_within-requires-2 c = (omega (arith, c.requires.0.up _ c.requires.1.1), (c
 pub returns : goal.returns
 unfolding fits_at
 returns c =
-    let x : c.stays_within.result ≡ within c.args.e.min_x c.args.e.max_x (c.args.column * c.args.view.step) c.args.view.margin c.args.view.length =
+    let x : c.stays_within.result ≡ within c.args.e.min_x c.args.e.max_x (c.args.place.column * c.args.view.step) c.args.view.margin c.args.view.length =
     c.stays_within.ensures ∙ search rules in
-    let y : c.stays_within-2.result ≡ within c.args.e.min_y c.args.e.max_y (c.args.row * c.args.view.step) c.args.view.margin c.args.view.width =
+    let y : c.stays_within-2.result ≡ within c.args.e.min_y c.args.e.max_y (c.args.place.row * c.args.view.step) c.args.view.margin c.args.view.width =
     c.stays_within-2.ensures
-    ∙ read₂ w16 c.args.e.min_y c.args.e.max_y (search (rules, c.struct_told-3-1.given)) (search (rules, c.struct_told-4-1.given)) (λ low high. within low high (c.args.row * c.args.view.step) c.args.view.margin c.args.view.width) in
+    ∙ read₂ w16 c.args.e.min_y c.args.e.max_y (search (rules, c.struct_told-3-1.given)) (search (rules, c.struct_told-4-1.given)) (λ low high. within low high (c.args.place.row * c.args.view.step) c.args.view.margin c.args.view.width) in
     both x y
