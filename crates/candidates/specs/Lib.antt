@@ -2,3 +2,4 @@
 pub mod Placements
 pub mod Conflicts
 pub mod Facts
+pub mod Prepared

@@ -88,5 +88,9 @@ pub fn pair_gap(view: View, kind: usize, other: usize) -> u16
     requires { Bounded view × ((kind < view.kinds) × (other < view.kinds)) }
     ensures { result ≡ view_gap view kind other }
 {
-    gap_between(view.gaps[kind], view.gaps[other], share_cut(view, kind, other))
+    gap_between(
+        view.gaps[kind],
+        view.gaps[other],
+        share_cut(view, kind, other),
+    )
 }

@@ -22,8 +22,19 @@ fn stays_on_board(view: View, e: Extents, place: Placed) -> bool
     requires { Bounded view × ((place.column < view.columns) × (place.row < view.rows)) }
     ensures { result ≡ fits_at view e place.column place.row }
 {
-    stays_within(e.min_x, e.max_x, place.column * view.step, view.margin, view.length)
-        & stays_within(e.min_y, e.max_y, place.row * view.step, view.margin, view.width)
+    stays_within(
+        e.min_x,
+        e.max_x,
+        place.column * view.step,
+        view.margin,
+        view.length,
+    ) & stays_within(
+        e.min_y,
+        e.max_y,
+        place.row * view.step,
+        view.margin,
+        view.width,
+    )
 }
 
 // Whether a kind may stand at a place.
@@ -34,7 +45,9 @@ pub fn is_placement(view: View, boxes: Boxes, kind: usize, place: Placed) -> boo
     if (place.column >= view.columns) | (place.row >= view.rows) {
         return false;
     }
-    if (place.rotation >= 4) | !words::bits::test_bit(view.rotations[kind] as u64, place.rotation as u64) {
+    if (place.rotation >= 4)
+        | !words::bits::test_bit(view.rotations[kind] as u64, place.rotation as u64)
+    {
         return false;
     }
     stays_on_board(view, box_at(boxes, kind, place.rotation), place)

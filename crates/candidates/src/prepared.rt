@@ -22,9 +22,10 @@ impl<'a> PreparedJob<'a> {
     ghost use Rattle.std.specs.Prelude.{true, ◌≡◌, ◌≤◌, ◌<◌};
     ghost use Rattle.model.specs.Candidate.{is_candidate};
     ghost use Rattle.model.specs.Layout.{entry, is_entry, entry_extent, conflict};
-    ghost use Rattle.job.specs.View.{problem_of, Viewed};
+    ghost use Rattle.job.specs.View.{Viewed};
     ghost use Rattle.shapes.specs.Turned.{TurnedOf};
     ghost use Rattle.candidates.specs.Conflicts.{placement_at};
+    ghost use Rattle.candidates.specs.Prepared.{problem_in};
 
     // Of a job whose parts are turned, as `turn_all` leaves them.
     pub fn new(job: &'a [u8], view: View, turned: &'a [i16]) -> Self
@@ -42,32 +43,31 @@ impl<'a> PreparedJob<'a> {
 
     // Whether a kind may stand at a place. Any numbers may be given: of a kind past the last one there is none.
     pub fn is_placement(&self, kind: usize, place: Placed) -> bool
-        ensures { result ≡ is_entry (problem_of self.now.job.now self.now.view) (entry kind (placement_at place)) }
+        ensures { result ≡ is_entry (problem_in self.now) (entry kind (placement_at place)) }
     {
-        kind < self.view.kinds
-            && placements::is_placement(self.view, self.boxes, kind, place)
+        kind < self.view.kinds && placements::is_placement(self.view, self.boxes, kind, place)
     }
 
     // Whether a kind has a candidate of this number.
     pub fn is_candidate(&self, kind: usize, number: usize) -> bool
         requires { kind < self.now.view.kinds }
-        ensures { result ≡ is_candidate (problem_of self.now.job.now self.now.view) kind number }
+        ensures { result ≡ is_candidate (problem_in self.now) kind number }
     {
         placements::is_candidate(self.view, self.boxes, kind, number)
     }
 
     // The end of a kind at a place where it may stand: on the board.
     pub fn extent(&self, kind: usize, place: Placed) -> usize
-        requires { is_entry (problem_of self.now.job.now self.now.view) (entry kind (placement_at place)) ≡ true }
-        ensures { (result ≡ entry_extent (problem_of self.now.job.now self.now.view) (entry kind (placement_at place))) × (result ≤ 1000) }
+        requires { is_entry (problem_in self.now) (entry kind (placement_at place)) ≡ true }
+        ensures { (result ≡ entry_extent (problem_in self.now) (entry kind (placement_at place))) × (result ≤ 1000) }
     {
         placements::extent(self.view, self.boxes, kind, place)
     }
 
     // Whether two kinds, each at a place where it may stand, are in conflict.
     pub fn in_conflict(&self, kind: usize, place: Placed, other: usize, at: Placed) -> bool
-        requires { (is_entry (problem_of self.now.job.now self.now.view) (entry kind (placement_at place)) ≡ true) × (is_entry (problem_of self.now.job.now self.now.view) (entry other (placement_at at)) ≡ true) }
-        ensures { result ≡ conflict (problem_of self.now.job.now self.now.view) (entry kind (placement_at place)) (entry other (placement_at at)) }
+        requires { (is_entry (problem_in self.now) (entry kind (placement_at place)) ≡ true) × (is_entry (problem_in self.now) (entry other (placement_at at)) ≡ true) }
+        ensures { result ≡ conflict (problem_in self.now) (entry kind (placement_at place)) (entry other (placement_at at)) }
     {
         let p = piece_of(self.job, self.view, kind);
         let q = piece_of(self.job, self.view, other);

@@ -60,4 +60,4 @@ returns c =
     c.conflict_between.ensures
     ∙ ap (conflict_between j.turned.now v.step p c.args.place q c.args.at) (c.pair_gap-gap.ensures ∙ gap_is s v x c.args.kind c.args.other ht hu)
     ∙ conflict-is s v j.turned.now x j.prepared.turned c.args.kind c.args.other ht hu p q c.piece_of-p.ensures c.piece_of-q.ensures v.margin
-      c.args.place c.args.at (turned-once s v x e c.requires.0) (turned-once s v x f c.requires.1)
+    c.args.place c.args.at (turned-once s v x e c.requires.0) (turned-once s v x f c.requires.1)
