@@ -14,6 +14,7 @@ use Rattle.model.specs.Layout.{Layout, entry_of, is_entry, largest_end}
 use Rattle.model.specs.Lists.{all, count_of, rising, below}
 use Rattle.model.specs.Problem.{Problem}
 use Rattle.model.specs.Search.{pieces, completed, latest, search_from, steps_from, held, copies_left}
+use Rattle.std.specs.Prelude.{Ok}
 use Rattle.model.specs.Services.{run_outcome, run_from, verdict, words_in, numbers_in, work_words, cleared, with_layout}
 use Rattle.model.proofs.Search.Pieces.{length-pieces, mem_pieces}
 use Rattle.stepping.specs.LiveSets.{set_of, bound_of, enough}
@@ -187,6 +188,6 @@ module _ (j : Problem) where
 
       -- All that a run answers and leaves, where its buffers are large enough.
       pub run-walk : (work out : List ℕ) → ltb (words_in work) (work_words j) ≡ false → ltb (numbers_in out) (4 * piece_count j.kinds) ≡ false
-          → run_from j begin budget work out ≡ run_outcome (answer_of j budget (walk_spent j begin budget)) (cleared j work) (with_layout (walk_spent j begin budget).held out)
+          → run_from j begin budget work out ≡ run_outcome (Ok (answer_of j budget (walk_spent j begin budget))) (cleared j work) (with_layout (walk_spent j begin budget).held out)
       unfolding run_from
       run-walk work out p q = rw (p, q, run_from, verdict-walk, held-walk)

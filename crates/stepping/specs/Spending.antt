@@ -5,8 +5,8 @@ use Rattle.model.specs.Layout.{Layout}
 use Rattle.model.specs.Problem.{Problem}
 use Rattle.model.specs.Search.{Step, latest}
 use Rattle.model.specs.Services.{held_as, finished_as}
-use Rattle.model.specs.declared.RunAnswer.{RunAnswer}
-use Rattle.model.specs.declared.RunAnswer.TheVariants as R
+use Rattle.model.specs.declared.Outcome.{Outcome}
+use Rattle.model.specs.declared.Outcome.TheVariants as O
 
 -- The state of a walk under a budget.
 pub record Spent : Type 0 where
@@ -29,6 +29,6 @@ unfoldable pub onward : Spent → List Step → Spent
 onward w ss = cond w.stopped w (spend w.left w.held ss)
 
 -- What a run of this budget answers where the walk left this.
-unfoldable pub answer_of : Problem → ℕ → Spent → RunAnswer
+unfoldable pub answer_of : Problem → ℕ → Spent → Outcome
 answer_of j budget w =
-    cond w.stopped (R.Stopped (held_as j w.held) (budget - w.left)) (finished_as j w.held (budget - w.left))
+    cond w.stopped (O.Stopped (held_as j w.held) (budget - w.left)) (finished_as j w.held (budget - w.left))
