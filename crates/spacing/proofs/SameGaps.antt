@@ -4,8 +4,7 @@ use mathlib.Core.List.{List, [], ◌∷◌, map, map-map}
 use mathlib.Core.Logic.{⊎_elim}
 use mathlib.Core.Option.{Option, none, some}
 use mathlib.Core.Path.{◌≡◌, refl, sym, ap, ap₂, ◌∙◌, fun_ext}
-use Prim.Native.Nat.{ℕ, zero, suc, ◌+◌, ◌*◌, ◌≤◌, ◌<◌}
-use native.Mathlib.Omega.{arith}
+use Prim.Native.Nat.{ℕ, zero, suc, ◌+◌, ◌*◌, ◌<◌}
 use lib.Dec.{leb, ltb, eqb}
 use lib.ListN.{length, get_or, replicate, length-map}
 use Rattle.words.specs.Bits.{bits_where}
@@ -21,10 +20,10 @@ use Rattle.model.specs.Lists.{all, any, keep, count_of, concat, sum, largest, be
 use Rattle.model.specs.Problem.{Problem, under}
 use Rattle.model.specs.Search.{Searched, step, searched, then, pieces, candidate_table, free, above_previous, stays_below, live, copies_left, forward_check, completed, try_candidates, search_pieces, search_from, length_of, steps_from, steps_needed, is_stopped, steps_taken, held}
 use Rattle.model.specs.Services.{words_in, numbers_in, with_words, write_outcome, refusal_under, cause12, row_bit, row_words, row_content, conflict_row, entry_in, layout_in, cause11, check_content, check, given_layout, given_unfit, run_outcome, walked, work_words, cleared, held_as, finished_as, step_count, verdict, run_from, run_content, run}
-use Rattle.model.specs.declared.Checked.TheVariants as C
-use Rattle.model.specs.declared.Held.TheVariants as HV
-use Rattle.model.specs.declared.RunAnswer.TheVariants as R
-use Rattle.model.specs.declared.Written.TheVariants as W
+use Rattle.std.specs.Prelude.{Ok, Err, Some}
+use Rattle.model.specs.Refusal.{numbered}
+use Rattle.model.specs.declared.Outcome.TheVariants as O
+use Rattle.model.specs.declared.Refusal.TheVariants as R
 use Rattle.model.proofs.Lists.{by_cond}
 use Rattle.model.proofs.SameAnswers.{under_same, alike}
 use Rattle.model.proofs.Turning.{no_parts}
@@ -226,11 +225,11 @@ module _ (b : Board) (m : ℕ) (cs ds : List SpacingClass) (ks ls : List Kind) (
     where
       held-as : (h : Option Layout) → held_as j h ≡ held_as i h
       held-as none = refl
-      held-as (some es) = ap (λ f. HV.Layout (f es)) length-same
+      held-as (some es) = ap (λ f. Some (f es)) length-same
 
       finished_as_lem : (h : Option Layout) → finished_as j h ≡ finished_as i h
       finished_as_lem none = refl
-      finished_as_lem (some es) = ap (λ f. λ steps. R.Shortest (f es) steps) length-same
+      finished_as_lem (some es) = ap (λ f. λ steps. O.Shortest (f es) steps) length-same
 
   -- ---- The services
   bit_same : (t n u k : ℕ) → row_bit j t n u k ≡ row_bit i t n u k
@@ -252,7 +251,7 @@ module _ (b : Board) (m : ℕ) (cs ds : List SpacingClass) (ks ls : List Kind) (
   unfolding row_content
   row_same t n u out =
       by_conds (cause12 j t n u) (ltb (words_in out) (set_words b)) _ _ _
-      ∙ ap₂ (λ c ws. cond c (write_outcome (W.Refused 12) out) (cond (ltb (words_in out) (set_words b)) (write_outcome (W.Refused 9) out) (write_outcome (W.Count (set_words b)) (with_words ws out))))
+      ∙ ap₂ (λ c ws. cond c (write_outcome (Err R.Candidate) out) (cond (ltb (words_in out) (set_words b)) (write_outcome (Err R.Answer) out) (write_outcome (Ok (set_words b)) (with_words ws out))))
       (cause_same t n u) (words_same t n u)
       ∙ sym (by_conds (cause12 i t n u) (ltb (words_in out) (set_words b)) _ _ _)
 
@@ -292,7 +291,7 @@ module _ (b : Board) (m : ℕ) (cs ds : List SpacingClass) (ks ls : List Kind) (
   unfolding run_content
   run-same budget given work out =
       by_cond (given_unfit j given) _ _
-      ∙ ap₂ (λ c r. cond c (run_outcome (R.Refused 11) work out) r) (given_same given).1
+      ∙ ap₂ (λ c r. cond c (run_outcome (Err R.Layout) work out) r) (given_same given).1
       (ap (λ begin. run_from j begin budget work out) (given_same given).0 ∙ from-same (given_layout i given) budget work out)
       ∙ sym (by_cond (given_unfit i given) _ _)
 
@@ -320,15 +319,15 @@ module _ (s t : List ℕ) (same : SameButClasses s t) (gaps : SameGaps s t) wher
   gaps-decide =
       record {
         rows = λ m k n u out. by_cond (eqb (refusal_under m s) 0) _ _
-            ∙ alike (λ r. write_outcome (W.Refused r) out) _ _ _ _ (margins_same m)
+            ∙ alike (λ r. write_outcome (Err (numbered r)) out) _ _ _ _ (margins_same m)
             (λ _. row_same (content s).sheet m (content s).classes (content t).classes (content s).kinds (content t).kinds same.kinds gaps k n u out ∙ ap (λ j. row_content j k n u out) (second m))
             ∙ sym (by_cond (eqb (refusal_under m t) 0) _ _);
         checking = λ m layout. by_cond (eqb (refusal_under m s) 0) _ _
-            ∙ alike (λ r. C.Refused r) _ _ _ _ (margins_same m)
+            ∙ alike (λ r. Err (numbered r)) _ _ _ _ (margins_same m)
             (λ _. check-same (content s).sheet m (content s).classes (content t).classes (content s).kinds (content t).kinds same.kinds gaps layout ∙ ap (λ j. check_content j layout) (second m))
             ∙ sym (by_cond (eqb (refusal_under m t) 0) _ _);
         running = λ m budget given work out. by_cond (eqb (refusal_under m s) 0) _ _
-            ∙ alike (λ r. run_outcome (R.Refused r) work out) _ _ _ _ (margins_same m)
+            ∙ alike (λ r. run_outcome (Err (numbered r)) work out) _ _ _ _ (margins_same m)
             (λ _. run-same (content s).sheet m (content s).classes (content t).classes (content s).kinds (content t).kinds same.kinds gaps budget given work out ∙ ap (λ j. run_content j budget given work out) (second m))
             ∙ sym (by_cond (eqb (refusal_under m t) 0) _ _);
       }
