@@ -1,8 +1,8 @@
 -- The way from one dot to another, and that a candidate is near. Assumes nothing.
-use mathlib.Core.Bool.{true}
+use mathlib.Core.Bool.{Bool, true, false, cond}
 use mathlib.Core.List.{[], ◌∷◌}
-use mathlib.Core.Path.{◌≡◌, ap, ◌∙◌}
-use Prim.Native.Nat.{ℕ, ◌/◌, ◌%◌, ◌≤◌, ◌<◌}
+use mathlib.Core.Path.{◌≡◌, sym, ap, ◌∙◌}
+use Prim.Native.Nat.{ℕ, ◌/◌, ◌%◌, ◌≤◌, ◌<◌, max}
 use native.Mathlib.Nat.{lt_of_le_of_lt}
 use native.Mathlib.Omega.{arith}
 use borrow.Author.Tests.{ltb-true}
@@ -16,7 +16,7 @@ use Rattle.integers.proofs.Solver.{◌⊟◌}
 use Rattle.model.proofs.Lists.{and_left, and_right}
 use Rattle.job.specs.declared.View.{View}
 use Rattle.candidates.specs.Placements.{Bounded, placeable, offered}
-use Rattle.candidates.specs.Conflicts.{placed_of, Near}
+use Rattle.candidates.specs.Conflicts.{placed_of, Near, gap_between}
 use Rattle.shapes.specs.declared.boxes.Boxes.{Boxes}
 
 -- ---- the way from one dot to another
@@ -45,3 +45,13 @@ candidate-near v b u m h e =
       up = omega (arith, h.up _ (candidate-row v b u m e));
       turn = omega arith;
     }
+
+-- ---- the gap of a pair
+
+pub gap_shared : (g h : ℕ) (shared : Bool) → shared ≡ true → 0 ≡ gap_between g h shared
+unfolding gap_between
+gap_shared g h shared e = sym (ap (λ t. cond t 0 (max g h)) e)
+
+pub gap-apart : (g h r : ℕ) (shared : Bool) → shared ≡ false → r ≡ max g h → r ≡ gap_between g h shared
+unfolding gap_between
+gap-apart g h r shared e f = f ∙ sym (ap (λ t. cond t 0 (max g h)) e)

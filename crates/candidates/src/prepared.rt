@@ -19,18 +19,19 @@ pub struct PreparedJob<'a> {
 }
 
 impl<'a> PreparedJob<'a> {
-    ghost use Rattle.std.specs.Prelude.{true, ◌≡◌, ◌≤◌, ◌<◌};
+    ghost use Rattle.std.specs.Prelude.{◌≡◌, ◌≤◌, ◌<◌};
     ghost use Rattle.model.specs.Candidate.{is_candidate};
-    ghost use Rattle.model.specs.Layout.{entry, is_entry, entry_extent, conflict};
+    ghost use Rattle.model.specs.Layout.{entry, is_entry, entry_extent};
     ghost use Rattle.job.specs.View.{Viewed};
     ghost use Rattle.shapes.specs.Turned.{TurnedOf};
     ghost use Rattle.candidates.specs.Conflicts.{placement_at};
-    ghost use Rattle.candidates.specs.Prepared.{problem_in};
+    ghost use Rattle.candidates.specs.Prepared.{problem_in, Stands, conflict_in};
 
     // Of a job whose parts are turned, as `turn_all` leaves them.
     pub fn new(job: &'a [u8], view: View, turned: &'a [i16]) -> Self
         requires { Viewed job.now view × TurnedOf job.now turned.now }
-        ensures { (result.job.now ≡ job.now) × (result.view ≡ view) }
+        ensures of_job { result.job.now ≡ job.now }
+        ensures of_view { result.view ≡ view }
     {
         let boxes = boxes_of(job, view, turned);
         PreparedJob {
@@ -58,16 +59,18 @@ impl<'a> PreparedJob<'a> {
 
     // The end of a kind at a place where it may stand: on the board.
     pub fn extent(&self, kind: usize, place: Placed) -> usize
-        requires { is_entry (problem_in self.now) (entry kind (placement_at place)) ≡ true }
-        ensures { (result ≡ entry_extent (problem_in self.now) (entry kind (placement_at place))) × (result ≤ 1000) }
+        requires { Stands self.now kind place }
+        ensures end { result ≡ entry_extent (problem_in self.now) (entry kind (placement_at place)) }
+        ensures on_board { result ≤ 1000 }
     {
         placements::extent(self.view, self.boxes, kind, place)
     }
 
     // Whether two kinds, each at a place where it may stand, are in conflict.
     pub fn in_conflict(&self, kind: usize, place: Placed, other: usize, at: Placed) -> bool
-        requires { (is_entry (problem_in self.now) (entry kind (placement_at place)) ≡ true) × (is_entry (problem_in self.now) (entry other (placement_at at)) ≡ true) }
-        ensures { result ≡ conflict (problem_in self.now) (entry kind (placement_at place)) (entry other (placement_at at)) }
+        requires first { Stands self.now kind place }
+        requires second { Stands self.now other at }
+        ensures { result ≡ conflict_in self.now kind place other at }
     {
         let p = piece_of(self.job, self.view, kind);
         let q = piece_of(self.job, self.view, other);

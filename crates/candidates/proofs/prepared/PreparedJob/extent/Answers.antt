@@ -18,7 +18,7 @@ pub returns : goal.returns
 returns c =
     let j = c.args.self.now in
     let x = j.prepared.viewed in
-    let e = entry c.args.kind (placement_at c.args.place) in (
-      c.extent.ensures ∙ entry_ends j.job.now j.view j.boxes x j.prepared.boxes e c.requires,
-      rw c.extent.ensures (ends-on_board j.job.now j.view j.boxes x j.prepared.boxes e c.requires),
-    )
+    let e = entry c.args.kind (placement_at c.args.place) in record {
+      end = c.extent.ensures ∙ entry_ends j.job.now j.view j.boxes x j.prepared.boxes e c.requires;
+      on_board = rw c.extent.ensures (ends-on_board j.job.now j.view j.boxes x j.prepared.boxes e c.requires);
+    }
