@@ -1,2 +1,3 @@
+pub mod PieceLists
 pub mod PlanLaws
 pub mod Writing

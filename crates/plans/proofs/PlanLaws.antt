@@ -2,7 +2,7 @@
 use mathlib.Core.Bool.{true}
 use mathlib.Core.List.{List}
 use mathlib.Core.Path.{◌≡◌, sym, ◌∙◌}
-use Prim.Native.Nat.{ℕ, ◌+◌, ◌*◌, ◌/◌, ◌%◌, ◌≤◌, ◌<◌}
+use Prim.Native.Nat.{ℕ, ◌*◌, ◌/◌, ◌%◌, ◌≤◌, ◌<◌}
 use native.Mathlib.Omega.{arith}
 use lib.IntN.{pos, ◌+ℤ◌}
 use lib.ListN.{get_or}
@@ -22,7 +22,7 @@ use Rattle.candidates.specs.Conflicts.{placed_of, Near}
 use Rattle.candidates.proofs.PreparedLaws.{bounded, extent-is, number-near, candidate-number}
 use Rattle.stepping.proofs.Extents.{candidate-entry}
 use Rattle.stepping.proofs.Limits.{few_words}
-use Rattle.plans.specs.Planned.{PlanOf, planned}
+use Rattle.plans.specs.Planned.{no_kind, PlanOf, planned}
 use Rattle.plans.specs.declared.plan.Plan.{Plan}
 
 -- A candidate is one of a kind that exists.
@@ -50,9 +50,9 @@ module _ (s : List ℕ) (p : Plan) (o : PlanOf s p) where
   words-few = omega (arith, o.words, few_words s o.accepted)
 
   -- A gap is small.
-  pub gap-small : (t : ℕ) → t < kind_count (content s).kinds → get_or p.gaps t 0 ≤ 63
+  pub gap-small : (t : ℕ) → t < kind_count (content s).kinds → (get_or p.kind t no_kind).gap ≤ 63
   gap-small t h =
-      rw (o.gaps t h ∙ sym (kind-in s o.view plan-viewed t h).gap) ((bounded s o.view plan-viewed).gaps t (omega (arith, o.viewed.kinds)))
+      rw ((o.kind t h).gap ∙ sym (kind-in s o.view plan-viewed t h).gap) ((bounded s o.view plan-viewed).gaps t (omega (arith, o.viewed.kinds)))
 
   module _ (u m : ℕ) (c : is_candidate (planned s p) u m ≡ true) where
     -- A candidate stands near.
@@ -60,9 +60,9 @@ module _ (s : List ℕ) (p : Plan) (o : PlanOf s p) where
     near = rw (o.step, o.rows) (number-near s o.view plan-viewed m (candidate-number (planned s p) u m c))
 
     -- Its end, by the end of its kind on the first column.
-    pub end_is : natural (get_or p.ends (u * 4 + m % 4) (pos 0) +ℤ pos (m / 4 / p.rows * p.step)) ≡ entry_extent (planned s p) (entry_of (planned s p) u m)
+    pub end_is : natural (get_or (get_or p.kind u no_kind).ends (m % 4) (pos 0) +ℤ pos (m / 4 / p.rows * p.step)) ≡ entry_extent (planned s p) (entry_of (planned s p) u m)
     unfolding entry_extent entry_kind entry_of placement_of extent_at
     end_is =
         let h : u < kind_count (content s).kinds = candidate-kind (planned s p) u m c in
-        rw (o.ends u (m % 4) h (omega arith), o.rows, o.step, o.viewed.rows)
+        rw ((o.kind u h).ends (m % 4) (omega arith), o.rows, o.step, o.viewed.rows)
         (extent-is s o.view o.boxes plan-viewed o.boxed u h (m / 4 / rows (content s).sheet) (m / 4 % rows (content s).sheet) (m % 4) (omega arith))

@@ -1,5 +1,5 @@
 -- What the plan of a job says of it.
-use Rattle.std.specs.Prelude.{List, [], ◌≡◌, ℕ, ◌+◌, ◌*◌, ◌<◌, ℤ, pos, length, get_or}
+use Rattle.std.specs.Prelude.{List, [], ◌≡◌, ℕ, ◌+◌, ◌*◌, ◌<◌, pos, length, get_or}
 use Rattle.words.specs.Bits.{test_bit}
 use Rattle.model.specs.Content.{Kind, kind_at, kind_count, piece_count}
 use Rattle.model.specs.Format.{content, refusal}
@@ -13,6 +13,7 @@ use Rattle.shapes.specs.Boxes.{BoxesOf, box_at}
 use Rattle.shapes.specs.declared.boxes.Boxes.{Boxes}
 use Rattle.stepping.specs.Levels.{piece_kind, pieces_from}
 use Rattle.plans.specs.declared.plan.Plan.{Plan}
+use Rattle.plans.specs.declared.plan.PlannedKind.{PlannedKind}
 
 -- The problem that a plan is of: the job's content under the plan's margin.
 abbrev pub planned : List ℕ → Plan → Problem
@@ -26,27 +27,22 @@ KindsOf ks kinds = (l : ℕ) → l < piece_count ks → get_or kinds l 0 ≡ pie
 abbrev pub CopiesOf : List Kind → List ℕ → Type 0
 CopiesOf ks copies = (l u : ℕ) → l < piece_count ks → u < 8 → get_or copies (l * 8 + u) 0 ≡ copies_left u (pieces_from ks l)
 
--- These are the largest x of the boxes.
-abbrev pub EndsOf : List ℕ → Boxes → List ℤ → Type 0
-EndsOf s b ends = (t k : ℕ) → t < kind_count (content s).kinds → k < 4 → get_or ends (t * 4 + k) (pos 0) ≡ (box_at b t k).max_x
-
--- These are the gaps of the kinds.
-abbrev pub GapsOf : List ℕ → List ℕ → Type 0
-GapsOf s gaps = (t : ℕ) → t < kind_count (content s).kinds → get_or gaps t 0 ≡ kind_gap (content s).classes (kind_at (content s).kinds t)
-
 -- The bits of this number say which kinds share a common cut.
 abbrev pub SharedOf : List ℕ → ℕ → Type 0
 SharedOf s shared = (t u : ℕ) → t < kind_count (content s).kinds → u < kind_count (content s).kinds
     → test_bit shared (t * 8 + u) ≡ share_cut (content s).classes (kind_at (content s).kinds t) (kind_at (content s).kinds u)
 
--- These are the numbers of their parts.
-abbrev pub PartsOf : List ℕ → List ℕ → Type 0
-PartsOf s parts = (t : ℕ) → t < kind_count (content s).kinds → get_or parts t 0 ≡ length (kind_at (content s).kinds t).parts
+-- Where no kind stands.
+abbrev pub no_kind : PlannedKind
+no_kind = record { gap = 0; parts = 0; sizes = []; ends = [] }
 
--- These are the numbers of the parts' vertices.
-abbrev pub SizesOf : List ℕ → List ℕ → Type 0
-SizesOf s sizes = (t i : ℕ) → t < kind_count (content s).kinds → i < length (kind_at (content s).kinds t).parts
-    → get_or sizes (t * 6 + i) 0 ≡ length (get_or (kind_at (content s).kinds t).parts i [])
+-- This is what is looked up of kind t: its gap, the number of its parts and of the vertices of each, and the largest x of its boxes.
+pub record PlannedAs (s : List ℕ) (b : Boxes) (t : ℕ) (k : PlannedKind) : Type 0 where
+  pub gap : k.gap ≡ kind_gap (content s).classes (kind_at (content s).kinds t)
+  pub parts : k.parts ≡ length (kind_at (content s).kinds t).parts
+  pub sizes : (i : ℕ) → i < length (kind_at (content s).kinds t).parts
+      → get_or k.sizes i 0 ≡ length (get_or (kind_at (content s).kinds t).parts i [])
+  pub ends : (r : ℕ) → r < 4 → get_or k.ends r (pos 0) ≡ (box_at b t r).max_x
 
 -- The plan is that of the job; its margin is its own, and `make_plan` promises whose. The view and the boxes are those that it was taken from.
 pub record PlanOf (s : List ℕ) (p : Plan) : Type 0 where
@@ -62,8 +58,5 @@ pub record PlanOf (s : List ℕ) (p : Plan) : Type 0 where
   pub words : p.words ≡ set_words (content s).sheet
   pub kinds : KindsOf (content s).kinds p.kinds
   pub copies : CopiesOf (content s).kinds p.copies
-  pub ends : EndsOf s boxes p.ends
-  pub gaps : GapsOf s p.gaps
   pub shared : SharedOf s p.shared
-  pub parts : PartsOf s p.parts
-  pub sizes : SizesOf s p.sizes
+  pub kind : (t : ℕ) → t < kind_count (content s).kinds → PlannedAs s boxes t (get_or p.kind t no_kind)

@@ -22,18 +22,15 @@ pub fn piece_in(job: &[u8], plan: Plan, kind: usize) -> Piece
     requires { PlanOf job.now plan × (kind < kind_count (content job.now).kinds) }
     ensures { PieceOf job.now kind result }
 {
-    let counts = plan.parts;
-    let all = plan.sizes;
-    let n = counts[kind] as usize;
-    let mut sizes = [0usize; 6];
-    let mut i: usize = 0;
-    while i < n {
-        sizes[i] = all[kind * 6 + i] as usize;
-        i += 1;
+    let planned = plan.kind[kind];
+    let count = usize::from(planned.parts);
+    let mut sizes = [0; 6];
+    for i in 0..count {
+        sizes[i] = usize::from(planned.sizes[i]);
     }
     Piece {
         first: kind * 120,
-        count: n,
+        count,
         sizes,
     }
 }
@@ -50,9 +47,12 @@ pub fn pair_gap(job: &[u8], plan: Plan, t: usize, u: usize) -> u16
     requires { PlanOf job.now plan × (t < kind_count (content job.now).kinds) × (u < kind_count (content job.now).kinds) }
     ensures { result ≡ pair_gap (content job.now).classes (kind_at (content job.now).kinds t) (kind_at (content job.now).kinds u) }
 {
-    let gaps = plan.gaps;
     let shared = words::bits::test_bit(plan.shared, (t * 8 + u) as u64);
-    gap_between(gaps[t] as usize, gaps[u] as usize, shared)
+    gap_between(
+        usize::from(plan.kind[t].gap),
+        usize::from(plan.kind[u].gap),
+        shared,
+    )
 }
 
 // Where candidate m of kind u ends, which stands at this place.
@@ -60,8 +60,7 @@ pub fn end_at(job: &[u8], plan: Plan, u: usize, m: usize, place: Placed) -> usiz
     requires { PlanOf job.now plan × (is_candidate (planned job.now plan) u m ≡ true) × (place ≡ placed_of plan.rows m) }
     ensures { result ≡ entry_extent (planned job.now plan) (entry_of (planned job.now plan) u m) }
 {
-    let ends = plan.ends;
-    placements::end_of(ends[u * 4 + place.rotation], place.column * plan.step)
+    placements::end_of(plan.kind[u].ends[place.rotation], place.column * plan.step)
 }
 
 // Where candidate m of kind u ends.

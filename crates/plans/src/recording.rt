@@ -24,13 +24,12 @@ pub fn record_layout(job: &[u8], plan: Plan, candidates: [usize; 12], out: &mut 
     requires { PlanOf job.now plan × Recordable (planned job.now plan) candidates out.old }
     ensures { out.new ≡ with_layout (some (layout_of (planned job.now plan) candidates)) out.old }
 {
-    let rows = plan.rows;
-    let pieces = plan.pieces;
-    let kinds = plan.kinds;
-    let mut i = 0;
-    while i < pieces {
-        numbers::put_u64(out, i * 8, entry_word(rows, kinds[i], candidates[i]));
-        i += 1;
+    for i in 0..plan.pieces {
+        numbers::put_u64(
+            out,
+            i * 8,
+            entry_word(plan.rows, plan.kinds[i], candidates[i]),
+        );
     }
 }
 
@@ -39,9 +38,6 @@ pub fn copy_layout(layout: &[u8], pieces: usize, out: &mut [u8])
     requires { (pieces ≤ 12) × ((pieces * 8 ≤ length layout.now) × (pieces * 8 ≤ length out.old)) }
     ensures { out.new ≡ with_layout (some (map (entry_in layout.now) (below pieces))) out.old }
 {
-    let mut i = 0;
-    while i < pieces {
-        numbers::put_u64(out, i * 8, numbers::get_u64(layout, i * 8));
-        i += 1;
-    }
+    let size = pieces * 8;
+    out[..size].copy_from_slice(&layout[..size]);
 }

@@ -1,4 +1,4 @@
--- The pieces in their order, kind by kind: the law of a loop that goes through them.
+-- The pieces in their order, kind by kind, and the copies of a kind among those left.
 use mathlib.Core.List.{List, [], ◌∷◌, ◌++◌}
 use mathlib.Core.Logic.{◌⊎◌, inl, inr}
 use mathlib.Core.Path.{◌≡◌, refl, sym, ◌∙◌}
@@ -22,45 +22,24 @@ unfoldable pub rest_from : List Kind → ℕ → List ℕ
 rest_from ks t = blocks (λ t. (kind_at ks t).demand) t (kind_count ks - t)
 
 module _ (ks : List Kind) where
-  -- Of the pieces from piece l on, `left` are of kind t and come first, and those of the later kinds follow.
-  abbrev pub At : ℕ → ℕ → ℕ → Type 0
-  At l t left = pieces_from ks l ≡ replicate left t ++ rest_from ks (suc t)
-
   -- All pieces are those of the kinds from 0 on.
-  rest-next : (t : ℕ) → t < kind_count ks → rest_from ks t ≡ replicate (kind_at ks t).demand t ++ rest_from ks (suc t)
+  pub rest_all : pieces ks ≡ rest_from ks 0
+  unfolding pieces below rest_from
+  rest_all = rw (sub-zero (kind_count ks))
+
+  -- The pieces of a kind, and those of the later kinds.
+  pub rest-next : (t : ℕ) → t < kind_count ks → rest_from ks t ≡ replicate (kind_at ks t).demand t ++ rest_from ks (t + 1)
   unfolding rest_from rising concat
   rest-next t h =
       let e : kind_count ks - t ≡ suc (kind_count ks - suc t) = omega arith in
-      rw e
+      rw (add-one t, e)
 
-  rest_all : pieces_from ks 0 ≡ rest_from ks 0
-  unfolding pieces_from pieces below rest_from
-  rest_all = rw (sub-zero (kind_count ks))
-
-  rest-none : (t : ℕ) → kind_count ks ≤ t → rest_from ks t ≡ []
+  -- Behind the last kind there are none.
+  pub rest-none : (t : ℕ) → kind_count ks ≤ t → rest_from ks t ≡ []
   unfolding rest_from rising concat
   rest-none t h =
       let e : kind_count ks - t ≡ 0 = omega arith in
       rw e
-
-  pub at_begin : 0 < kind_count ks → At 0 0 (kind_at ks 0).demand
-  at_begin h = rest_all ∙ rest-next 0 h
-
-  -- Behind the last piece of a kind comes the next kind.
-  pub at_kind : (l t : ℕ) → l < piece_count ks → At l t 0 → (suc t < kind_count ks) × At l (suc t) (kind_at ks (suc t)).demand
-  at_kind l t h a = go (le_or_lt (kind_count ks) (suc t))
-    where
-      go : (kind_count ks ≤ suc t) ⊎ (suc t < kind_count ks) → (suc t < kind_count ks) × At l (suc t) (kind_at ks (suc t)).demand
-      go (inl k) = let z : ◌≡◌ {A = ℕ} 0 1 = cc (pieces-next ks l h, rest-none (suc t) k) in absurd (omega arith)
-      go (inr k) = (k, a ∙ rest-next (suc t) k)
-
-  -- A piece of kind t, and what follows it.
-  pub at_piece : (l t left : ℕ) → l < piece_count ks → 0 < left → At l t left → (piece_kind ks l ≡ t) × At (suc l) t (left - 1)
-  at_piece l t zero h p a = absurd (omega arith)
-  at_piece l t (suc left) h p a =
-      let e : piece_kind ks l ∷ pieces_from ks (suc l) ≡ t ∷ (replicate left t ++ rest_from ks (suc t)) = sym (pieces-next ks l h) ∙ a in
-      let q : suc left - 1 ≡ left = omega arith in
-      (cc, rw q (cc))
 
   -- The copies of a kind left: one more before a piece of that kind, as many before another.
   pub copies-hit : (u l : ℕ) → l < piece_count ks → piece_kind ks l ≡ u → copies_left u (pieces_from ks l) ≡ copies_left u (pieces_from ks (l + 1)) + 1

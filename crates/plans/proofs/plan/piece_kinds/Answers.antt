@@ -1,131 +1,63 @@
 use mathlib.Core.List.{List}
-use mathlib.Core.Path.{◌≡◌, refl, sym, ap, ◌∙◌, subst}
-use Prim.Native.Nat.{ℕ, suc, ◌+◌, ◌<◌}
-use native.Mathlib.Numerals.{add-one}
+use mathlib.Core.Path.{◌≡◌, refl, ap, ◌∙◌}
+use Prim.Native.Nat.{ℕ, ◌+◌, ◌-◌, ◌≤◌, ◌<◌}
 use native.Mathlib.Omega.{arith}
-use lib.ListN.{get_or, length-set}
-use Rattle.model.specs.Content.{Kind, kind_at, kind_count, piece_count}
+use borrow.Author.Rules.{rules}
+use lib.ListN.{length, get_or, replicate, length-replicate}
+use Rattle.model.specs.Content.{Kind, kind_at, kind_count}
 use Rattle.model.specs.Format.{content}
-use Rattle.job.specs.View.{Viewed}
-use Rattle.job.specs.declared.View.{View}
-use Rattle.model.proofs.Accepted.{accepted-kinds}
-use Rattle.shapes.proofs.PieceLaws.{written-more}
-use Rattle.stepping.specs.Levels.{piece_kind}
-use Rattle.stepping.proofs.Limits.{few-pieces, demanded}
-use Rattle.stepping.proofs.PieceOrder.{At, at_begin, at_kind, at_piece}
+use Rattle.shapes.proofs.ViewLaws.{few-kinds, kind-in}
+use Rattle.stepping.proofs.Limits.{few-pieces}
+use Rattle.plans.proofs.PieceLists.{room, all_told, before-next, before-none, filled-length}
 use Rattle.plans.proofs.plan.piece_kinds.Goals as goal
-use Rattle.plans.proofs.plan.piece_kinds.Goals.{then-left-eq0, else-left-eq0}
+use Rattle.plans.proofs.plan.piece_kinds.Goals.{In-loop-t}
 
--- There is a piece of this kind at hand.
-abbrev Here : List Kind → ℕ → ℕ → ℕ → Type 0
-Here ks l t left = (t < kind_count ks) × (0 < left) × At ks l t left
+-- The turn's kind exists and has its demand in the view, and there is room for its pieces.
+record Turn (ks : List Kind) (t l demand : ℕ) : Type 0 where
+  exists : t < kind_count ks
+  low : t < 8
+  demanded : demand ≡ (kind_at ks t).demand
+  room : l + demand ≤ 12
 
--- Where no piece of kind t was left, the next kind is at hand.
-here_next : (s : List ℕ) (v : View) → Viewed s v → (l t left t' left' : ℕ) → l < piece_count (content s).kinds
-    → At (content s).kinds l t left
-    → left ≡ 0 → t' ≡ t + 1 → left' ≡ get_or v.demands (t + 1) 0 → Here (content s).kinds l t' left'
-here_next s v r l t left t' left' h a z p q =
-    let k = at_kind (content s).kinds l t h (subst (At (content s).kinds l t) z a) in
-    let e : t' ≡ suc t = p ∙ add-one t in
-    let d : left' ≡ (kind_at (content s).kinds (suc t)).demand =
-    q ∙ ap (λ (t : ℕ). get_or v.demands t 0) (add-one t) ∙ (r.view.kind (suc t) k.0).demand in
-    rw (e, d) (k.0, demanded s r.accepted (suc t) k.0, k.1)
-
-pub loop-l-init : goal.loop-l-init
-loop-l-init c =
+turn : (c : In-loop-t) → Turn (content c.args.job.now).kinds c.loop-t.t c.loop-t.l (get_or c.args.view.demands c.loop-t.t 0)
+turn c =
     let s = c.args.job.now in
-    let a = c.requires.accepted in
-    let ks = accepted-kinds s a in
-    let e = c.requires.view.pieces in
-    let d = (c.requires.view.kind 0 ks.some-kind).demand in (
-      (omega arith, e, omega (arith, e, few-pieces s a), refl),
-      (ks.some-kind, ks.few-kinds),
-      rw d (at_begin (content s).kinds ks.some-kind),
-      λ i h. absurd (omega arith),
-    )
+    let h : c.loop-t.t < kind_count (content s).kinds = omega (arith, c.requires.view.kinds) in
+    let d = (kind-in s c.args.view c.requires c.loop-t.t h).demand in
+    record {
+      exists = h;
+      low = omega (arith, few-kinds s c.args.view c.requires);
+      demanded = d;
+      room = omega (arith, d, few-pieces s c.requires.accepted, room (content s).kinds c.loop-t.kinds c.loop-t.l c.loop-t.t (omega (arith, c.loop-t.invariant)) h c.loop-t.invariant.2);
+    }
 
-pub overflow_add-t : goal.overflow_add-t
-overflow_add-t c = omega (arith, c.loop-l.invariant)
+pub loop-t-init : goal.loop-t-init
+loop-t-init c = (refl, omega arith, before-none _ (replicate 12 0))
 
-pub offset_bounds-demands-t : goal.offset_bounds-demands-t
-offset_bounds-demands-t c =
-    let j = content c.args.job.now in
-    let inside : c.loop-l.l < piece_count j.kinds = omega (arith, c.loop-l.invariant) in
-    let k = at_kind j.kinds c.loop-l.l c.loop-l.t inside (subst (At j.kinds c.loop-l.l c.loop-l.t) c.if-left-eq0.true
-    c.loop-l.invariant.2) in
-    omega (arith, c.loop-l.invariant, k.0)
+pub offset_bounds-view-t : goal.offset_bounds-view-t
+offset_bounds-view-t c = omega (arith, few-kinds c.args.job.now c.args.view c.requires, c.requires.view.kinds)
 
-pub bounds-demands-t : goal.bounds-demands-t
-bounds-demands-t c =
-    let j = content c.args.job.now in
-    let inside : c.loop-l.l < piece_count j.kinds = omega (arith, c.loop-l.invariant) in
-    let k = at_kind j.kinds c.loop-l.l c.loop-l.t inside (subst (At j.kinds c.loop-l.l c.loop-l.t) c.if-left-eq0.true
-    c.loop-l.invariant.2) in
-    omega (arith, c.loop-l.invariant, k.0)
+pub bounds-view-t : goal.bounds-view-t
+bounds-view-t c = omega (arith, few-kinds c.args.job.now c.args.view c.requires, c.requires.view.kinds)
 
-pub overflow_cast-kinds : goal.overflow_cast-kinds
-overflow_cast-kinds c =
-    let j = content c.args.job.now in
-    let inside : c.loop-l.l < piece_count j.kinds = omega (arith, c.loop-l.invariant) in
-    let here : Here j.kinds c.loop-l.l c.if-left-eq0.t c.if-left-eq0.left =
-    elim c.if-left-eq0.branch [
-      | then-left-eq0 w ↦
-          here_next c.args.job.now c.args.view c.requires c.loop-l.l c.loop-l.t c.loop-l.left _ _ inside
-          c.loop-l.invariant.2 w.if-left-eq0.true w.t-is w.left-is
-      | else-left-eq0 w ↦
-          rw (w.t-is, w.left-is) (c.loop-l.invariant.1.0, omega (arith, w.if-left-eq0.false), c.loop-l.invariant.2)
-    ] in
-    omega (arith, c.loop-l.invariant, here)
+pub overflow_add-end : goal.overflow_add-end
+overflow_add-end c = omega (arith, turn (goal.at.overflow_add-end c).In-loop-t)
 
-pub bounds-kinds-l : goal.bounds-kinds-l
-bounds-kinds-l c = omega (arith, c.loop-l.invariant)
+pub slice_bounds-kinds-end : goal.slice_bounds-kinds-end
+slice_bounds-kinds-end c = omega (arith, c.loop-t.invariant.0, turn (goal.at.slice_bounds-kinds-end c).In-loop-t)
 
-pub overflow_sub-left : goal.overflow_sub-left
-overflow_sub-left c =
-    let j = content c.args.job.now in
-    let inside : c.loop-l.l < piece_count j.kinds = omega (arith, c.loop-l.invariant) in
-    let here : Here j.kinds c.loop-l.l c.if-left-eq0.t c.if-left-eq0.left =
-    elim c.if-left-eq0.branch [
-      | then-left-eq0 w ↦
-          here_next c.args.job.now c.args.view c.requires c.loop-l.l c.loop-l.t c.loop-l.left _ _ inside
-          c.loop-l.invariant.2 w.if-left-eq0.true w.t-is w.left-is
-      | else-left-eq0 w ↦
-          rw (w.t-is, w.left-is) (c.loop-l.invariant.1.0, omega (arith, w.if-left-eq0.false), c.loop-l.invariant.2)
-    ] in
-    omega (arith, (here).1)
+pub overflow_cast-t : goal.overflow_cast-t
+overflow_cast-t c = omega (arith, few-kinds c.args.job.now c.args.view c.requires, c.requires.view.kinds)
 
-pub overflow_add-l : goal.overflow_add-l
-overflow_add-l c = omega (arith, c.loop-l.invariant)
-
-pub loop-l-smaller : goal.loop-l-smaller
-loop-l-smaller c = omega (arith, c.loop-l.invariant)
-
-pub loop-l-preserved : goal.loop-l-preserved
-loop-l-preserved c =
-    let j = content c.args.job.now in
-    let inside : c.loop-l.l < piece_count j.kinds = omega (arith, c.loop-l.invariant) in
-    let here : Here j.kinds c.loop-l.l c.if-left-eq0.t c.if-left-eq0.left =
-    elim c.if-left-eq0.branch [
-      | then-left-eq0 w ↦
-          here_next c.args.job.now c.args.view c.requires c.loop-l.l c.loop-l.t c.loop-l.left _ _ inside
-          c.loop-l.invariant.2 w.if-left-eq0.true w.t-is w.left-is
-      | else-left-eq0 w ↦
-          rw (w.t-is, w.left-is) (c.loop-l.invariant.1.0, omega (arith, w.if-left-eq0.false), c.loop-l.invariant.2)
-    ] in
-    let h = here in
-    let l = c.loop-l.l in
-    let a = at_piece j.kinds l c.if-left-eq0.t c.if-left-eq0.left inside h.1 h.2 in (
-      (
-        omega (arith, c.loop-l.invariant),
-        c.loop-l.invariant.0.1,
-        c.loop-l.invariant.0.2,
-        simp length-set c.loop-l.invariant.0.3,
-      ),
-      (h.0, c.loop-l.invariant.1.1),
-      rw (add-one l) a.1,
-      written-more 0 c.loop-l.kinds l
-          c.if-left-eq0.t (piece_kind j.kinds) (omega (arith, c.loop-l.invariant)) c.loop-l.invariant.3 (sym a.0),
+pub loop-t-preserved : goal.loop-t-preserved
+loop-t-preserved c =
+    let x = turn (goal.at.loop-t-preserved c).In-loop-t in
+    let demand = get_or c.args.view.demands c.loop-t.t 0 in
+    let filled : c.fill.new.self ≡ replicate (kind_at (content c.args.job.now).kinds c.loop-t.t).demand c.loop-t.t = search rules in (
+      filled-length c.loop-t.kinds c.fill.new.self c.loop-t.l demand (c.loop-t.l + demand - c.loop-t.l) (omega (arith, x, c.loop-t.invariant.0)) (omega arith) (omega (arith, x.demanded, ap length filled, length-replicate {A = ℕ})) ∙ c.loop-t.invariant.0,
+      x.room,
+      before-next (content c.args.job.now).kinds c.loop-t.kinds c.fill.new.self c.loop-t.l c.loop-t.t _ _ (omega (arith, c.loop-t.invariant.0)) x.exists x.demanded filled c.loop-t.invariant.2,
     )
 
 pub returns : goal.returns
-returns c = λ l h. c.loop-l.invariant.3 l (omega (arith, c.loop-l.invariant))
+returns c = all_told (content c.args.job.now).kinds c.loop-t.kinds c.loop-t.l c.loop-t.t (omega (arith, c.loop-t.invariant)) (omega (arith, c.requires.view.kinds)) c.loop-t.invariant.2

@@ -1,8 +1,6 @@
 -- `plans::recording::record_layout` meets its contract. The invariant: the entries passed are written.
 use mathlib.Core.Path.{◌≡◌}
-use Prim.Native.Nat.{◌*◌, ◌-◌, ◌≤◌}
 use lib.ListN.{length}
-use Rattle.model.specs.Content.{piece_count}
 use Rattle.model.specs.Format.{content}
 use Rattle.model.specs.Grid.{placement_of}
 use Rattle.model.specs.Layout.{entry}
@@ -11,10 +9,5 @@ use Rattle.plans.proofs.Writing.{written}
 use Rattle.plans.proofs.recording.record_layout.Given as goal
 
 abbrev pub invariant-loop-i : goal.invariant-loop-i
-invariant-loop-i l = ((l.i ≤ l.pieces) × (l.pieces ≡ piece_count (content l.job).kinds) × (l.pieces ≤ 12))
-    × ((length l.out ≡ length l.initial.out) × (l.pieces * 8 ≤ length l.out))
-    × (l.out ≡ written (λ i. entry (piece_kind (content l.job).kinds i) (placement_of (content l.job).sheet
-    (numbers_at l.candidates i))) l.i l.initial.out)
-
-abbrev pub decreases-loop-i : goal.decreases-loop-i
-decreases-loop-i l = l.pieces - l.i
+invariant-loop-i l = (length l.out ≡ length l.initial.out)
+    × (l.out ≡ written (λ i. entry (piece_kind (content l.job).kinds i) (placement_of (content l.job).sheet (numbers_at l.candidates i))) l.i l.initial.out)
