@@ -126,11 +126,7 @@ fn planned_kinds(job: &[u8], view: View, boxes: Boxes) -> [PlannedKind; 8]
 fn shared_cuts(view: View) -> u64
     ensures { result ≡ bits_where 64 (λ x. same_cut (get_or view.cuts (x / 8) 0) (get_or view.cuts (x % 8) 0)) }
 {
-    let mut shared: u64 = 0;
-    for x in 0..64 {
-        shared = words::bits::assign_bit(shared, x as u64, share_cut(view, x / 8, x % 8));
-    }
-    shared
+    words::bits::word_of(|x| share_cut(view, x / 8, x % 8))
 }
 
 // The plan of a job, under the view's margin.
