@@ -1,5 +1,2 @@
-pub mod Placing
-pub mod Tokens
+pub mod Numbers
 pub mod Lines
-pub mod Range
-pub mod Whole

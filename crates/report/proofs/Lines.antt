@@ -1,34 +1,55 @@
--- Laws of the lines of the entries that a buffer of numbers holds.
-use mathlib.Core.List.{List, [], ◌∷◌, ◌++◌, map}
+-- Laws of the lines: the first, and those of the entries that a buffer of numbers holds.
+use mathlib.Core.List.{List, [], ◌∷◌, ◌++◌, map, append_assoc, append-nil}
 use mathlib.Core.Path.{◌≡◌, refl, sym, ap, ◌∙◌}
-use Prim.Native.Nat.{ℕ, zero, suc, ◌+◌, ◌*◌, ◌/◌, ◌%◌, ◌<◌, ◌≤◌}
-use native.Mathlib.Nat.{add-zero}
-use native.Mathlib.Omega.{arith}
-use lib.Dec.{ltb}
-use lib.ListN.{length, get_or, length-append}
-use Rattle.words.specs.Bytes.{AreBytes}
+use Prim.Native.Nat.{ℕ, suc, ◌+◌, ◌*◌}
+use native.Mathlib.Numerals.{add-one}
+use Rattle.std.specs.Prelude.{Result, Ok, Err, Some, None}
 use Rattle.words.specs.Number.{number_at}
+use Rattle.model.specs.Content.{piece_count}
 use Rattle.model.specs.Lists.{concat, rising, below}
-use Rattle.model.specs.Output.{entry_line, entry_lines}
-use Rattle.model.specs.Services.{entry_in}
-use Rattle.model.proofs.Printing.{below_last, map-append, lines_append, lines_one, entry-line, entry-short}
-use Rattle.report.specs.Text.{number_then, end_if, places, field_of, lines_in}
+use Rattle.model.specs.Output.{shortest_word, stopped_word, none_word, refused_word, held_word, first_line, entry_line, entry_lines, held_lines, layout_lines, printed}
+use Rattle.model.specs.Problem.{Problem}
+use Rattle.model.specs.Refusal.{number}
+use Rattle.model.specs.Services.{RunOutcome, entry_in, layout_in}
+use Rattle.model.specs.declared.Outcome.{Outcome}
+use Rattle.model.specs.declared.Outcome.TheVariants.{Shortest, Stopped, Infeasible}
+use Rattle.model.specs.declared.Refusal.{Refusal}
+use Rattle.model.proofs.Printing.{below_last, map-append, lines_append, lines_one, line-two, line-three, entry-line}
+use Rattle.report.specs.Text.{number_then, lines_in, shown_count, rendered}
 
--- Each number of an entry lies within its eight bytes.
-pub place-within : (f : ℕ) → f < 4 → get_or places f 0 ≤ 6
-place-within zero h = omega arith
-place-within (suc zero) h = omega arith
-place-within (suc (suc zero)) h = omega arith
-place-within (suc (suc (suc zero))) h = omega arith
-place-within (suc (suc (suc (suc f)))) h = absurd (omega arith)
+-- ---- The first line, as the bytes and numbers that are put one behind the other
 
--- Number f of entry i.
-field_at : (s : List ℕ) (i f : ℕ) → f < 4 → field_of s (i * 4 + f) ≡ number_then (number_at 2 s (i * 8 + get_or places f 0)) (end_if (ltb f 3))
-unfolding field_of
-field_at s i f h =
-    let entry : (i * 4 + f) / 4 ≡ i = omega arith in
-    let number : (i * 4 + f) % 4 ≡ f = omega arith in
-    rw (entry, number)
+pub first-refused : (r : Refusal) → first_line (Err r) ≡ (refused_word ++ 32 ∷ []) ++ number_then (number r) 10
+unfolding first_line number_then
+first-refused r = line-two _ _
+
+pub first-shortest : (len steps : ℕ) → first_line (Ok (Shortest len steps)) ≡ (shortest_word ++ 32 ∷ []) ++ number_then len 32 ++ number_then steps 10
+unfolding first_line number_then
+first-shortest len steps = line-three _ _ _
+
+pub first-held : (len steps : ℕ) → first_line (Ok (Stopped (Some len) steps)) ≡ (stopped_word ++ 32 ∷ []) ++ number_then len 32 ++ number_then steps 10
+unfolding first_line held_word number_then
+first-held len steps = line-three _ _ _
+
+pub first-nothing : (steps : ℕ) → first_line (Ok (Stopped None steps)) ≡ (stopped_word ++ 32 ∷ []) ++ (45 ∷ 32 ∷ []) ++ number_then steps 10
+unfolding first_line held_word number_then
+first-nothing steps = line-three _ _ _
+
+pub first-none : (steps : ℕ) → first_line (Ok (Infeasible steps)) ≡ (none_word ++ 32 ∷ []) ++ number_then steps 10
+unfolding first_line number_then
+first-none steps = line-two _ _
+
+-- ---- The lines of the entries
+
+-- An entry's line is its four numbers, here behind what was put before it.
+pub entry-numbers : (before s : List ℕ) (i : ℕ) → before ++ entry_line (entry_in s i)
+    ≡ before
+    ++ number_then (number_at 2 s (i * 8)) 32
+    ++ number_then (number_at 2 s (i * 8 + 2)) 32
+    ++ number_then (number_at 2 s (i * 8 + 4)) 32
+    ++ number_then (number_at 2 s (i * 8 + 6)) 10
+unfolding entry_in number_then
+entry-numbers before s i = rw (entry-line (entry_in s i)) (simp append_assoc)
 
 -- No entry has no line, and one entry more has its line at the end.
 pub lines_none : (s : List ℕ) → lines_in s 0 ≡ []
@@ -41,17 +62,31 @@ lines_more s k =
     rw (below_last k, map-append (entry_in s) (below k) (k ∷ []), lines_append)
     (ap (λ (t : List ℕ). entry_lines (map (entry_in s) (below k)) ++ t) (lines_one (entry_in s k)))
 
--- The lines of k entries have at most 24 bytes each.
-pub lines_short : (s : List ℕ) → AreBytes s → (k : ℕ) → length (lines_in s k) ≤ k * 24
-lines_short s known zero = rw (lines_none s) (omega arith)
-lines_short s known (suc k) =
-    let r : length (lines_in s k) ≤ k * 24 = lines_short s known k in
-    let e : length (entry_line (entry_in s k)) ≤ 24 = entry-short s known k in
-    rw (lines_more s k, length-append) (omega arith)
+-- Behind a first line there is none at first, and then one more.
+pub lines_begun : (first s : List ℕ) → first ≡ first ++ lines_in s 0
+lines_begun first s = rw (lines_none s) (sym (append-nil first))
 
--- An entry's line is its four numbers.
-pub entry-fields : (s : List ℕ) (i : ℕ) → entry_line (entry_in s i) ≡ field_of s (i * 4 + 0) ++ field_of s (i * 4 + 1) ++ field_of s (i * 4 + 2) ++ field_of s (i * 4 + 3)
-unfolding entry_in number_then
-entry-fields s i =
-    entry-line (entry_in s i)
-    ∙ sym (rw (field_at s i 0 (omega arith), field_at s i 1 (omega arith), field_at s i 2 (omega arith), field_at s i 3 (omega arith), add-zero (i * 8)) refl)
+pub lines_grown : (first s : List ℕ) (k : ℕ) → (first ++ lines_in s k) ++ entry_line (entry_in s k) ≡ first ++ lines_in s (k + 1)
+lines_grown first s k =
+    append_assoc first (lines_in s k) (entry_line (entry_in s k)) ∙ ap (λ (t : List ℕ). first ++ t) (sym (lines_more s k) ∙ ap (lines_in s) (sym (add-one k)))
+
+-- The lines that follow the first are those of as many entries as are shown.
+pub shown_lines : (a : Result Outcome Refusal) (s : List ℕ) (pieces : ℕ) → lines_in s (shown_count a pieces) ≡ layout_lines a (map (entry_in s) (below pieces))
+unfolding layout_lines held_lines lines_in
+shown_lines (Err r) s pieces = lines_none s
+shown_lines (Ok (Shortest len steps)) s pieces = refl
+shown_lines (Ok (Stopped (Some len) steps)) s pieces = refl
+shown_lines (Ok (Stopped None steps)) s pieces = lines_none s
+shown_lines (Ok (Infeasible steps)) s pieces = lines_none s
+
+-- The first line and those lines are the whole text.
+pub whole_text : (a : Result Outcome Refusal) (s text : List ℕ) (pieces i shown : ℕ) → text ≡ first_line a ++ lines_in s i → i ≡ shown
+    → shown ≡ shown_count a pieces → text ≡ rendered a s pieces
+unfolding rendered
+whole_text a s text pieces i shown put all count =
+    put ∙ ap (λ k. first_line a ++ lines_in s k) (all ∙ count) ∙ ap (λ (t : List ℕ). first_line a ++ t) (shown_lines a s pieces)
+
+-- What is rendered of a run of a job is what the definition of the program's output says is printed of it.
+pub rendered-printed : (j : Problem) (r : RunOutcome) → rendered r.answer r.out (piece_count j.kinds) ≡ printed j r
+unfolding rendered printed layout_in
+rendered-printed j r = refl

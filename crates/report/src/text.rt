@@ -1,45 +1,27 @@
-// Pieces of text, and how they are put into a buffer.
-ghost use Rattle.std.specs.Prelude.{◌≡◌, ◌+◌, ◌≤◌, length};
-ghost use Rattle.report.specs.Placed.{Placed};
-ghost use Rattle.report.specs.Text.{number_then, text_of};
+// A text of at most 512 bytes that grows at its end.
+ghost use Rattle.std.specs.Prelude.{◌≡◌, ◌++◌, ◌+◌, ◌≤◌, length};
+ghost use Rattle.arrayvec.specs.ArrayVec.{array_vec_len};
+ghost use Rattle.report.specs.Text.{number_then};
 
-// A word or a number with the byte that ends it: the bytes from `from` on. Ten digits are enough for a number, nine letters for a word.
-#[derive(Clone, Copy)]
-pub struct Token {
-    pub bytes: [u8; 11],
-    pub from: usize,
+use arrayvec::ArrayVec;
+use itoa::Buffer;
+
+pub type Text = ArrayVec<u8, 512>;
+
+// Puts bytes behind a text, which has room for them.
+pub fn append(text: &mut Text, bytes: &[u8])
+    requires { array_vec_len text.old + length bytes.now ≤ 512 }
+    ensures { text.new.items ≡ text.old.items ++ bytes.now }
+{
+    let _ = text.try_extend_from_slice(bytes);
 }
 
-// The digits of n in base ten, and the byte that ends them. The last digit is found first: the first k digits found are the last k of n.
-pub fn number(n: u32, mark: u8) -> Token
-    ensures { text_of result ≡ number_then n mark }
+// Puts a number in base ten behind a text, and the byte that ends it.
+pub fn number(text: &mut Text, n: u32, mark: u8)
+    requires { array_vec_len text.old + length (number_then n mark) ≤ 512 }
+    ensures items { text.new.items ≡ text.old.items ++ number_then n mark }
+    ensures len { array_vec_len text.new ≡ array_vec_len text.old + length (number_then n mark) }
 {
-    let mut bytes = [mark; 11];
-    let mut rest = n;
-    let mut k: usize = 0;
-    loop {
-        bytes[9 - k] = 48 + (rest % 10) as u8;
-        if rest < 10 {
-            return Token { bytes, from: 9 - k };
-        }
-        rest = rest / 10;
-        k += 1;
-    }
-}
-
-// Puts a token into the buffer at a place, and gives the place behind it.
-pub fn put(dst: &mut [u8], at: usize, token: Token) -> usize
-    requires { at + length (text_of token) ≤ length dst.old }
-    ensures { Placed at (text_of token) dst.old dst.new result }
-{
-    let bytes = token.bytes;
-    let from = token.from;
-    let mut i = from;
-    let mut next = at;
-    while i < 11 {
-        dst[next] = bytes[i];
-        next += 1;
-        i += 1;
-    }
-    next
+    append(text, Buffer::new().format(n).as_bytes());
+    text.push(mark);
 }

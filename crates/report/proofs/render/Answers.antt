@@ -1,52 +1,36 @@
-use mathlib.Core.List.{List}
-use mathlib.Core.Path.{◌≡◌, refl, sym, ap, ◌∙◌}
-use Prim.Native.Nat.{ℕ, suc, ◌+◌, ◌*◌, ◌≤◌}
-use native.Mathlib.Numerals.{add-one}
+use mathlib.Core.List.{◌++◌}
+use mathlib.Core.Path.{ap, ◌∙◌}
 use native.Mathlib.Omega.{arith}
-use lib.ListN.{length, length-append}
-use Rattle.report.specs.Text.{token_of, tokens_of}
-use Rattle.report.proofs.Placing.{placed-as, placed-nothing, placed-then, placed-front}
-use Rattle.report.proofs.Range.{answer-range}
-use Rattle.report.proofs.Whole.{tokens_none, tokens_more, tokens_short, tokens_rendered, shown_few}
+use lib.ListN.{length, drop}
+use Rattle.model.specs.Output.{first_line, entry_line}
+use Rattle.model.specs.Services.{entry_in}
+use Rattle.report.specs.Text.{rendered}
+use Rattle.report.proofs.Lines.{lines_begun, lines_grown, whole_text}
 use Rattle.report.proofs.render.Goals as goal
 
-pub overflow_mul-count : goal.overflow_mul-count
-overflow_mul-count c = omega (arith, shown_few c.args.answer c.args.pieces)
+pub loop-i-init : goal.loop-i-init
+loop-i-init c = (c.first.ensures.items ∙ lines_begun (first_line c.args.answer) c.args.numbers.now, c.first.ensures.short)
 
-pub overflow_add-count : goal.overflow_add-count
-overflow_add-count c = omega (arith, shown_few c.args.answer c.args.pieces)
+pub loop-i-preserved : goal.loop-i-preserved
+loop-i-preserved c =
+    let l = c.loop-i in (
+      c.entry.ensures.items
+          ∙ ap (λ t. t ++ entry_line (entry_in c.args.numbers.now l.i)) l.invariant.0
+          ∙ lines_grown (first_line c.args.answer) c.args.numbers.now l.i,
+      omega (arith, c.entry.ensures.short, l.invariant.1),
+    )
 
-pub loop-k-init : goal.loop-k-init
-loop-k-init c =
-    let few = shown_few c.args.answer c.args.pieces in
-    ((omega arith, omega (arith, few)), refl, placed-as (sym (tokens_none c.args.answer c.args.numbers.now)) (placed-nothing 0 c.args.dst.now))
+pub returns-clause-value : goal.returns-clause-value
+returns-clause-value c =
+    let l = c.loop-i in
+    let whole =
+    whole_text c.args.answer c.args.numbers.now _ c.args.pieces l.i _ l.invariant.0 (omega (arith, c.loop-i-test.false, l.auto.i-end)) c.shown_count-i-end.ensures.value in
+    c.len-len.ensures.value ∙ ap length whole
 
-pub put-next-requires : goal.put-next-requires
-put-next-requires c =
-    let l = c.loop-k in
-    let a = c.args.answer in
-    let s : List ℕ = c.args.numbers.now in
-    let k : ℕ = l.k in
-    let short : length (tokens_of a s (suc k)) ≤ 512 =
-    tokens_short a s (answer-range a c.well_formed.0) (λ i. (c.shared_slice_known-1.given i).fits) (suc k) c.args.pieces (omega arith) c.requires.pieces_bound in
-    let more : length (tokens_of a s (suc k)) ≡ length (tokens_of a s k) + length (token_of a s k) = ap length (tokens_more a s k) ∙ length-append (tokens_of a s k) (token_of a s k) in
-    omega (arith, short, more, ap length c.token.ensures, l.invariant.2.end)
-
-pub loop-k-preserved : goal.loop-k-preserved
-loop-k-preserved c =
-    let l = c.loop-k in
-    let a = c.args.answer in
-    let s : List ℕ = c.args.numbers.now in
-    let more = placed-then (omega arith) l.invariant.2 (placed-as c.token.ensures c.put-next.ensures) in
-    ((omega (arith, c.loop-k-test.true), l.invariant.0.1), c.put-next.auto.dst ∙ l.invariant.1, placed-as (sym (tokens_more a s l.k) ∙ ap (tokens_of a s) (sym (add-one l.k))) more)
-
-pub returns : goal.returns
-returns c =
-    let l = c.loop-k in
-    let a = c.args.answer in
-    let s : List ℕ = c.args.numbers.now in
-    let all : l.k ≡ 3 + c.shown_count.result * 4 = omega (arith, c.loop-k-test.false) in
-    let text = ap (tokens_of a s) (all ∙ ap (λ (n : ℕ). 3 + n * 4) c.shown_count.ensures) ∙ tokens_rendered a s c.args.pieces in
-    let short = tokens_short a s (answer-range a c.well_formed.0) (λ i. (c.shared_slice_known-1.given i).fits) l.k c.args.pieces (omega arith) c.requires.pieces_bound in
-    let front = placed-front (placed-as text l.invariant.2) in
-    record { value = front.0; dst_after = front.1; upper_bound = omega (arith, short, l.invariant.2.end) }
+pub returns-clause-dst_after : goal.returns-clause-dst_after
+returns-clause-dst_after c =
+    let l = c.loop-i in
+    let whole =
+    whole_text c.args.answer c.args.numbers.now _ c.args.pieces l.i _ l.invariant.0 (omega (arith, c.loop-i-test.false, l.auto.i-end)) c.shown_count-i-end.ensures.value in
+    ap (λ t. t ++ drop c.len-len.result c.args.dst.now) (c.copy_from_slice.ensures.after ∙ c.as_slice.ensures.value ∙ whole)
+    ∙ ap (λ n. rendered c.args.answer c.args.numbers.now c.args.pieces ++ drop n c.args.dst.now) (c.len-len.ensures.value ∙ ap length whole)

@@ -1,23 +1,27 @@
-use mathlib.Core.Path.{refl, sym, ◌∙◌}
+-- `report::text::number` meets its contract: the digits, and the byte behind them.
+use mathlib.Core.List.{[], ◌∷◌, ◌++◌}
+use mathlib.Core.Path.{ap, ◌∙◌}
 use native.Mathlib.Omega.{arith}
-use lib.ListN.{length-set}
-use Rattle.model.proofs.Decimal.{decimal-32}
-use Rattle.report.specs.Text.{number_then, text_of}
-use Rattle.report.proofs.Tokens.{tenth_shorter, digit_last, digit_more}
+use lib.ListN.{length, length-append}
+use Rattle.report.proofs.Numbers.{digits-length, digits_then}
 use Rattle.report.proofs.text.number.Goals as goal
 
-pub loop-rest-init : goal.loop-rest-init
-loop-rest-init c = ((refl, omega arith), omega (arith, decimal-32 c.args.n c.ranges.n.fits), refl)
+pub returns-clause-items : goal.returns-clause-items
+returns-clause-items c =
+    c.push.ensures.items ∙ ap (λ t. t ++ c.args.mark ∷ []) c.append.ensures
+    ∙ digits_then c.args.n c.args.mark _ (omega (arith, c.ranges.n.fits)) (c.as_bytes.ensures.value ∙ c.format.ensures.text) c.args.text.now.items
 
-pub returns-then-rest-lt10 : goal.returns-then-rest-lt10
-unfolding number_then text_of
-returns-then-rest-lt10 c =
-    let l = c.loop-rest in
-    digit_last l.rest l.k l.bytes l.invariant.0.0 l.invariant.0.1 c.if-rest-lt10.true ∙ sym l.invariant.2
+pub append-requires : goal.append-requires
+append-requires c =
+    let long = digits-length c.args.n c.args.mark _ (omega (arith, c.ranges.n.fits)) (c.as_bytes.ensures.value ∙ c.format.ensures.text) in
+    omega (arith, c.requires, long)
 
-pub loop-rest-preserved : goal.loop-rest-preserved
-loop-rest-preserved c =
-    let l = c.loop-rest in
-    let shorter = tenth_shorter l.rest c.if-rest-lt10.false in
-    let text = digit_more l.rest l.k l.bytes l.invariant.0.0 l.invariant.0.1 c.if-rest-lt10.false in
-    ((simp length-set l.invariant.0.0, omega (arith, shorter)), omega (arith, shorter), l.invariant.2 ∙ text)
+pub push-requires : goal.push-requires
+push-requires c =
+    let long = digits-length c.args.n c.args.mark _ (omega (arith, c.ranges.n.fits)) (c.as_bytes.ensures.value ∙ c.format.ensures.text) in
+    omega (arith, c.requires, long, ap length c.append.ensures, length-append c.args.text.now.items c.as_bytes.result.now)
+
+pub returns-clause-len : goal.returns-clause-len
+returns-clause-len c =
+    let long = digits-length c.args.n c.args.mark _ (omega (arith, c.ranges.n.fits)) (c.as_bytes.ensures.value ∙ c.format.ensures.text) in
+    omega (arith, c.push.ensures.len, long, ap length c.append.ensures, length-append c.args.text.now.items c.as_bytes.result.now)
