@@ -1,60 +1,36 @@
--- A layout's entries, one after the other: what a loop over them has tested or counted. Assumes nothing.
-use mathlib.Core.Bool.{Bool, true, cond, ◌&&◌}
-use mathlib.Core.List.{List, [], ◌∷◌, ◌++◌}
-use mathlib.Core.Path.{◌≡◌, refl, sym, ap, ap₂, ◌∙◌}
-use Prim.Native.Nat.{ℕ, ◌+◌, ◌*◌, ◌≤◌, ◌<◌}
-use native.Mathlib.Nat.{mul-le-mul, add_assoc, add-zero, zero-add}
+-- A layout's entries: how many are of a kind, and the order of two. Assumes nothing.
+use mathlib.Core.Bool.{Bool, true, false, cond}
+use mathlib.Core.List.{List, map}
+use mathlib.Core.Path.{◌≡◌, refl}
+use Prim.Native.Nat.{ℕ, zero, suc, ◌+◌, ◌*◌, ◌≤◌, ◌<◌}
+use native.Mathlib.Nat.{mul-le-mul}
 use native.Mathlib.Omega.{arith}
 use borrow.Author.Tests.{eq-eqb, ne_eqb}
 use lib.Dec.{ltb, eqb}
+use lib.ListN.{length}
+use Rattle.std.specs.List.{filter, range_with_len}
 use Rattle.model.specs.Layout.{Entry, copies}
-use Rattle.model.specs.Lists.{all, count_of, rising, below}
+use Rattle.model.specs.Lists.{count_of, rising, below}
 use Rattle.model.specs.Services.{entry_in}
-use Rattle.model.proofs.Folds.{map-below-more, all-numbers_more, all-below-more}
 use Rattle.layouts.specs.Entries.{entries_in}
 use Rattle.layouts.specs.Passing.{number_by, in_order_by}
 
--- ---- one entry more
-
-pub entries_more : (s : List ℕ) (i : ℕ) → entries_in s (i + 1) ≡ entries_in s i ++ (entry_in s i ∷ [])
-unfolding entries_in
-entries_more s i = map-below-more (entry_in s) i
-
--- ---- tests of all
-
-pub all_none : (p : ℕ → Bool) → true ≡ all p (below 0)
-unfolding all below rising
-all_none p = refl
-
-pub all-next : (p : ℕ → Bool) (i : ℕ) (ok r : Bool) → ok ≡ all p (below i) → r ≡ p i → (ok && r) ≡ all p (below (i + 1))
-all-next p i ok r e f = ap₂ ◌&&◌ e f ∙ sym (all-numbers_more p i)
-
-pub all-entries_none : (p : Entry → Bool) (s : List ℕ) → true ≡ all p (entries_in s 0)
-unfolding all entries_in below rising
-all-entries_none p s = refl
-
-pub all-entries_next : (p : Entry → Bool) (s : List ℕ) (i : ℕ) (ok r : Bool) → ok ≡ all p (entries_in s i) → r ≡ p (entry_in s i)
-    → (ok && r) ≡ all p (entries_in s (i + 1))
-unfolding entries_in
-all-entries_next p s i ok r e f = ap₂ ◌&&◌ e f ∙ sym (all-below-more (entry_in s) p i)
-
 -- ---- copies
 
-count_of-last : {A : Type 0} (p : A → Bool) (xs : List A) (x : A) → count_of p (xs ++ (x ∷ [])) ≡ count_of p xs + cond (p x) 1 0
-unfolding count_of
-count_of-last p [] x = add-zero _ ∙ sym (zero-add _)
-count_of-last p (y ∷ xs) x = ap (λ n. cond (p y) 1 0 + n) (count_of-last p xs x) ∙ sym (add_assoc (cond (p y) 1 0) (count_of p xs) (cond (p x) 1 0))
+module _ (p : Entry → Bool) (f : ℕ → Entry) where
+  counted : (i k : ℕ) → length (filter (λ m. p (f m)) (range_with_len i k)) ≡ count_of p (map f (rising i k))
+  unfolding count_of rising
+  counted i zero = refl
+  counted i (suc k) = go (counted (suc i) k) (p (f i)) refl
+    where
+      go : length (filter (λ m. p (f m)) (range_with_len (suc i) k)) ≡ count_of p (map f (rising (suc i) k)) → (b : Bool) → p (f i) ≡ b
+          → length (filter (λ m. p (f m)) (range_with_len i (suc k))) ≡ cond (p (f i)) 1 0 + count_of p (map f (rising (suc i) k))
+      go rest true e = let n : i + 1 ≡ suc i = omega arith in rw (e, n) (omega (arith, rest))
+      go rest false e = let n : i + 1 ≡ suc i = omega arith in rw (e, n) (omega (arith, rest))
 
-pub copies-none : (t : ℕ) (s : List ℕ) → 0 ≡ copies t (entries_in s 0)
-unfolding copies count_of entries_in below rising
-copies-none t s = refl
-
-pub copies-next : (t : ℕ) (s : List ℕ) (i n k kind : ℕ) → n ≡ copies t (entries_in s i) → kind ≡ (entry_in s i).kind → k ≡ cond (eqb kind t) 1 0
-    → n + k ≡ copies t (entries_in s (i + 1))
-unfolding copies
-copies-next t s i n k kind e f g =
-    ap₂ ◌+◌ e (g ∙ ap (λ m. cond (eqb m t) 1 0) f)
-    ∙ sym (ap (count_of (λ e. eqb e.kind t)) (entries_more s i) ∙ count_of-last (λ e. eqb e.kind t) (entries_in s i) (entry_in s i))
+pub copies_counted : (t : ℕ) (s : List ℕ) (n : ℕ) → length (filter (λ i. eqb (entry_in s i).kind t) (range_with_len 0 n)) ≡ copies t (entries_in s n)
+unfolding copies entries_in below
+copies_counted t s n = counted (λ e. eqb e.kind t) (entry_in s) 0 n
 
 -- ---- the number of an entry
 

@@ -3,3 +3,4 @@ pub mod EntryLaws
 pub mod AdmissionLaws
 pub mod ClearanceLaws
 pub mod PassingLaws
+pub mod StatedLaws

@@ -1,3 +1,4 @@
 -- The definitions that the contracts of this crate cite beside the model's.
 pub mod Entries
 pub mod Passing
+pub mod Handed

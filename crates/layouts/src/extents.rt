@@ -1,39 +1,33 @@
 // The length of a layout of candidates.
-ghost use Rattle.std.specs.Prelude.{true, map, ◌≡◌, ◌+◌, ◌*◌, ◌≤◌, ◌<◌, max, length};
-ghost use Rattle.model.specs.Lists.{all, largest};
-ghost use Rattle.candidates.specs.Placements.{Bounded};
-ghost use Rattle.layouts.specs.Entries.{as_entry, entries_in};
-ghost use Rattle.layouts.specs.Passing.{admitted_by, extent_by};
+ghost use Rattle.std.specs.Prelude.{◌≡◌, ◌<◌, ◌≤◌};
+ghost use Rattle.model.specs.Layout.{entry_extent, layout_length};
+ghost use Rattle.model.specs.Services.{entry_in};
+ghost use Rattle.layouts.specs.Handed.{problem_for, layout_for, Admitted};
 
-use crate::entries::{Entry, entry_at};
-use candidates::placements::extent;
-use job::View;
-use shapes::boxes::Boxes;
+use crate::handed::Handed;
 
-fn larger(a: usize, b: usize) -> usize
-    ensures { result ≡ max a b }
-{
-    if a < b { b } else { a }
-}
-
-// Where an entry that is a candidate ends: on the board.
-fn extent_of(view: View, boxes: Boxes, e: Entry) -> usize
-    requires { Bounded view × (admitted_by view boxes (as_entry e) ≡ true) }
-    ensures { (result ≡ extent_by view boxes (as_entry e)) × (result ≤ 1000) }
-{
-    extent(view, boxes, e.kind, e.column, e.rotation)
-}
-
-// The length of the n entries: the largest of their ends, plus the margin.
-pub fn length_of(view: View, boxes: Boxes, layout: &[u8], n: usize) -> usize
-    requires { ((Bounded view × (n ≤ 12)) × (n * 8 ≤ length layout.now)) × (all (admitted_by view boxes) (entries_in layout.now n) ≡ true) }
-    ensures { (result ≡ largest (map (extent_by view boxes) (entries_in layout.now n)) + view.margin) × (result ≤ 1063) }
-{
-    let mut longest: usize = 0;
-    let mut i: usize = 0;
-    while i < n {
-        longest = larger(longest, extent_of(view, boxes, entry_at(layout, i)));
-        i += 1;
+impl<'a> Handed<'a> {
+    // Where entry i ends: on the board.
+    fn end_of(&self, i: usize) -> usize
+        requires admitted { Admitted self.now }
+        requires entry { i < self.now.prepared.now.view.pieces }
+        ensures end { result ≡ entry_extent (problem_for self.now) (entry_in self.now.layout.now i) }
+        ensures on_board { result ≤ 1000 }
+    {
+        let e = self.entry(i);
+        self.prepared.extent(e.kind, e.place)
     }
-    longest + view.margin
+
+    // The length of the entries: the largest of their ends, plus the margin.
+    pub fn length(&self) -> usize
+        requires { Admitted self.now }
+        ensures length { result ≡ layout_length (problem_for self.now) (layout_for self.now) }
+        ensures most { result ≤ 1063 }
+    {
+        let mut longest = 0usize;
+        for i in 0..self.prepared.view.pieces {
+            longest = longest.max(self.end_of(i));
+        }
+        longest + self.prepared.view.margin
+    }
 }

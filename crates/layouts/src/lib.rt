@@ -4,7 +4,7 @@
 mod admission;
 mod clearance;
 mod demands;
-mod entries;
 mod extents;
+mod handed;
 mod ordering;
 pub mod passing;

@@ -1,16 +1,18 @@
 // The order of a layout's entries.
-ghost use Rattle.std.specs.Prelude.{◌≡◌, ◌+◌, ◌*◌, ◌≤◌, ◌<◌, length};
+ghost use Rattle.std.specs.Prelude.{◌≡◌, ◌+◌, ◌≤◌, ◌<◌};
+ghost use Rattle.model.specs.Layout.{ordered};
 ghost use Rattle.layouts.specs.Entries.{Small, as_entry};
-ghost use Rattle.layouts.specs.Passing.{number_by, in_order_by, ordered_by};
+ghost use Rattle.layouts.specs.Handed.{problem_for, layout_for};
+ghost use Rattle.layouts.specs.Passing.{number_by, in_order_by, ordered_at};
 
-use crate::entries::{Entry, entry_at};
+use crate::handed::{Entry, Handed};
 
 // The candidate number that an entry's column, row and rotation have on a board of so many rows.
 fn number_of(rows: usize, e: Entry) -> usize
     requires { (rows ≤ 1001) × Small e }
     ensures { result ≡ number_by rows (as_entry e) }
 {
-    (e.column * rows + e.row) * 4 + e.rotation
+    (e.place.column * rows + e.place.row) * 4 + e.place.rotation
 }
 
 // Whether the entry e may stand right before the entry f.
@@ -24,16 +26,19 @@ fn in_order(rows: usize, e: Entry, f: Entry) -> bool
     e.kind < f.kind
 }
 
-// Whether each of the n entries stands in order before the next.
-pub fn entries_in_order(rows: usize, layout: &[u8], n: usize) -> bool
-    requires { ((rows ≤ 1001) × (n ≤ 12)) × (n * 8 ≤ length layout.now) }
-    ensures { result ≡ ordered_by rows layout.now n }
-{
-    let mut ok = true;
-    let mut i: usize = 0;
-    while i + 1 < n {
-        ok = ok & in_order(rows, entry_at(layout, i), entry_at(layout, i + 1));
-        i += 1;
+impl<'a> Handed<'a> {
+    // Whether entry i stands in order before the next.
+    fn in_order_at(&self, i: usize) -> bool
+        requires { i + 1 < self.now.prepared.now.view.pieces }
+        ensures { result ≡ ordered_at self.now.prepared.now.view.rows self.now.layout.now i }
+    {
+        in_order(self.prepared.view.rows, self.entry(i), self.entry(i + 1))
     }
-    ok
+
+    // Whether each of the entries stands in order before the next.
+    pub fn in_order(&self) -> bool
+        ensures { result ≡ ordered (problem_for self.now) (layout_for self.now) }
+    {
+        (1..self.prepared.view.pieces).all(|i| self.in_order_at(i - 1))
+    }
 }

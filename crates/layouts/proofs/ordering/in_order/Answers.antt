@@ -1,4 +1,3 @@
--- `layouts::ordering::in_order` meets its contract. Assumes nothing.
 use mathlib.Core.Path.{ap₂, ◌∙◌}
 use lib.Dec.{ltb}
 use Rattle.layouts.specs.Entries.{as_entry}
