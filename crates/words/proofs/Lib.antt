@@ -3,6 +3,7 @@ pub mod Lists
 pub mod Value
 pub mod Place
 pub mod Row
+pub mod Library
 pub mod Bit
 pub mod HowMany
 pub mod Member
