@@ -1,14 +1,15 @@
 -- Sets of numbers in words: one law for every change of one bit, and the members and the count after each.
-use mathlib.Core.Path.{◌≡◌, refl, sym, ap, ◌∙◌}
+use mathlib.Core.Path.{◌≡◌, refl, sym, ap, ap₂, ◌∙◌}
 use mathlib.Core.Bool.{Bool, true, false, not, ◌&&◌, ◌||◌, and-true, and-false, or-true, or-false}
-use mathlib.Core.List.{List}
+use mathlib.Core.List.{List, ◌++◌}
 use mathlib.Core.Logic.{◌⊎◌, inl, inr}
 use Prim.Native.Nat.{ℕ, ◌+◌, ◌-◌, ◌*◌, ◌/◌, ◌%◌, ◌^◌, ◌≤◌, ◌<◌}
 use native.Mathlib.Nat.{mod-eq_of_lt, lt_of_le_of_lt}
 use native.Mathlib.Omega.{arith}
 use lib.Count.{ones, ones-le}
 use lib.Dec.{eqb}
-use lib.ListN.{length, take, drop, replicate, length-replicate, get_or-replicate, replicate-append-replicate}
+use lib.ListN.{length, take, drop, replicate, length-replicate, get_or-replicate}
+use lib.Seq.{length-take-le}
 use borrow.Author.Tests.{eq-eqb, ne_eqb}
 use Rattle.words.specs.Bytes.{AreBytes}
 use Rattle.words.specs.Number.{number_at, with_number, filled}
@@ -16,7 +17,7 @@ use Rattle.words.specs.Bits.{test_bit, with_bit, without_bit}
 use Rattle.words.specs.Sets.{word_offset, member, changed, with_member, without_member, how_many, count_members, cleared_words}
 use Rattle.words.proofs.Cases.{eq_or_ne, le_or_lt}
 use Rattle.words.proofs.Place.{number_at-drop, number_at-take, length-with_number, with_number-bytes, with_number-number_at, number_at-lt, number_at-same, number_at-other}
-use Rattle.words.proofs.Row.{filled_none, filled_more, length-filled, filled-bytes, number_at-filled, number_at-behind-filled}
+use Rattle.words.proofs.Row.{bytes_of-zeros, length-filled, filled-bytes, number_at-filled, number_at-behind-filled}
 use Rattle.words.proofs.Bit.{test_bit-none, test_bit-with, test_bit-without, with_bit-lt, without_bit-le}
 use Rattle.words.proofs.HowMany.{how_many-cong, how_many-add, how_many-none, how_many-more, how_many-bits}
 
@@ -167,16 +168,13 @@ count-le s k words l =
 
 -- ---- words that became zero
 
--- No word changes nothing.
-pub cleared-none : (s : List ℕ) → cleared_words 0 s ≡ s
-unfolding cleared_words
-cleared-none s = filled_none 8 s
-
--- One word more: the law of a loop that clears.
-pub cleared_more : (k : ℕ) (s : List ℕ) → cleared_words (k + 1) s ≡ with_number 8 (cleared_words k s) (k * 8) 0
-unfolding cleared_words
-cleared_more k s =
-    rw (← (replicate-append-replicate {A = ℕ} k 1 0), filled_more, length-replicate)
+-- Zeros in the place of their bytes (`s[..words * 8].fill(0)` in code).
+pub cleared-is : (words : ℕ) (s zeros : List ℕ) → words * 8 ≤ length s → zeros ≡ replicate (length (take (words * 8) s)) 0
+    → zeros ++ drop (words * 8) s ≡ cleared_words words s
+unfolding cleared_words filled
+cleared-is words s zeros fits e =
+    ap₂ ◌++◌ (e ∙ ap (λ (n : ℕ). replicate n 0) (length-take-le (words * 8) s fits) ∙ sym (bytes_of-zeros 8 words))
+    (ap (λ (n : ℕ). drop (n * 8) s) (sym (length-replicate words 0)))
 
 module _ (words : ℕ) (s : List ℕ) (fits : words * 8 ≤ length s) where
   room : length {A = ℕ} (replicate words 0) * 8 ≤ length s

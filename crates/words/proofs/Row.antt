@@ -5,8 +5,9 @@ use Prim.Native.Nat.{ℕ, zero, suc, ◌+◌, ◌-◌, ◌*◌, ◌%◌, ◌^◌
 use native.Mathlib.Nat.{le-div_iff_mul-le, zero-mul, suc-mul, add_comm, add_assoc, zero-add, add-sub_of_le}
 use native.Mathlib.Numerals.{add-one}
 use native.Mathlib.Omega.{arith}
-use lib.ListN.{length, get_or, take, drop, length-append, length-drop}
+use lib.ListN.{length, get_or, take, drop, replicate, length-append, length-drop}
 use lib.Seq.{take_at, drop_at, drop-drop, get_or-drop}
+use Rattle.std.proofs.lemmas.List.{replicate-append-replicate}
 use Rattle.words.specs.Number.{bytes, bytes_of, number_at, with_number, filled, count}
 use Rattle.words.specs.Bytes.{AreBytes}
 use Rattle.words.proofs.Value.{length-bytes, bytes-are, value-bytes}
@@ -41,6 +42,18 @@ pub bytes_of-bytes : (k : ℕ) (ns : List ℕ) → AreBytes (bytes_of k ns)
 unfolding bytes_of
 bytes_of-bytes k [] i = omega arith
 bytes_of-bytes k (n ∷ ns) i = bytes-append (bytes k n) (bytes_of k ns) (bytes-are k n) (bytes_of-bytes k ns) i
+
+-- The bytes of zeros are zeros.
+pub bytes-zero : (k : ℕ) → bytes k 0 ≡ replicate k 0
+unfolding bytes
+bytes-zero zero = refl
+bytes-zero (suc k) = ap (λ (bs : List ℕ). 0 ∷ bs) (bytes-zero k)
+
+pub bytes_of-zeros : (k n : ℕ) → bytes_of k (replicate n 0) ≡ replicate (n * k) 0
+unfolding bytes_of
+bytes_of-zeros k zero = rw zero-mul
+bytes_of-zeros k (suc n) =
+    rw (suc-mul, add_comm (n * k) k, bytes-zero k, bytes_of-zeros k n) (replicate-append-replicate k (n * k) 0)
 
 -- ---- a list of bytes whose first numbers are given
 

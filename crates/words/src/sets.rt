@@ -29,19 +29,17 @@ pub fn has_members(s: &[u8], words: u32, wanted: u64) -> bool
     requires { words * 8 ≤ length s.now }
     ensures { result ≡ leb wanted (count_members (words * 64) s.now) }
 {
-    let mut r = 0;
-    let mut k = 0;
-    while k < words {
-        let w = numbers::get_u64(s, (k as usize) * 8);
+    let mut count = 0;
+    for k in 0..words {
+        let w = numbers::get_u64(s, k as usize * 8);
         if w != 0 {
-            r += bits::count_bits(w);
-            if wanted <= r {
+            count += bits::count_bits(w);
+            if wanted <= count {
                 return true;
             }
         }
-        k += 1;
     }
-    wanted <= r
+    wanted <= count
 }
 
 // The first words become zero.
@@ -49,11 +47,7 @@ pub fn clear(s: &mut [u8], words: usize)
     requires { words * 8 ≤ length s.old }
     ensures { s.new ≡ cleared_words words s.old }
 {
-    let mut done = 0;
-    while done < words {
-        numbers::put_u64(s, done * 8, 0);
-        done += 1;
-    }
+    s[..words * 8].fill(0);
 }
 
 // The first member at or above a number within the first words, or the number behind them where there is none.
@@ -61,14 +55,13 @@ pub fn next_member(s: &[u8], words: u32, from: usize) -> usize
     requires { words * 8 ≤ length s.now }
     ensures { result ≡ next_member (words * 64) s.now from }
 {
-    let limit = (words as usize) * 64;
-    let mut at = from;
-    while at < limit {
-        let rest = numbers::get_u64(s, at / 64 * 8) >> (at % 64);
+    let words = words as usize;
+    for k in from / 64..words {
+        let at = from.max(k * 64);
+        let rest = numbers::get_u64(s, k * 8) >> (at % 64);
         if rest != 0 {
             return at + bits::lowest_bit(rest);
         }
-        at = (at / 64 + 1) * 64;
     }
-    at
+    from.max(words * 64)
 }

@@ -1,5 +1,4 @@
 -- `words::numbers::get_u16` meets its contract.
-use borrow.Author.Rules.{rules}
 use Rattle.words.proofs.Library.{read-is}
 use Rattle.words.proofs.numbers.get_u16.Goals as goal
 
