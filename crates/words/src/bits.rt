@@ -36,24 +36,21 @@ pub fn clear_bit(w: u64, i: u64) -> u64
 pub fn assign_bit(w: u64, i: u64, on: bool) -> u64
     ensures { result ≡ assigned_bit on w (i % 64) }
 {
-    if on {
-        return set_bit(w, i);
-    }
-    clear_bit(w, i)
+    if on { set_bit(w, i) } else { clear_bit(w, i) }
 }
 
 // How many bits of w are set.
 pub fn count_bits(w: u64) -> u64
     ensures { (result ≡ ones w) × (result ≤ 64) }
 {
-    u64::count_ones(w) as u64
+    u64::from(w.count_ones())
 }
 
 // The place of the lowest bit of w that is set, or 64 where none is.
 pub fn lowest_bit(w: u64) -> usize
     ensures { (result ≡ first_from (test_bit w) 64 0) × (result ≤ 64) }
 {
-    u64::trailing_zeros(w) as usize
+    w.trailing_zeros() as usize
 }
 
 // The word whose bit i, for each i, is what the test says of i.

@@ -1,9 +1,6 @@
 -- `words::bits::keep` meets its contract.
-use Rattle.words.proofs.Tested.{kept-begin, kept-end, kept-next, lowest-left, without_smaller}
+use Rattle.words.proofs.Tested.{kept-end, kept-next, lowest-left, without_smaller}
 use Rattle.words.proofs.bits.keep.Goals as goal
-
-pub loop-left-init : goal.loop-left-init
-loop-left-init g c = kept-begin _ _ c.ranges.w.fits
 
 pub test-requires : goal.test-requires
 test-requires g c =

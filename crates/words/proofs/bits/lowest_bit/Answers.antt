@@ -1,11 +1,7 @@
 -- `words::bits::lowest_bit` meets its contract.
-use native.Mathlib.Omega.{arith}
 use lib.Count.{trailing_le}
 use Rattle.words.proofs.First.{trailing_first}
 use Rattle.words.proofs.bits.lowest_bit.Goals as goal
-
-pub overflow_cast-result : goal.overflow_cast-result
-overflow_cast-result c = omega (arith, trailing_le 64 c.args.w)
 
 pub returns : goal.returns
 returns c = (trailing_first 64 c.args.w, trailing_le 64 c.args.w)
