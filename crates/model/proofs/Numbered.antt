@@ -42,4 +42,6 @@ number_numbered n l h f =
 
 -- So does that of a job.
 pub refusal-number : (s : List ℕ) → (refusal s ≡ 0 → ⊥) → number (numbered (refusal s)) ≡ refusal s
-refusal-number s f = number_numbered (refusal s) (omega (arith, f)) (omega (arith, refusal-most s)) (λ e. omega (arith, e, refusal-most s))
+refusal-number s f =
+    let most = refusal-most s in
+    number_numbered (refusal s) (omega (arith, f)) (omega (arith, most)) (λ e. omega (arith, e, most))

@@ -1,5 +1,6 @@
-// The answers of the services: `Result<u16, Refusal>`, of how many numbers, bytes, words or triangles were written (read, save, row, cut) or of the layout's
-// length (check), and `Result<Outcome, Refusal>` (run). What the paper's number and values of each are, `specs/Answers` says.
+// The answers of the services: `Result<u16, Refusal>`, of how many numbers, bytes, words or triangles were written
+// (read, save, row, cut) or of the layout's length (check), and `Result<Outcome, Refusal>` (run). What the paper's
+// number and values of each are, `specs/Answers` says.
 #![tactic(auto)]
 
 ghost use Rattle.std.specs.Prelude.{◌≡◌};
@@ -8,8 +9,8 @@ ghost use Rattle.model.specs.Refusal.{number};
 use std::error::Error;
 use std::fmt;
 
-// Why a call is refused, in the order of the paper's numbers: the job's, then those of what the host hands in. The numbers themselves, and 10, which is
-// no refusal but the answer "none", stand in `specs/Refusal`.
+// Why a call is refused, in the order of the paper's numbers: the job's, then those of what the host hands in. The
+// numbers themselves stand in `specs/Refusal`; 10 is no refusal but the answer "none".
 #[derive(Clone, Copy, PartialEq, Eq, Debug)]
 pub enum Refusal {
     // 1: too few bytes for a trailer, or more than a job may have.
@@ -57,8 +58,8 @@ impl fmt::Display for Refusal {
 
 impl Error for Refusal {}
 
-// How a run that is not refused ends, after so many steps: with the shortest layout, of this length; stopped, and then it holds a layout of this length or
-// none; or with the paper's "none", since no layout passes.
+// How a run that is not refused ends, after so many steps: with the shortest layout, of this length; stopped, and then
+// it holds a layout of this length or none; or with the paper's "none", since no layout passes.
 #[derive(Clone, Copy, PartialEq, Eq, Debug)]
 pub enum Outcome {
     Shortest { length: u16, steps: u32 },

@@ -7,7 +7,8 @@ use Rattle.std.specs.Prelude.{Result, Ok, Err, Some, None}
 use Rattle.words.specs.Number.{number_at}
 use Rattle.model.specs.Content.{piece_count}
 use Rattle.model.specs.Lists.{concat, rising, below}
-use Rattle.model.specs.Output.{shortest_word, stopped_word, none_word, refused_word, held_word, first_line, entry_line, entry_lines, held_lines, layout_lines, printed}
+use Rattle.model.specs.Output.{shortest_word, stopped_word, none_word, refused_word, held_word}
+use Rattle.model.specs.Output.{first_line, entry_line, entry_lines, held_lines, layout_lines, printed}
 use Rattle.model.specs.Problem.{Problem}
 use Rattle.model.specs.Refusal.{number}
 use Rattle.model.specs.Services.{RunOutcome, entry_in, layout_in}
@@ -23,15 +24,19 @@ pub first-refused : (r : Refusal) → first_line (Err r) ≡ (refused_word ++ 32
 unfolding first_line number_then
 first-refused r = line-two _ _
 
-pub first-shortest : (len steps : ℕ) → first_line (Ok (Shortest len steps)) ≡ (shortest_word ++ 32 ∷ []) ++ number_then len 32 ++ number_then steps 10
+pub first-shortest : (len steps : ℕ)
+    → first_line (Ok (Shortest len steps)) ≡ (shortest_word ++ 32 ∷ []) ++ number_then len 32 ++ number_then steps 10
 unfolding first_line number_then
 first-shortest len steps = line-three _ _ _
 
-pub first-held : (len steps : ℕ) → first_line (Ok (Stopped (Some len) steps)) ≡ (stopped_word ++ 32 ∷ []) ++ number_then len 32 ++ number_then steps 10
+pub first-held : (len steps : ℕ)
+    → first_line (Ok (Stopped (Some len) steps))
+    ≡ (stopped_word ++ 32 ∷ []) ++ number_then len 32 ++ number_then steps 10
 unfolding first_line held_word number_then
 first-held len steps = line-three _ _ _
 
-pub first-nothing : (steps : ℕ) → first_line (Ok (Stopped None steps)) ≡ (stopped_word ++ 32 ∷ []) ++ (45 ∷ 32 ∷ []) ++ number_then steps 10
+pub first-nothing : (steps : ℕ)
+    → first_line (Ok (Stopped None steps)) ≡ (stopped_word ++ 32 ∷ []) ++ (45 ∷ 32 ∷ []) ++ number_then steps 10
 unfolding first_line held_word number_then
 first-nothing steps = line-three _ _ _
 
@@ -66,12 +71,15 @@ lines_more s k =
 pub lines_begun : (first s : List ℕ) → first ≡ first ++ lines_in s 0
 lines_begun first s = rw (lines_none s) (sym (append-nil first))
 
-pub lines_grown : (first s : List ℕ) (k : ℕ) → (first ++ lines_in s k) ++ entry_line (entry_in s k) ≡ first ++ lines_in s (k + 1)
+pub lines_grown : (first s : List ℕ) (k : ℕ)
+    → (first ++ lines_in s k) ++ entry_line (entry_in s k) ≡ first ++ lines_in s (k + 1)
 lines_grown first s k =
-    append_assoc first (lines_in s k) (entry_line (entry_in s k)) ∙ ap (λ (t : List ℕ). first ++ t) (sym (lines_more s k) ∙ ap (lines_in s) (sym (add-one k)))
+    append_assoc first (lines_in s k) (entry_line (entry_in s k))
+    ∙ ap (λ (t : List ℕ). first ++ t) (sym (lines_more s k) ∙ ap (lines_in s) (sym (add-one k)))
 
 -- The lines that follow the first are those of as many entries as are shown.
-pub shown_lines : (a : Result Outcome Refusal) (s : List ℕ) (pieces : ℕ) → lines_in s (shown_count a pieces) ≡ layout_lines a (map (entry_in s) (below pieces))
+pub shown_lines : (a : Result Outcome Refusal) (s : List ℕ) (pieces : ℕ)
+    → lines_in s (shown_count a pieces) ≡ layout_lines a (map (entry_in s) (below pieces))
 unfolding layout_lines held_lines lines_in
 shown_lines (Err r) s pieces = lines_none s
 shown_lines (Ok (Shortest len steps)) s pieces = refl
@@ -80,11 +88,13 @@ shown_lines (Ok (Stopped None steps)) s pieces = lines_none s
 shown_lines (Ok (Infeasible steps)) s pieces = lines_none s
 
 -- The first line and those lines are the whole text.
-pub whole_text : (a : Result Outcome Refusal) (s text : List ℕ) (pieces i shown : ℕ) → text ≡ first_line a ++ lines_in s i → i ≡ shown
+pub whole_text : (a : Result Outcome Refusal) (s text : List ℕ) (pieces i shown : ℕ)
+    → text ≡ first_line a ++ lines_in s i → i ≡ shown
     → shown ≡ shown_count a pieces → text ≡ rendered a s pieces
 unfolding rendered
 whole_text a s text pieces i shown put all count =
-    put ∙ ap (λ k. first_line a ++ lines_in s k) (all ∙ count) ∙ ap (λ (t : List ℕ). first_line a ++ t) (shown_lines a s pieces)
+    put ∙ ap (λ k. first_line a ++ lines_in s k) (all ∙ count)
+    ∙ ap (λ (t : List ℕ). first_line a ++ t) (shown_lines a s pieces)
 
 -- What is rendered of a run of a job is what the definition of the program's output says is printed of it.
 pub rendered-printed : (j : Problem) (r : RunOutcome) → rendered r.answer r.out (piece_count j.kinds) ≡ printed j r

@@ -1,4 +1,5 @@
--- Numbers in base ten: the library writes the digits of the definition. And how long a number is with the byte that ends it.
+-- Numbers in base ten: the library writes the digits of the definition. And how long a number is with the byte that
+-- ends it.
 use mathlib.Core.List.{List, [], ◌∷◌, ◌++◌, append_assoc}
 use mathlib.Core.Path.{◌≡◌, sym, ap, ◌∙◌}
 use Prim.Native.Nat.{ℕ, ◌+◌, ◌%◌, ◌<◌, ◌≤◌}
@@ -33,4 +34,6 @@ module _ (n mark : ℕ) (digits : List ℕ) (fits : n < 4294967296) (written : d
 
   pub digits_then : (before : List ℕ) → (before ++ digits) ++ mark ∷ [] ≡ before ++ number_then n mark
   unfolding number_then
-  digits_then before = append_assoc before digits (mark ∷ []) ∙ ap (λ t. before ++ (t ++ mark ∷ [])) (written ∙ decimal-same n (omega arith))
+  digits_then before =
+      append_assoc before digits (mark ∷ [])
+      ∙ ap (λ t. before ++ (t ++ mark ∷ [])) (written ∙ decimal-same n (omega arith))

@@ -8,7 +8,7 @@ use crate::text::{Text, append, number};
 use model::{Outcome, Refusal};
 use words::numbers::get_u16;
 
-// The first line: `shortest`, `stopped`, `none` or `refused`, the length or `-`, and the steps or the number of the refusal.
+// The first line: `shortest`, `stopped`, `none` or `refused`, the length or `-`, and the steps or the refusal's number.
 pub fn first(text: &mut Text, answer: Result<Outcome, Refusal>)
     requires { text.old.items ≡ [] }
     ensures items { text.new.items ≡ Output.first_line answer }

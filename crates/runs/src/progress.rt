@@ -4,19 +4,21 @@ ghost use Rattle.runs.specs.Told.{begun, stepped, halted, completed, told};
 
 use model::Outcome;
 
-// How far the walk has come: what is left of the budget, what an end has to stay below, in how many words of a live set candidates lie that do so, whether a
-// layout is held, whether the walk stopped.
+// How far the walk has come: what is left of the budget, what an end has to stay below, in how many words of a live set
+// candidates lie that do so, whether a layout is held, whether the walk stopped.
 #[derive(Clone, Copy)]
 pub struct Progress {
     pub left: u32,
     pub bound: usize,
     pub span: usize,
-    // A flag beside the bound, and no Option: each comparison with the bound would ask first whether a layout is held, and it does not depend on that.
+    // A flag beside the bound, and no Option, which is no plainer: an end is held to the bound in each step, whether a
+    // layout is held or not.
     pub found: bool,
     pub stopped: bool,
 }
 
-// At the beginning: the whole budget is left, an end has to stay below this bound, a layout is held or not, and candidates that stay below it lie in so many words of a set.
+// At the beginning: the whole budget is left, an end has to stay below this bound, a layout is held or not, and
+// candidates that stay below it lie in so many words of a set.
 pub fn begin(budget: u32, bound: usize, found: bool, span: usize) -> Progress
     ensures { result ≡ begun budget bound found span }
 {
@@ -52,7 +54,8 @@ pub fn halt(st: Progress) -> Progress
     }
 }
 
-// A layout with this largest end was completed: from now on an end has to stay below it, and candidates that do so lie in so many words.
+// A layout with this largest end was completed: from now on an end has to stay below it, and candidates that do so lie
+// in so many words.
 pub fn complete(st: Progress, end: usize, span: usize) -> Progress
     ensures { result ≡ completed st end span }
 {

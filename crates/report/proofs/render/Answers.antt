@@ -1,5 +1,5 @@
 use mathlib.Core.List.{◌++◌}
-use mathlib.Core.Path.{ap, ◌∙◌}
+use mathlib.Core.Path.{◌≡◌, ap, ◌∙◌}
 use native.Mathlib.Omega.{arith}
 use lib.ListN.{length, drop}
 use Rattle.model.specs.Output.{first_line, entry_line}
@@ -9,7 +9,8 @@ use Rattle.report.proofs.Lines.{lines_begun, lines_grown, whole_text}
 use Rattle.report.proofs.render.Goals as goal
 
 pub loop-i-init : goal.loop-i-init
-loop-i-init c = (c.first.ensures.items ∙ lines_begun (first_line c.args.answer) c.args.numbers.now, c.first.ensures.short)
+loop-i-init c =
+    (c.first.ensures.items ∙ lines_begun (first_line c.args.answer) c.args.numbers.now, c.first.ensures.short)
 
 pub loop-i-preserved : goal.loop-i-preserved
 loop-i-preserved c =
@@ -23,14 +24,18 @@ loop-i-preserved c =
 pub returns-clause-value : goal.returns-clause-value
 returns-clause-value c =
     let l = c.loop-i in
-    let whole =
-    whole_text c.args.answer c.args.numbers.now _ c.args.pieces l.i _ l.invariant.0 (omega (arith, c.loop-i-test.false, l.auto.i-end)) c.shown_count-i-end.ensures.value in
+    let all : l.i ≡ c.shown_count-i-end.result = omega (arith, c.loop-i-test.false, l.auto.i-end) in
+    let count = c.shown_count-i-end.ensures.value in
+    let whole = whole_text c.args.answer c.args.numbers.now _ c.args.pieces l.i _ l.invariant.0 all count in
     c.len-len.ensures.value ∙ ap length whole
 
 pub returns-clause-dst_after : goal.returns-clause-dst_after
 returns-clause-dst_after c =
     let l = c.loop-i in
-    let whole =
-    whole_text c.args.answer c.args.numbers.now _ c.args.pieces l.i _ l.invariant.0 (omega (arith, c.loop-i-test.false, l.auto.i-end)) c.shown_count-i-end.ensures.value in
-    ap (λ t. t ++ drop c.len-len.result c.args.dst.now) (c.copy_from_slice.ensures.after ∙ c.as_slice.ensures.value ∙ whole)
-    ∙ ap (λ n. rendered c.args.answer c.args.numbers.now c.args.pieces ++ drop n c.args.dst.now) (c.len-len.ensures.value ∙ ap length whole)
+    let all : l.i ≡ c.shown_count-i-end.result = omega (arith, c.loop-i-test.false, l.auto.i-end) in
+    let count = c.shown_count-i-end.ensures.value in
+    let whole = whole_text c.args.answer c.args.numbers.now _ c.args.pieces l.i _ l.invariant.0 all count in
+    let put = c.copy_from_slice.ensures.after ∙ c.as_slice.ensures.value ∙ whole in
+    ap (λ t. t ++ drop c.len-len.result c.args.dst.now) put
+    ∙ ap (λ n. rendered c.args.answer c.args.numbers.now c.args.pieces ++ drop n c.args.dst.now)
+    (c.len-len.ensures.value ∙ ap length whole)

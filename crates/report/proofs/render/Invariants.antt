@@ -6,4 +6,5 @@ use Rattle.report.specs.Text.{lines_in}
 use Rattle.report.proofs.render.Given as goal
 
 abbrev pub invariant-loop-i : goal.invariant-loop-i
-invariant-loop-i l = (l.text.items ≡ first_line l.fn.answer ++ lines_in l.numbers l.i) × (array_vec_len l.text ≤ 26 + l.i * 24)
+invariant-loop-i l =
+    (l.text.items ≡ first_line l.fn.answer ++ lines_in l.numbers l.i) × (array_vec_len l.text ≤ 26 + l.i * 24)

@@ -1,5 +1,4 @@
 -- `report::line::entry` meets its contract: the four numbers, one behind the other.
-use native.Mathlib.Omega.{arith}
 use Rattle.std.proofs.Common.{rules}
 use Rattle.report.proofs.Numbers.{number-16}
 use Rattle.report.proofs.Lines.{entry-numbers}
@@ -12,30 +11,28 @@ pub number-requires : goal.number-requires
 number-requires c = search (rules, number-16)
 
 pub number-requires-2 : goal.number-requires-2
-number-requires-2 c =
-    let one = number-16 c.from.result 32 (search rules) in
-    let two = number-16 c.from-2.result 32 (search rules) in
-    omega (arith, c.requires.room, c.number.ensures.len, one, two)
+number-requires-2 c = search (rules, number-16 c.from.result 32, number-16 c.from-2.result 32)
 
 pub number-requires-3 : goal.number-requires-3
 number-requires-3 c =
-    let one = number-16 c.from.result 32 (search rules) in
-    let two = number-16 c.from-2.result 32 (search rules) in
-    let three = number-16 c.from-3.result 32 (search rules) in
-    omega (arith, c.requires.room, c.number.ensures.len, c.number-2.ensures.len, one, two, three)
+    search (rules, number-16 c.from.result 32, number-16 c.from-2.result 32, number-16 c.from-3.result 32)
 
 pub number-requires-4 : goal.number-requires-4
 number-requires-4 c =
-    let one = number-16 c.from.result 32 (search rules) in
-    let two = number-16 c.from-2.result 32 (search rules) in
-    let three = number-16 c.from-3.result 32 (search rules) in
-    let four = number-16 c.from-4.result 10 (search rules) in
-    omega (arith, c.requires.room, c.number.ensures.len, c.number-2.ensures.len, c.number-3.ensures.len, one, two, three, four)
+    search (
+      rules,
+      number-16 c.from.result 32,
+      number-16 c.from-2.result 32,
+      number-16 c.from-3.result 32,
+      number-16 c.from-4.result 10,
+    )
 
 pub returns-clause-short : goal.returns-clause-short
 returns-clause-short c =
-    let one = number-16 c.from.result 32 (search rules) in
-    let two = number-16 c.from-2.result 32 (search rules) in
-    let three = number-16 c.from-3.result 32 (search rules) in
-    let four = number-16 c.from-4.result 10 (search rules) in
-    omega (arith, c.number.ensures.len, c.number-2.ensures.len, c.number-3.ensures.len, c.number-4.ensures.len, one, two, three, four)
+    search (
+      rules,
+      number-16 c.from.result 32,
+      number-16 c.from-2.result 32,
+      number-16 c.from-3.result 32,
+      number-16 c.from-4.result 10,
+    )

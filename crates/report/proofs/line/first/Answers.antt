@@ -4,7 +4,8 @@ use Rattle.model.specs.Output.{shortest_word, stopped_word, none_word, refused_w
 use Rattle.report.proofs.Numbers.{number-16, number-32}
 use Rattle.report.proofs.Lines.{first-refused, first-shortest, first-held, first-nothing, first-none}
 use Rattle.report.proofs.line.first.Goals as goal
-use Rattle.report.proofs.line.first.Goals.{in-Err, in-Ok-Shortest, in-Ok-Stopped+in-Some, in-Ok-Stopped+in-None, in-Ok-Infeasible}
+use Rattle.report.proofs.line.first.Goals.{in-Err, in-Ok-Shortest, in-Ok-Infeasible}
+use Rattle.report.proofs.line.first.Goals.{in-Ok-Stopped+in-Some, in-Ok-Stopped+in-None}
 
 pub returns-clause-items : goal.returns-clause-items
 unfolding shortest_word stopped_word none_word refused_word

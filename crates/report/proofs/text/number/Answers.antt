@@ -8,20 +8,25 @@ use Rattle.report.proofs.text.number.Goals as goal
 
 pub returns-clause-items : goal.returns-clause-items
 returns-clause-items c =
+    let digits = c.as_bytes.ensures.value ∙ c.format.ensures.text in
     c.push.ensures.items ∙ ap (λ t. t ++ c.args.mark ∷ []) c.append.ensures
-    ∙ digits_then c.args.n c.args.mark _ (omega (arith, c.ranges.n.fits)) (c.as_bytes.ensures.value ∙ c.format.ensures.text) c.args.text.now.items
+    ∙ digits_then c.args.n c.args.mark _ (omega (arith, c.ranges.n.fits)) digits c.args.text.now.items
 
 pub append-requires : goal.append-requires
 append-requires c =
-    let long = digits-length c.args.n c.args.mark _ (omega (arith, c.ranges.n.fits)) (c.as_bytes.ensures.value ∙ c.format.ensures.text) in
-    omega (arith, c.requires, long)
+    let digits = c.as_bytes.ensures.value ∙ c.format.ensures.text in
+    omega (arith, c.requires, digits-length c.args.n c.args.mark _ (omega (arith, c.ranges.n.fits)) digits)
 
 pub push-requires : goal.push-requires
 push-requires c =
-    let long = digits-length c.args.n c.args.mark _ (omega (arith, c.ranges.n.fits)) (c.as_bytes.ensures.value ∙ c.format.ensures.text) in
-    omega (arith, c.requires, long, ap length c.append.ensures, length-append c.args.text.now.items c.as_bytes.result.now)
+    let digits = c.as_bytes.ensures.value ∙ c.format.ensures.text in
+    let long = digits-length c.args.n c.args.mark _ (omega (arith, c.ranges.n.fits)) digits in
+    let put = ap length c.append.ensures ∙ length-append c.args.text.now.items c.as_bytes.result.now in
+    omega (arith, c.requires, long, put)
 
 pub returns-clause-len : goal.returns-clause-len
 returns-clause-len c =
-    let long = digits-length c.args.n c.args.mark _ (omega (arith, c.ranges.n.fits)) (c.as_bytes.ensures.value ∙ c.format.ensures.text) in
-    omega (arith, c.push.ensures.len, long, ap length c.append.ensures, length-append c.args.text.now.items c.as_bytes.result.now)
+    let digits = c.as_bytes.ensures.value ∙ c.format.ensures.text in
+    let long = digits-length c.args.n c.args.mark _ (omega (arith, c.ranges.n.fits)) digits in
+    let put = ap length c.append.ensures ∙ length-append c.args.text.now.items c.as_bytes.result.now in
+    omega (arith, c.push.ensures.len, long, put)
