@@ -1,8 +1,8 @@
 -- Distances of corners from edges as they are computed, one after the other; no operation wraps. Assumes nothing.
 use mathlib.Core.Bool.{Bool, true, false, not, cond, ◌&&◌}
 use mathlib.Core.List.{List, [], ◌∷◌, map}
-use mathlib.Core.Path.{◌≡◌, refl, ap, ◌∙◌}
-use Prim.Native.Nat.{ℕ, ◌≤◌, ◌<◌, ◌^◌}
+use mathlib.Core.Path.{◌≡◌, refl, sym, ap, ◌∙◌}
+use Prim.Native.Nat.{ℕ, zero, suc, ◌≤◌, ◌^◌}
 use native.Mathlib.Nat.{le_trans, lt_of_le_of_lt, lt_of_lt_of_le}
 use native.Mathlib.Omega.{arith}
 use lib.Dec.{lit<, lit≤}
@@ -14,15 +14,13 @@ use mir.Val.{Fits, SFits, to_z, of_z}
 use mir.ValLaws.{to_z-of_z, to_z_pos}
 use Rattle.integers.proofs.Machine.{op_fits, op_gives}
 use Rattle.integers.proofs.Sizes.{bounded, fits_nat_abs, size_of, fits-64}
-use Rattle.integers.proofs.Solver.{ring, #, ◌⊞◌, ◌⊟◌, ◌⊠◌, ◌≈◌}
+use Rattle.integers.proofs.Solver.{ring, ◌⊞◌, ◌⊟◌, ◌⊠◌, ◌≈◌}
 use Rattle.model.specs.Content.{Vertex, vertex, Part, origin}
 use Rattle.model.specs.Geometry.{vertex_at, following, cross, shifted, distance_squared, along_edge, near_edge, corners_clear}
-use Rattle.model.specs.Lists.{all, below}
-use Rattle.model.proofs.Lists.{all-at, all_of, all-below, below_all, not_both}
+use Rattle.model.specs.Lists.{all, below, rising}
 use Rattle.model.proofs.Box.{all-and}
 use Rattle.model.proofs.Moves.{along-from, length_from, cross-from}
 use Rattle.model.proofs.Tests.{all_map}
-use Rattle.convexity.proofs.Members.{is_false}
 use Rattle.directions.specs.Directions.{Small}
 use Rattle.directions.proofs.Sizes.{small-as}
 use Rattle.distances.specs.Compact.{corner_clear}
@@ -68,11 +66,33 @@ moved-fits u w h k = fits_nat_abs w16 _ (lt_of_le_of_lt (moved-size u w h k) (li
 pub less_fits : (u w : ℤ) → nat_abs u ≤ 8192 → nat_abs w ≤ 4096 → SFits w16 (u -ℤ w)
 less_fits u w h k = fits_nat_abs w16 _ (lt_of_le_of_lt (bounded (8192 ∷ 4096 ∷ []) 2 (λ u w. u ⊟ w) u w h k) (lit< tt))
 
--- ---- what is computed from the bits of four parameters
+-- ---- what is computed from the bits of parameters
 
 -- a number as it is read from the bits of a parameter
-abbrev bits : ℤ → ℤ
+abbrev pub bits : ℤ → ℤ
 bits z = to_z w16 (of_z w16 z)
+
+pub bits_are : {r v : ℤ} → SFits w16 r → r ≡ v → bits r ≡ v
+bits_are {r} h e = to_z-of_z w16 r h ∙ e
+
+-- a coordinate u that is moved by w, whatever they stand as
+module _ {u w r s : ℤ} (eu : r ≡ u) (ew : s ≡ w) (hu : nat_abs u ≤ 4096) (hw : nat_abs w ≤ 4096) where
+  pub sum_held : SFits w16 (r +ℤ s)
+  sum_held = op_fits eu ew ◌+ℤ◌ (moved-fits u w hu hw)
+
+  pub sum_is : bits (r +ℤ s) ≡ u +ℤ w
+  sum_is = op_gives eu ew ◌+ℤ◌ (moved-fits u w hu hw)
+
+  pub sum_size : nat_abs (bits (r +ℤ s)) ≤ 8192
+  sum_size = rw sum_is (moved-size u w hu hw)
+
+-- a place u less a coordinate w, whatever they stand as
+module _ {u w r s : ℤ} (eu : r ≡ u) (ew : s ≡ w) (hu : nat_abs u ≤ 8192) (hw : nat_abs w ≤ 4096) where
+  pub less_held : SFits w16 (r -ℤ s)
+  less_held = op_fits eu ew ◌-ℤ◌ (less_fits u w hu hw)
+
+  pub less_is : bits (r -ℤ s) ≡ u -ℤ w
+  less_is = op_gives eu ew ◌-ℤ◌ (less_fits u w hu hw)
 
 module _ {a b x y r : ℤ} (ha : SFits w16 a) (hb : SFits w16 b) (hx : SFits w16 x) (hy : SFits w16 y) where
   pub along-of : Small (bits a *ℤ bits x +ℤ bits b *ℤ bits y) 31 r → Small (a *ℤ x +ℤ b *ℤ y) 31 r
@@ -112,18 +132,6 @@ near-is gap a b x y = rw (end a b x y, along-from a b x y, length_from a b, leng
     end : (a b x y : ℤ) → (x *ℤ x +ℤ y *ℤ y) -ℤ (a *ℤ x +ℤ b *ℤ y) -ℤ (a *ℤ x +ℤ b *ℤ y) +ℤ (a *ℤ a +ℤ b *ℤ b) ≡ (x -ℤ a) *ℤ (x -ℤ a) +ℤ (y -ℤ b) *ℤ (y -ℤ b)
     end = ring 4 (λ a b x y. (x ⊠ x ⊞ y ⊠ y) ⊟ (a ⊠ x ⊞ b ⊠ y) ⊟ (a ⊠ x ⊞ b ⊠ y) ⊞ (a ⊠ a ⊞ b ⊠ b) ≈ (x ⊟ a) ⊠ (x ⊟ a) ⊞ (y ⊟ b) ⊠ (y ⊟ b)) tt
 
--- ---- edges, one after the other
-
-module _ (gap : ℕ) (Q : Part) (v : Vertex) where
-  pub edges_clear : ((k : ℕ) → k < length Q → near_edge gap (vertex_at Q k) (vertex_at Q (following Q k)) v ≡ false) → corner_clear gap Q v ≡ true
-  unfolding corner_clear
-  edges_clear f = below_all (λ k. not (near_edge gap (vertex_at Q k) (vertex_at Q (following Q k)) v)) (length Q) (λ k h. ap not (f k h))
-
-  pub edge_too_near : (k : ℕ) → k < length Q → near_edge gap (vertex_at Q k) (vertex_at Q (following Q k)) v ≡ true → corner_clear gap Q v ≡ false
-  unfolding corner_clear
-  edge_too_near k h e =
-      is_false _ (λ a. not_both (all-below (λ k. not (near_edge gap (vertex_at Q k) (vertex_at Q (following Q k)) v)) (length Q) a k h) (ap not e))
-
 -- ---- corners, one after the other
 
 all_true : (xs : List ℕ) → all (λ i. true) xs ≡ true
@@ -139,31 +147,22 @@ by_corners gap (v ∷ P) Q =
     all-and (λ k. not (near_edge gap (vertex_at Q k) (vertex_at Q (following Q k)) v)) (λ k. all (λ v. not (near_edge gap (vertex_at Q k) (vertex_at Q (following Q k)) v)) P) (below (length Q))
     ∙ ap (λ t. corner_clear gap Q v && t) (by_corners gap P Q)
 
+-- a test of the numbers from 1 on, as one of those from 0 on
+all_later : (f : ℕ → Bool) (a n : ℕ) → all f (rising (suc a) n) ≡ all (λ i. f (suc i)) (rising a n)
+unfolding all rising
+all_later f a zero = refl
+all_later f a (suc n) = ap (λ t. f (suc a) && t) (all_later f (suc a) n)
+
+-- a test of the vertices by their places
+pub all_places : (f : Vertex → Bool) (P : Part) → all (λ i. f (vertex_at P i)) (below (length P)) ≡ all f P
+unfolding all below rising vertex_at
+all_places f [] = refl
+all_places f (v ∷ P) = ap (λ t. f v && t) (all_later (λ i. f (vertex_at (v ∷ P) i)) 0 (length P) ∙ all_places f P)
+
 module _ (gap : ℕ) (P Q : Part) (dx dy : ℤ) where
   moved-corners : corners_clear gap (map (shifted dx dy) P) Q ≡ all (λ v. corner_clear gap Q (shifted dx dy v)) P
   moved-corners = by_corners gap (map (shifted dx dy) P) Q ∙ all_map (corner_clear gap Q) (shifted dx dy) P
 
-  pub corners-all : ((j : ℕ) → j < length P → corner_clear gap Q (shifted dx dy (vertex_at P j)) ≡ true) → corners_clear gap (map (shifted dx dy) P) Q ≡ true
-  unfolding vertex_at
-  corners-all f = moved-corners ∙ all_of (λ v. corner_clear gap Q (shifted dx dy v)) P origin f
-
-  pub corner-fails : (j : ℕ) → j < length P → corner_clear gap Q (shifted dx dy (vertex_at P j)) ≡ false → corners_clear gap (map (shifted dx dy) P) Q ≡ false
-  unfolding vertex_at
-  corner-fails j h e = moved-corners ∙ is_false _ (λ a. not_both (all-at (λ v. corner_clear gap Q (shifted dx dy v)) P origin a j h) e)
-
--- ---- moves
-
--- the opposite of a move
-pub opposite_size : (z : ℤ) → nat_abs z ≤ 4096 → nat_abs (pos 0 -ℤ z) ≤ 4096
-opposite_size z h = bounded (4096 ∷ []) 1 (λ z. # (pos 0) ⊟ z) z h
-
-opposite_fits : (z : ℤ) → nat_abs z ≤ 4096 → SFits w16 (pos 0 -ℤ z)
-opposite_fits z h = fits_nat_abs w16 _ (lt_of_le_of_lt (opposite_size z h) (lit< tt))
-
--- as it is computed from the bits of the move
-module _ {z : ℤ} (f : SFits w16 z) (h : nat_abs z ≤ 4096) where
-  pub opposite_held : SFits w16 (pos 0 -ℤ bits z)
-  opposite_held = op_fits {x = pos 0} refl (to_z-of_z w16 z f) ◌-ℤ◌ (opposite_fits z h)
-
-  pub opposite_gives : bits (pos 0 -ℤ bits z) ≡ pos 0 -ℤ z
-  opposite_gives = op_gives {x = pos 0} refl (to_z-of_z w16 z f) ◌-ℤ◌ (opposite_fits z h)
+  -- by the places of the corners
+  pub corners_at : all (λ i. corner_clear gap Q (shifted dx dy (vertex_at P i))) (below (length P)) ≡ corners_clear gap (map (shifted dx dy) P) Q
+  corners_at = all_places (λ v. corner_clear gap Q (shifted dx dy v)) P ∙ sym moved-corners

@@ -5,13 +5,13 @@ use mathlib.Core.Path.{◌≡◌, refl, sym, ap, ap₂, subst, ◌∙◌}
 use Prim.Native.Nat.{ℕ, zero, suc, ◌≤◌, ◌<◌}
 use native.Mathlib.Nat.{lt_of_le_of_lt}
 use native.Mathlib.Omega.{arith}
-use borrow.Author.Tests.{ne_eqb}
-use lib.Dec.{eqb, lit<}
+use lib.Dec.{lit<}
 use lib.IntN.{ℤ, pos, nat_abs, neg_ℤ, ◌+ℤ◌, ◌-ℤ◌, ◌*ℤ◌}
 use lib.ListN.{length-map}
 use lib.Signed.{le_z, lt_z, ◌≤ℤ◌, ◌<ℤ◌}
 use mir.Syntax.{w16}
 use mir.Val.{SFits}
+use Rattle.std.specs.Prelude.{None, Some}
 use Rattle.integers.proofs.Sizes.{bounded, fits_nat_abs}
 use Rattle.integers.proofs.Certificates.{order, ◌⊢◌by◌, hyp}
 use Rattle.integers.proofs.Order.{le_z_true, le_z_false, lt_z_true, le_lt_z, lt_lt_z}
@@ -68,17 +68,25 @@ module _ (gap : ℕ) (a b x y : ℤ) where
   abbrev far : ℤ
   far = a *ℤ x +ℤ b *ℤ y
 
-  pub told-near : lt_z (x *ℤ x +ℤ y *ℤ y) squared ≡ true → 2 ≡ told_by gap a b x y
+  pub told-near : lt_z (x *ℤ x +ℤ y *ℤ y) squared ≡ true → Some false ≡ told_by gap a b x y
   unfolding told_by
   told-near e = rw e
 
-  pub told-behind : lt_z (x *ℤ x +ℤ y *ℤ y) squared ≡ false → le_z far (pos 0) ≡ true → 0 ≡ told_by gap a b x y
+  pub told-behind : lt_z (x *ℤ x +ℤ y *ℤ y) squared ≡ false → le_z far (pos 0) ≡ true → None ≡ told_by gap a b x y
   unfolding told_by
   told-behind e f = rw (e, le_lt_z (pos 0) far (le_z_true far (pos 0) f))
 
-  pub told-along : lt_z (x *ℤ x +ℤ y *ℤ y) squared ≡ false → le_z far (pos 0) ≡ false → (t : Bool) → le_z (squared *ℤ (a *ℤ a +ℤ b *ℤ b)) (far *ℤ far) ≡ t → cond t 1 0 ≡ told_by gap a b x y
+  pub told-along : lt_z (x *ℤ x +ℤ y *ℤ y) squared ≡ false → le_z far (pos 0) ≡ false → (t : Bool) → le_z (squared *ℤ (a *ℤ a +ℤ b *ℤ b)) (far *ℤ far) ≡ t → cond t (Some true) None ≡ told_by gap a b x y
   unfolding told_by
   told-along e f t g = rw (e, lt_lt_z (pos 0) far (le_z_false far (pos 0) f), g)
+
+-- an answer is told,
+pub tells : {b t : Bool} → b ≡ t → Tells (Some t) b
+tells e = record { is = λ u q. cc }
+
+-- or nothing is
+pub told-nothing : (b : Bool) → Tells None b
+told-nothing b = record { is = λ t q. cc }
 
 -- the two corners that come next to each other along (a, b)
 module _ (gap : ℕ) (P Q : Part) (dx dy a b : ℤ) (sound_p : SoundPart P) (sound_q : SoundPart Q) (i j : ℕ) (hi : Furthest P (direction a b) i) (hj : Furthest Q (direction (pos 0 -ℤ a) (pos 0 -ℤ b)) j) where
@@ -138,17 +146,8 @@ module _ (gap : ℕ) (P Q : Part) (dx dy a b : ℤ) (sound_p : SoundPart P) (sou
   unfolding told_by
   told-so = go _ _ refl refl
     where
-      go : (s t : Bool) → lt_z (way_x *ℤ way_x +ℤ way_y *ℤ way_y) (pos gap *ℤ pos gap) ≡ s → (ahead && enough) ≡ t → Tells (cond s 2 (cond t 1 0)) (separated gap P moved)
-      go true t e f = record { holds = λ q. absurd (omega arith); fails = λ h. too_near e }
-      go false true e f = record { holds = λ q. far_apart f; fails = λ h. absurd (omega arith) }
-      go false false e f = record { holds = λ q. absurd (omega arith); fails = λ h. absurd (omega arith) }
-
--- nothing is told
-pub told-nothing : (b : Bool) → Tells 0 b
-told-nothing b = record { holds = λ e. absurd (omega arith); fails = λ h. absurd (omega arith) }
-
--- what is told, as an answer
-pub tells_is : (r : ℕ) (b : Bool) → (r ≡ 0 → ⊥) → Tells r b → eqb r 1 ≡ b
-tells_is zero b h t = absurd (h refl)
-tells_is (suc zero) b h t = sym (t.holds refl)
-tells_is (suc (suc r)) b h t = ne_eqb (suc (suc r)) 1 (omega arith) ∙ sym (t.fails (omega arith))
+      go : (s t : Bool) → lt_z (way_x *ℤ way_x +ℤ way_y *ℤ way_y) (pos gap *ℤ pos gap) ≡ s → (ahead && enough) ≡ t
+          → Tells (cond s (Some false) (cond t (Some true) None)) (separated gap P moved)
+      go true t e f = tells (too_near e)
+      go false true e f = tells (far_apart f)
+      go false false e f = told-nothing _

@@ -4,8 +4,9 @@ ghost use Rattle.model.specs.Content.{vertex, origin};
 ghost use Rattle.model.specs.Geometry.{vertex_at, following, near_edge, corners_clear};
 ghost use Rattle.polygons.specs.Flat.{part_of, shifted};
 ghost use Rattle.directions.specs.Directions.{Small};
-ghost use Rattle.distances.specs.Compact.{Compact, Short, corner_clear};
+ghost use Rattle.distances.specs.Compact.{Short, corner_clear};
 
+use crate::parts::{Corners, Move};
 use directions::edges::next_vertex;
 use integers::{cross, dot};
 use polygons::vertices::coordinate;
@@ -31,7 +32,8 @@ fn way_aside(a: i16, b: i16, x: i16, y: i16) -> i64
     cross(a, b, x, y)
 }
 
-// Whether the corner (x, y) is nearer than the gap to the edge from (0, 0) to (a, b). Before the edge its start counts, beyond it its end, and beside it the line.
+// Whether the corner (x, y) is nearer than the gap to the edge from (0, 0) to (a, b). Before the edge its start counts,
+// beyond it its end, and beside it the line.
 fn near_edge(a: i16, b: i16, x: i16, y: i16, gap: u16) -> bool
     ensures { result ≡ near_edge gap origin (vertex a b) (vertex x y) }
 {
@@ -51,16 +53,18 @@ fn near_edge(a: i16, b: i16, x: i16, y: i16, gap: u16) -> bool
 }
 
 // Whether the corner (x, y) is nearer than the gap to the edge of q from vertex k to the next one.
-fn edge_near(x: i16, y: i16, q: &[i16], k: usize, gap: u16) -> bool
-    requires { ((2 * k + 1 < length q.now) × Short 8192 x y) × Compact (part_of q.now) }
-    ensures { result ≡ near_edge gap (vertex_at (part_of q.now) k) (vertex_at (part_of q.now) (following (part_of q.now) k)) (vertex x y) }
+fn edge_near(x: i16, y: i16, q: Corners, k: usize, gap: u16) -> bool
+    requires { (k < length (part_of q.numbers.now)) × Short 8192 x y }
+    ensures { result ≡
+        near_edge gap (vertex_at (part_of q.entry.numbers.now) k)
+        (vertex_at (part_of q.entry.numbers.now) (following (part_of q.entry.numbers.now) k)) (vertex x y) }
 {
-    let m = next_vertex(q, k);
-    let sx = coordinate(q, k, 0);
-    let sy = coordinate(q, k, 1);
+    let m = next_vertex(q.numbers, k);
+    let sx = coordinate(q.numbers, k, 0);
+    let sy = coordinate(q.numbers, k, 1);
     near_edge(
-        coordinate(q, m, 0) - sx,
-        coordinate(q, m, 1) - sy,
+        coordinate(q.numbers, m, 0) - sx,
+        coordinate(q.numbers, m, 1) - sy,
         x - sx,
         y - sy,
         gap,
@@ -68,41 +72,32 @@ fn edge_near(x: i16, y: i16, q: &[i16], k: usize, gap: u16) -> bool
 }
 
 // Whether the corner (x, y) is nearer than the gap to no edge of q. The first edge that it is too near ends the test.
-fn corner_clear(x: i16, y: i16, q: &[i16], gap: u16) -> bool
-    requires { Short 8192 x y × Compact (part_of q.now) }
-    ensures { result ≡ corner_clear gap (part_of q.now) (vertex x y) }
+fn corner_clear(x: i16, y: i16, q: Corners, gap: u16) -> bool
+    requires { Short 8192 x y }
+    ensures { result ≡ corner_clear gap (part_of q.entry.numbers.now) (vertex x y) }
 {
-    let n = q.len() / 2;
-    let mut k: usize = 0;
-    while k < n {
-        if edge_near(x, y, q, k, gap) {
-            return false;
-        }
-        k += 1;
-    }
-    true
+    (0..q.count()).all(|k| !edge_near(x, y, q, k, gap))
 }
 
-// The same of corner i of p, moved by (dx, dy).
-fn moved_clear(p: &[i16], i: usize, dx: i16, dy: i16, q: &[i16], gap: u16) -> bool
-    requires { ((2 * i + 1 < length p.now) × Short 4096 dx dy) × (Compact (part_of p.now) × Compact (part_of q.now)) }
-    ensures { result ≡ corner_clear gap (part_of q.now) (shifted dx dy (vertex_at (part_of p.now) i)) }
+// The same of corner i of p, moved.
+fn moved_clear(p: Corners, i: usize, by: Move, q: Corners, gap: u16) -> bool
+    requires { i < length (part_of p.numbers.now) }
+    ensures { result ≡
+        corner_clear gap (part_of q.entry.numbers.now)
+        (shifted by.dx by.dy (vertex_at (part_of p.entry.numbers.now) i)) }
 {
-    corner_clear(coordinate(p, i, 0) + dx, coordinate(p, i, 1) + dy, q, gap)
+    corner_clear(
+        coordinate(p.numbers, i, 0) + by.dx,
+        coordinate(p.numbers, i, 1) + by.dy,
+        q,
+        gap,
+    )
 }
 
-// Whether no corner of p, moved by (dx, dy), is nearer than the gap to an edge of q. The first corner that is ends the test.
-pub fn corners_clear(p: &[i16], dx: i16, dy: i16, q: &[i16], gap: u16) -> bool
-    requires { Short 4096 dx dy × (Compact (part_of p.now) × Compact (part_of q.now)) }
-    ensures { result ≡ corners_clear gap (map (shifted dx dy) (part_of p.now)) (part_of q.now) }
+// Whether no corner of p, moved, is nearer than the gap to an edge of q. The first corner that is ends the test.
+pub fn corners_clear(p: Corners, by: Move, q: Corners, gap: u16) -> bool
+    ensures { result ≡
+        corners_clear gap (map (shifted by.dx by.dy) (part_of p.entry.numbers.now)) (part_of q.entry.numbers.now) }
 {
-    let n = p.len() / 2;
-    let mut i: usize = 0;
-    while i < n {
-        if !moved_clear(p, i, dx, dy, q, gap) {
-            return false;
-        }
-        i += 1;
-    }
-    true
+    (0..p.count()).all(|i| moved_clear(p, i, by, q, gap))
 }

@@ -1,13 +1,13 @@
 -- The test of a pair by the normals of its parts and by distances is the model's. Assumes nothing.
-use mathlib.Core.Bool.{Bool, true, false, cond, ◌&&◌, ◌||◌, and-true, and-false, and_assoc}
+use mathlib.Core.Bool.{Bool, true, false, ◌&&◌, ◌||◌, and-true, and-false, and_assoc}
 use mathlib.Core.List.{map}
 use mathlib.Core.Path.{◌≡◌, refl, sym, ap, ap₂, ◌∙◌}
-use Prim.Native.Nat.{ℕ, zero, suc, ◌<◌}
-use native.Mathlib.Omega.{arith}
-use lib.Dec.{eqb}
+use Prim.Native.Nat.{ℕ, ◌<◌}
 use lib.IntN.{ℤ, pos, ◌+ℤ◌, ◌-ℤ◌, ◌*ℤ◌}
 use lib.ListN.{length}
 use lib.Signed.{le_z}
+use Rattle.std.specs.Prelude.{Option, None, Some}
+use Rattle.std.specs.Option.{unwrap_or}
 use Rattle.integers.proofs.Solver.{ring, #, ◌⊞◌, ◌⊟◌, ◌⊠◌, ◌≈◌}
 use Rattle.model.specs.Content.{vertex, Part}
 use Rattle.model.specs.Geometry.{Direction, normals, along, separates, disjoint, corners_clear, separated}
@@ -22,7 +22,7 @@ use Rattle.polygons.specs.Flat.{shifted}
 use Rattle.geometry.specs.Apart.{both_clear, Beside}
 use Rattle.directions.specs.Directions.{separates_moved}
 use Rattle.distances.specs.Middles.{Tells}
-use Rattle.distances.proofs.MiddleLaws.{told-nothing, tells_is}
+use Rattle.distances.proofs.MiddleLaws.{tells, told-nothing}
 
 -- ---- the normals
 
@@ -89,31 +89,23 @@ module _ (gap : ℕ) (P Q : Part) (dx dy : ℤ) (some_p : 0 < length P) (some_q 
       and_assoc (disjoint P (map (shifted dx dy) Q)) (corners_clear gap P (map (shifted dx dy) Q)) (corners_clear gap (map (shifted dx dy) Q) P)
       ∙ ap (λ t. t && both_clear gap P (map (shifted dx dy) Q)) (disjoint-is P Q dx dy some_q ∙ ap₂ ◌||◌ e f)
 
-  -- a first look tells enough
-  pub beside_seen : (r : ℕ) → (r ≡ 0 → ⊥) → Tells r apart → Beside gap P Q dx dy r
-  beside_seen r h t = record { tells = t; none = λ z. absurd (h z) }
+  -- a first look tells
+  pub beside_seen : (t : Bool) → Tells (Some t) apart → Beside gap P Q dx dy (Some t)
+  beside_seen t h = record { tells = h; none = λ z. cc }
 
   -- no edge of P separates
-  pub beside_none : first_edges ≡ false → Beside gap P Q dx dy 0
+  pub beside_none : first_edges ≡ false → Beside gap P Q dx dy None
   beside_none e = record { tells = told-nothing _; none = λ z. e }
 
   -- one does, and the distances decide
-  pub beside_some : first_edges ≡ true → (b : Bool) → b ≡ both_clear gap P (map (shifted dx dy) Q) → Beside gap P Q dx dy (cond b 1 2)
-  beside_some h b e = go b (separated-is true second_edges h refl ∙ sym e)
-    where
-      go : (b : Bool) → apart ≡ b → Beside gap P Q dx dy (cond b 1 2)
-      go true f = record { tells = record { holds = λ z. f; fails = λ g. absurd (omega arith) }; none = λ z. absurd (omega arith) }
-      go false f = record { tells = record { holds = λ z. absurd (omega arith); fails = λ g. f }; none = λ z. absurd (omega arith) }
+  pub beside_some : first_edges ≡ true → (b : Bool) → b ≡ both_clear gap P (map (shifted dx dy) Q) → Beside gap P Q dx dy (Some b)
+  beside_some h b e = record { tells = tells (separated-is true second_edges h refl ∙ sym e); none = λ z. cc }
 
-  -- told without the edges of Q,
-  pub first_says : (r : ℕ) → Beside gap P Q dx dy r → (r ≡ 0 → ⊥) → eqb r 1 ≡ apart
-  first_says r t h = tells_is r _ h t.tells
-
-  -- and otherwise without those of P, of which none separates
-  pub second-says : (r s : ℕ) → Beside gap P Q dx dy r → r ≡ 0 → Beside gap Q P (pos 0 -ℤ dx) (pos 0 -ℤ dy) s → eqb s 1 ≡ apart
-  second-says r zero t z u = sym (separated-is false false (t.none z) (u.none refl))
-  second-says r (suc s) t z u =
-      tells_is (suc s) _ (λ q. absurd (omega arith)) u.tells
+  -- told without those of P, where none of P separates
+  pub second-says : first_edges ≡ false → (s : Option Bool) → Beside gap Q P (pos 0 -ℤ dx) (pos 0 -ℤ dy) s → unwrap_or s false ≡ apart
+  second-says z None u = sym (separated-is false false z (u.none refl))
+  second-says z (Some t) u =
+      sym (u.tells.is t refl)
       ∙ sym (separated-shifted gap Q P some_q some_p dx dy (pos 0) (pos 0))
       ∙ ap (separated gap (map (shifted dx dy) Q)) (unmoved P)
       ∙ separated-symmetric gap (map (shifted dx dy) Q) P

@@ -1,16 +1,14 @@
 -- Pieces in a table of parts, and the test of two pieces part by part. Assumes nothing.
-use mathlib.Core.Bool.{Bool, true, false, not, ◌||◌, or-true}
+use mathlib.Core.Bool.{Bool, true, false, not}
 use mathlib.Core.List.{List, map}
-use mathlib.Core.Path.{◌≡◌, refl, sym, ap, ◌∙◌}
+use mathlib.Core.Path.{◌≡◌, sym, ap, ◌∙◌}
 use Prim.Native.Nat.{ℕ, zero, suc, ◌+◌, ◌-◌, ◌*◌, ◌<◌}
-use native.Mathlib.Nat.{not-suc-le-zero}
 use native.Mathlib.Omega.{arith}
 use lib.IntN.{ℤ, pos}
 use lib.ListN.{length, get_or, take, drop, length-take, length-drop}
 use Rattle.model.specs.Content.{Part}
 use Rattle.model.specs.Geometry.{separated, pieces_conflict}
 use Rattle.model.specs.Lists.{any, rising, below}
-use Rattle.model.proofs.Folds as Folds
 use Rattle.model.proofs.Tests.{any-map}
 use Rattle.convexity.specs.Parts.{SoundPart, SoundParts}
 use Rattle.polygons.specs.Boxes.{box}
@@ -20,26 +18,6 @@ use Rattle.geometry.specs.Apart.{boxes_apart}
 use Rattle.geometry.specs.Pieces.{Fitting, Standing, part_in, parts_in, box_in, part_conflicts}
 use Rattle.geometry.specs.declared.pieces.Piece.{Piece}
 use Rattle.geometry.proofs.BoxesApart.{separated-boxes}
-
--- ---- a test of the numbers below n, one after the other
-
-pub none_yet : (p : ℕ → Bool) → any p (below 0) ≡ false
-unfolding any below rising
-none_yet p = refl
-
-pub none_more : (p : ℕ → Bool) (i : ℕ) → any p (below i) ≡ false → p i ≡ false → any p (below (i + 1)) ≡ false
-none_more p i e h = ap (any p) (Folds.below_more i) ∙ Folds.any-more p (below i) i ∙ ap (λ t. t || p i) e ∙ h
-
--- the test holds of one of them
-some-rising : (p : ℕ → Bool) (a n i : ℕ) → i < n → p (a + i) ≡ true → any p (rising a n) ≡ true
-unfolding any rising
-some-rising p a zero i h e = absurd (not-suc-le-zero h)
-some-rising p a (suc n) zero h e = let f : p a ≡ true = ap p (omega arith) ∙ e in rw f
-some-rising p a (suc n) (suc i) h e = ap (λ t. p a || t) (some-rising p (suc a) n i (omega arith) (ap p (omega arith) ∙ e)) ∙ or-true (p a)
-
-pub some_below : (p : ℕ → Bool) (i n : ℕ) → i < n → p i ≡ true → any p (below n) ≡ true
-unfolding below
-some_below p i n h e = some-rising p 0 n i h (ap p (omega arith) ∙ e)
 
 -- ---- the parts of a piece
 
@@ -91,11 +69,11 @@ pub standing_sound : (table : List ℤ) (p : Piece) → Standing table p → Sou
 unfolding parts_in below
 standing_sound table p s = sound-rising (part_in table p) 0 p.count (λ i l. s.sound i (omega arith))
 
--- Parts whose boxes in the table are apart are not in conflict.
-pub boxed-apart : (gap : ℕ) (table : List ℤ) (p q : Piece) (i m : ℕ) (dx dy : ℤ) → Standing table p → Standing table q → i < p.count → m < q.count
-    → boxes_apart gap (box_in table p i) (box_in table q m) dx dy ≡ true → false ≡ not (separated gap (part_in table p i) (map (shifted dx dy) (part_in table q m)))
-boxed-apart gap table p q i m dx dy sp sq hi hm e =
+-- Parts whose boxes in their tables are apart are not in conflict.
+pub boxed-apart : (gap : ℕ) (s t : List ℤ) (p q : Piece) (i m : ℕ) (dx dy : ℤ) → Standing s p → Standing t q → i < p.count → m < q.count
+    → boxes_apart gap (box_in s p i) (box_in t q m) dx dy ≡ true → false ≡ not (separated gap (part_in s p i) (map (shifted dx dy) (part_in t q m)))
+boxed-apart gap s t p q i m dx dy sp sq hi hm e =
     sym
     (ap not
-    (separated-boxes gap (part_in table p i) (part_in table q m) dx dy (sp.sound i hi) (sq.sound m hm)
+    (separated-boxes gap (part_in s p i) (part_in t q m) dx dy (sp.sound i hi) (sq.sound m hm)
     ((λ j. boxes_apart gap (sym (sp.boxed i hi) j) (sym (sq.boxed m hm) j) dx dy) ∙ e)))

@@ -1,5 +1,5 @@
 -- The tests of a pair of parts: of their boxes, of the distances of their corners, and what is told without the edges of the second.
-use Rattle.std.specs.Prelude.{Bool, false, ◌&&◌, ◌||◌, map, ◌≡◌, ℕ, ℤ, pos, ◌+ℤ◌}
+use Rattle.std.specs.Prelude.{Bool, false, Option, None, ◌&&◌, ◌||◌, map, ◌≡◌, ℕ, ℤ, pos, ◌+ℤ◌}
 use Rattle.std.specs.Int.Signed.{le_z}
 use Rattle.model.specs.Content.{vertex, Part}
 use Rattle.model.specs.Geometry.{normals, corners_clear, separated}
@@ -25,7 +25,7 @@ boxes_apart gap e f dx dy =
 abbrev pub both_clear : ℕ → Part → Part → Bool
 both_clear gap P Q = corners_clear gap P Q && corners_clear gap Q P
 
--- What the number r tells of P and Q moved by (dx, dy): whether they are separated at the gap, or, if it is 0, that no normal of P separates them.
-pub record Beside (gap : ℕ) (P Q : Part) (dx dy : ℤ) (r : ℕ) : Type 0 where
+-- The answer r, if it tells anything, tells whether P and Q moved by (dx, dy) are separated at the gap, and it tells nothing only where no normal of P separates them.
+pub record Beside (gap : ℕ) (P Q : Part) (dx dy : ℤ) (r : Option Bool) : Type 0 where
   pub tells : Tells r (separated gap P (map (shifted dx dy) Q))
-  pub none : r ≡ 0 → any (separates_moved P Q (vertex dx dy)) (normals P) ≡ false
+  pub none : r ≡ None → any (separates_moved P Q (vertex dx dy)) (normals P) ≡ false

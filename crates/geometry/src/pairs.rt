@@ -2,13 +2,12 @@
 ghost use Rattle.std.specs.Prelude.{map, ◌≡◌, ◌+◌, ◌<◌};
 ghost use Rattle.model.specs.Geometry;
 ghost use Rattle.geometry.specs.Apart.{clear_of, boxes_apart, both_clear, Beside};
-ghost use Rattle.distances.specs.Compact.{Compact, Short};
-ghost use Rattle.convexity.specs.Parts.{SoundPart};
 ghost use Rattle.polygons.specs.Flat.{part_of, shifted};
 
 use directions::edges::edges_separate;
 use distances::corners::corners_clear;
-use distances::middles::{APART, OPEN, TOO_NEAR, look};
+use distances::middles::look;
+use distances::parts::{Move, Part};
 use polygons::extents::Extents;
 
 // Whether what ends at `high` and is moved by `from` clears, by the gap, what begins at `low` and is moved by `to`.
@@ -28,50 +27,43 @@ pub fn boxes_apart(e: Extents, f: Extents, dx: i16, dy: i16, gap: u16) -> bool
         | clear_of(f.max_y, dy, e.min_y, 0, gap)
 }
 
-// Whether no corner of p or of q, moved by (dx, dy), is nearer than the gap to an edge of the other one. At gap 0 nothing is asked.
-fn both_clear(p: &[i16], q: &[i16], dx: i16, dy: i16, gap: u16) -> bool
-    requires { Short 4096 dx dy × (Compact (part_of p.now) × Compact (part_of q.now)) }
-    ensures { result ≡ both_clear gap (part_of p.now) (map (shifted dx dy) (part_of q.now)) }
+// Whether no corner of p or of q, moved, is nearer than the gap to an edge of the other one. At gap 0 nothing is asked.
+fn both_clear(p: Part, q: Part, by: Move, gap: u16) -> bool
+    ensures { result ≡
+        both_clear gap (part_of p.entry.numbers.now) (map (shifted by.dx by.dy) (part_of q.entry.numbers.now)) }
 {
     if gap == 0 {
         return true;
     }
-    if !corners_clear(q, dx, dy, p, gap) {
+    if !corners_clear(q.corners(), by, p.corners(), gap) {
         return false;
     }
-    corners_clear(p, 0 - dx, 0 - dy, q, gap)
+    corners_clear(p.corners(), by.back(), q.corners(), gap)
 }
 
-// What is told of p and q, moved by (dx, dy), without asking the edges of q; nothing only where no normal of p separates them. The line through their middles is asked first, and then the edges of p.
-fn beside(p: &[i16], q: &[i16], dx: i16, dy: i16, gap: u16) -> u8
-    requires sound_part { SoundPart (part_of p.now) × SoundPart (part_of q.now) }
-    requires short { Short 4096 dx dy × (Compact (part_of p.now) × Compact (part_of q.now)) }
-    ensures { Beside gap (part_of p.now) (part_of q.now) dx dy result }
+// Whether p and q, moved, are separated at this gap, if that is told without asking the edges of q; where it is not, no
+// normal of p separates them. The line through their middles is asked first, and then the edges of p.
+fn beside(p: Part, q: Part, by: Move, gap: u16) -> Option<bool>
+    ensures { Beside gap (part_of p.entry.numbers.now) (part_of q.entry.numbers.now) by.dx by.dy result }
 {
-    let seen = look(p, q, dx, dy, gap);
-    if seen != OPEN {
-        return seen;
+    if let Some(apart) = look(p, q, by, gap) {
+        return Some(apart);
     }
-    if !edges_separate(p, q, dx, dy) {
-        return OPEN;
+    if !edges_separate(p.numbers, q.numbers, by.dx, by.dy) {
+        return None;
     }
-    if both_clear(p, q, dx, dy, gap) {
-        APART
-    } else {
-        TOO_NEAR
-    }
+    Some(both_clear(p, q, by, gap))
 }
 
-// Whether p and q, moved by (dx, dy), are separated at this gap: a normal of p or one of q separates them, tried in document 01's order, and no corner of the one is too near
-// an edge of the other. Both are sound, and their numbers small, so that what is squared fits 64 bits: as those of a job's parts and of the ways on its board are.
-pub fn separated(p: &[i16], q: &[i16], dx: i16, dy: i16, gap: u16) -> bool
-    requires sound_part { SoundPart (part_of p.now) × SoundPart (part_of q.now) }
-    requires short { Short 4096 dx dy × (Compact (part_of p.now) × Compact (part_of q.now)) }
-    ensures { result ≡ Geometry.separated gap (part_of p.now) (map (shifted dx dy) (part_of q.now)) }
+// Whether p and q, moved, are separated at this gap: a normal of p or one of q separates them, tried in this order, and
+// no corner of the one is too near an edge of the other.
+pub fn separated(p: Part, q: Part, by: Move, gap: u16) -> bool
+    ensures { result ≡
+        Geometry.separated gap (part_of p.entry.numbers.now)
+        (map (shifted by.dx by.dy) (part_of q.entry.numbers.now)) }
 {
-    let first = beside(p, q, dx, dy, gap);
-    if first != OPEN {
-        return first == APART;
+    if let Some(apart) = beside(p, q, by, gap) {
+        return apart;
     }
-    beside(q, p, 0 - dx, 0 - dy, gap) == APART
+    beside(q, p, by.back(), gap).unwrap_or(false)
 }

@@ -2,16 +2,16 @@
 ghost use Rattle.std.specs.Prelude.{not, map, ◌≡◌, ◌+◌, ◌*◌, ◌≤◌, ◌<◌, length, get_or};
 ghost use Rattle.model.specs.Geometry;
 ghost use Rattle.model.specs.Geometry.{pieces_conflict};
-ghost use Rattle.convexity.specs.Parts.{SoundPart};
-ghost use Rattle.polygons.specs.Flat.{shifted};
-ghost use Rattle.distances.specs.Compact.{Compact, Short};
+ghost use Rattle.polygons.specs.Flat.{part_of, shifted};
+ghost use Rattle.distances.specs.Compact.{Short};
 ghost use Rattle.geometry.specs.Pieces.{Fitting, Standing, part_in, box_in, parts_in, part_conflicts};
 
 use crate::pairs::{boxes_apart, separated};
+use distances::parts::{Move, Part};
 use polygons::extents::Extents;
 
-// A piece in a table: where its first part stands, how many parts it has, and how many vertices each. Each part has 20 numbers: its box, and x and y of up
-// to eight vertices.
+// A piece in a table: where its first part stands, how many parts it has, and how many vertices each. Each part has 20
+// numbers: its box, and x and y of up to eight vertices.
 #[derive(Clone, Copy)]
 pub struct Piece {
     pub first: usize,
@@ -50,63 +50,55 @@ pub fn part_box(table: &[i16], p: Piece, i: usize) -> Extents
     }
 }
 
-// Whether part i of p is not separated from part m of q, moved by (dx, dy): the pair test of their vertices.
-fn not_separated(
-    table: &[i16],
-    p: Piece,
-    i: usize,
-    q: Piece,
-    m: usize,
-    dx: i16,
-    dy: i16,
-    gap: u16,
-) -> bool
-    requires fitting { ((Fitting p × (i < p.count)) × (Fitting q × (m < q.count))) × (length table.now ≡ 4096) }
-    requires sound_part { SoundPart (part_in table.now p i) × SoundPart (part_in table.now q m) }
-    requires short { Short 4096 dx dy × (Compact (part_in table.now p i) × Compact (part_in table.now q m)) }
-    ensures { result ≡ not (Geometry.separated gap (part_in table.now p i) (map (shifted dx dy) (part_in table.now q m))) }
-{
-    let a = part_start(p, i) + 4;
-    let b = a + part_length(p, i);
-    let c = part_start(q, m) + 4;
-    let d = c + part_length(q, m);
-    !separated(&table[a..b], &table[c..d], dx, dy, gap)
+// A piece and the table that it stands in, each part under its own box, sound and with small numbers.
+#[derive(Clone, Copy)]
+struct TablePiece<'a> {
+    table: &'a [i16],
+    piece: Piece,
+    ghost standing: { Standing table.now piece },
 }
 
-// The same, asked of the boxes first: those that are apart spare most pairs the test.
-fn parts_conflict(
-    table: &[i16],
-    p: Piece,
-    i: usize,
-    q: Piece,
-    m: usize,
-    dx: i16,
-    dy: i16,
-    gap: u16,
-) -> bool
-    requires { ((Standing table.now p × (i < p.count)) × (Standing table.now q × (m < q.count))) × Short 4096 dx dy }
-    ensures { result ≡ not (Geometry.separated gap (part_in table.now p i) (map (shifted dx dy) (part_in table.now q m))) }
+impl<'a> TablePiece<'a> {
+    // Part i of it.
+    fn part(&self, i: usize) -> Part<'a>
+        requires { i < self.now.piece.count }
+        ensures { part_of result.numbers.now ≡ part_in self.now.table.now self.now.piece i }
+    {
+        let at = part_start(self.piece, i) + 4;
+        Part {
+            numbers: &self.table[at..at + part_length(self.piece, i)],
+        }
+    }
+}
+
+// Whether part i of p is not separated from part m of q, moved: the pair test of their vertices, and before it that of
+// their boxes, since those that are apart spare most pairs the test.
+fn parts_conflict(p: &TablePiece, i: usize, q: &TablePiece, m: usize, by: Move, gap: u16) -> bool
+    requires { (i < p.now.piece.count) × (m < q.now.piece.count) }
+    ensures { result ≡
+        not (Geometry.separated gap (part_in p.now.table.now p.now.piece i)
+        (map (shifted by.dx by.dy) (part_in q.now.table.now q.now.piece m))) }
 {
-    if boxes_apart(part_box(table, p, i), part_box(table, q, m), dx, dy, gap) {
+    if boxes_apart(
+        part_box(p.table, p.piece, i),
+        part_box(q.table, q.piece, m),
+        by.dx,
+        by.dy,
+        gap,
+    ) {
         return false;
     }
-    not_separated(table, p, i, q, m, dx, dy, gap)
+    !separated(p.part(i), q.part(m), by, gap)
 }
 
-// Whether part i of p is not separated from some part of q. The first such part ends the test.
-fn part_conflicts(table: &[i16], p: Piece, i: usize, q: Piece, dx: i16, dy: i16, gap: u16) -> bool
-    requires { ((Standing table.now p × (i < p.count)) × Standing table.now q) × Short 4096 dx dy }
-    ensures { result ≡ part_conflicts gap (part_in table.now p i) (map (map (shifted dx dy)) (parts_in table.now q)) }
+// Whether part i of p is not separated from some part of q, moved. The first such part ends the test.
+fn part_conflicts(p: &TablePiece, i: usize, q: &TablePiece, by: Move, gap: u16) -> bool
+    requires { i < p.now.piece.count }
+    ensures { result ≡
+        part_conflicts gap (part_in p.now.table.now p.now.piece i)
+        (map (map (shifted by.dx by.dy)) (parts_in q.now.table.now q.now.piece)) }
 {
-    let n = q.count;
-    let mut m: usize = 0;
-    while m < n {
-        if parts_conflict(table, p, i, q, m, dx, dy, gap) {
-            return true;
-        }
-        m += 1;
-    }
-    false
+    (0..q.piece.count).any(|m| parts_conflict(p, i, q, m, by, gap))
 }
 
 // Whether the piece p is in conflict at this gap with the piece q, moved by (dx, dy).
@@ -114,13 +106,8 @@ pub fn pieces_conflict(table: &[i16], p: Piece, q: Piece, dx: i16, dy: i16, gap:
     requires { (Standing table.now p × Standing table.now q) × Short 4096 dx dy }
     ensures { result ≡ pieces_conflict gap (parts_in table.now p) (map (map (shifted dx dy)) (parts_in table.now q)) }
 {
-    let n = p.count;
-    let mut i: usize = 0;
-    while i < n {
-        if part_conflicts(table, p, i, q, dx, dy, gap) {
-            return true;
-        }
-        i += 1;
-    }
-    false
+    let by = Move { dx, dy };
+    let first = TablePiece { table, piece: p };
+    let second = TablePiece { table, piece: q };
+    (0..p.count).any(|i| part_conflicts(&first, i, &second, by, gap))
 }

@@ -4,16 +4,10 @@ use lib.IntN.{◌+ℤ◌, ◌*ℤ◌}
 use borrow.Author.Rules.{sfits_of}
 use mir.Syntax.{w16, w32, w64}
 use mir.ValLaws.{to_z-of_z}
-use Rattle.integers.proofs.Machine.{cast_fits, cast_gives}
+use Rattle.integers.proofs.Machine.{cast_gives}
 use Rattle.distances.proofs.DistanceLaws.{along-size}
 use Rattle.directions.proofs.Sizes.{small_at}
 use Rattle.distances.proofs.corners.way_along.Goals as goal
-
-pub overflow_cast-a : goal.overflow_cast-a
-overflow_cast-a c = cast_fits _ c.ranges.a tt
-
-pub overflow_cast-b : goal.overflow_cast-b
-overflow_cast-b c = cast_fits _ c.ranges.b tt
 
 pub returns : goal.returns
 returns c =

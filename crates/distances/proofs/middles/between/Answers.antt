@@ -5,80 +5,54 @@ use Prim.Native.Nat.{◌≤◌}
 use borrow.Author.Rules.{sfits_of}
 use lib.IntN.{ℤ, pos, nat_abs, ◌+ℤ◌, ◌-ℤ◌, ◌*ℤ◌}
 use mir.Syntax.{w16}
-use mir.Val.{SFits, to_z, of_z}
-use mir.ValLaws.{to_z-of_z}
+use mir.Val.{SFits}
 use Rattle.integers.proofs.Machine.{op_fits, op_gives}
+use Rattle.distances.proofs.DistanceLaws.{bits, bits_are}
 use Rattle.distances.proofs.MiddleLaws.{doubled-size, doubled_fits, more_size, more_fits, rest-size, rest-fits}
 use Rattle.distances.proofs.middles.between.Goals as goal
 
--- ---- the numbers, free of the bits of the locals
-abbrev read : ℤ → ℤ
-read z = to_z w16 (of_z w16 z)
+-- twice the middle of q, r, and twice the move, m,
+module _ (r m : ℤ) (fr : SFits w16 r) (fm : SFits w16 m) (hr : nat_abs r ≤ 8192) (hm : nat_abs m ≤ 4096) where
+  doubled_is : bits (pos 2 *ℤ bits m) ≡ pos 2 *ℤ m
+  doubled_is = op_gives {x = pos 2} refl (bits_are fm refl) ◌*ℤ◌ (doubled_fits m hm)
 
--- ---- the needs
-pub twice_middle-requires : goal.twice_middle-requires
-twice_middle-requires c = ((c.requires.in_bounds.0.1, c.requires.in_bounds.1.0), c.requires.compact.1)
+  end_held : SFits w16 (bits r +ℤ bits (pos 2 *ℤ bits m))
+  end_held = op_fits (bits_are fr refl) doubled_is ◌+ℤ◌ (more_fits r (pos 2 *ℤ m) hr (doubled-size m hm))
+
+  end_is : bits (bits r +ℤ bits (pos 2 *ℤ bits m)) ≡ r +ℤ pos 2 *ℤ m
+  end_is = op_gives (bits_are fr refl) doubled_is ◌+ℤ◌ (more_fits r (pos 2 *ℤ m) hr (doubled-size m hm))
+
+  end_size : nat_abs (r +ℤ pos 2 *ℤ m) ≤ 16384
+  end_size = more_size r (pos 2 *ℤ m) hr (doubled-size m hm)
+
+  -- less twice the middle of p, s
+  module _ (s : ℤ) (fs : SFits w16 s) (hs : nat_abs s ≤ 8192) where
+    way_held : SFits w16 (bits (bits r +ℤ bits (pos 2 *ℤ bits m)) -ℤ bits s)
+    way_held = op_fits end_is (bits_are fs refl) ◌-ℤ◌ (rest-fits (r +ℤ pos 2 *ℤ m) s end_size hs)
+
+    way_size : nat_abs (bits (bits (bits r +ℤ bits (pos 2 *ℤ bits m)) -ℤ bits s)) ≤ 24576
+    way_size =
+        rw (op_gives end_is (bits_are fs refl) ◌-ℤ◌ (rest-fits (r +ℤ pos 2 *ℤ m) s end_size hs))
+        (rest-size (r +ℤ pos 2 *ℤ m) s end_size hs)
 
 pub overflow_mul-result : goal.overflow_mul-result
-overflow_mul-result c =
-    let is_moved : read c.args.moved ≡ c.args.moved = to_z-of_z w16 c.args.moved c.ranges.moved in
-    op_fits {x = pos 2} refl is_moved ◌*ℤ◌ (doubled_fits c.args.moved c.requires.in_bounds.1.1)
+overflow_mul-result c = op_fits {x = pos 2} refl (bits_are c.ranges.moved refl) ◌*ℤ◌ (doubled_fits c.args.moved c.requires.1)
 
 pub overflow_add-result : goal.overflow_add-result
 overflow_add-result c =
-    let is_second : read c.twice_middle.result ≡ c.twice_middle.result =
-    to_z-of_z w16 _ (sfits_of c.twice_middle.type_inv) in
-    let is_doubled : read (pos 2 *ℤ read c.args.moved) ≡ pos 2 *ℤ c.args.moved =
-    (let is_moved : read c.args.moved ≡ c.args.moved = to_z-of_z w16 c.args.moved c.ranges.moved in
-    op_gives {x = pos 2} refl is_moved ◌*ℤ◌ (doubled_fits c.args.moved c.requires.in_bounds.1.1)) in
-    let end_fits : SFits w16 (c.twice_middle.result +ℤ pos 2 *ℤ c.args.moved) =
-    more_fits c.twice_middle.result (pos 2 *ℤ c.args.moved) c.twice_middle.ensures
-    (doubled-size c.args.moved c.requires.in_bounds.1.1) in
-    op_fits is_second is_doubled ◌+ℤ◌ end_fits
-
-pub twice_middle-requires-2 : goal.twice_middle-requires-2
-twice_middle-requires-2 c = ((c.requires.in_bounds.0.0, c.requires.in_bounds.1.0), c.requires.compact.0)
+    let r = c.twice_middle in
+    end_held r.result c.args.moved (sfits_of r.type_inv) c.ranges.moved r.ensures c.requires.1
 
 pub overflow_sub-result : goal.overflow_sub-result
 overflow_sub-result c =
-    let is_first : read c.twice_middle-2.result ≡ c.twice_middle-2.result =
-    to_z-of_z w16 _ (sfits_of c.twice_middle-2.type_inv) in
-    let end_size : nat_abs (c.twice_middle.result +ℤ pos 2 *ℤ c.args.moved) ≤ 16384 =
-    more_size c.twice_middle.result (pos 2 *ℤ c.args.moved) c.twice_middle.ensures
-    (doubled-size c.args.moved c.requires.in_bounds.1.1) in
-    let end_gives : read (read c.twice_middle.result +ℤ read (pos 2 *ℤ read c.args.moved)) ≡ c.twice_middle.result
-    +ℤ pos 2 *ℤ c.args.moved =
-    (let is_second : read c.twice_middle.result ≡ c.twice_middle.result =
-    to_z-of_z w16 _ (sfits_of c.twice_middle.type_inv) in
-    let is_doubled : read (pos 2 *ℤ read c.args.moved) ≡ pos 2 *ℤ c.args.moved =
-    (let is_moved : read c.args.moved ≡ c.args.moved = to_z-of_z w16 c.args.moved c.ranges.moved in
-    op_gives {x = pos 2} refl is_moved ◌*ℤ◌ (doubled_fits c.args.moved c.requires.in_bounds.1.1)) in
-    let end_fits : SFits w16 (c.twice_middle.result +ℤ pos 2 *ℤ c.args.moved) =
-    more_fits c.twice_middle.result (pos 2 *ℤ c.args.moved) c.twice_middle.ensures
-    (doubled-size c.args.moved c.requires.in_bounds.1.1) in
-    op_gives is_second is_doubled ◌+ℤ◌ end_fits) in
-    op_fits end_gives is_first ◌-ℤ◌ (rest-fits (c.twice_middle.result +ℤ pos 2 *ℤ c.args.moved)
-    c.twice_middle-2.result end_size c.twice_middle-2.ensures)
+    let r = c.twice_middle in
+    let s = c.twice_middle-2 in
+    way_held r.result c.args.moved (sfits_of r.type_inv) c.ranges.moved r.ensures c.requires.1 s.result
+    (sfits_of s.type_inv) s.ensures
 
 pub returns : goal.returns
 returns c =
-    let is_first : read c.twice_middle-2.result ≡ c.twice_middle-2.result =
-    to_z-of_z w16 _ (sfits_of c.twice_middle-2.type_inv) in
-    let end_size : nat_abs (c.twice_middle.result +ℤ pos 2 *ℤ c.args.moved) ≤ 16384 =
-    more_size c.twice_middle.result (pos 2 *ℤ c.args.moved) c.twice_middle.ensures
-    (doubled-size c.args.moved c.requires.in_bounds.1.1) in
-    let end_gives : read (read c.twice_middle.result +ℤ read (pos 2 *ℤ read c.args.moved)) ≡ c.twice_middle.result
-    +ℤ pos 2 *ℤ c.args.moved =
-    (let is_second : read c.twice_middle.result ≡ c.twice_middle.result =
-    to_z-of_z w16 _ (sfits_of c.twice_middle.type_inv) in
-    let is_doubled : read (pos 2 *ℤ read c.args.moved) ≡ pos 2 *ℤ c.args.moved =
-    (let is_moved : read c.args.moved ≡ c.args.moved = to_z-of_z w16 c.args.moved c.ranges.moved in
-    op_gives {x = pos 2} refl is_moved ◌*ℤ◌ (doubled_fits c.args.moved c.requires.in_bounds.1.1)) in
-    let end_fits : SFits w16 (c.twice_middle.result +ℤ pos 2 *ℤ c.args.moved) =
-    more_fits c.twice_middle.result (pos 2 *ℤ c.args.moved) c.twice_middle.ensures
-    (doubled-size c.args.moved c.requires.in_bounds.1.1) in
-    op_gives is_second is_doubled ◌+ℤ◌ end_fits) in
-    rw (op_gives end_gives is_first ◌-ℤ◌ (rest-fits (c.twice_middle.result +ℤ pos 2 *ℤ c.args.moved)
-    c.twice_middle-2.result end_size c.twice_middle-2.ensures))
-    (rest-size (c.twice_middle.result +ℤ pos 2 *ℤ c.args.moved) c.twice_middle-2.result end_size
-    c.twice_middle-2.ensures)
+    let r = c.twice_middle in
+    let s = c.twice_middle-2 in
+    way_size r.result c.args.moved (sfits_of r.type_inv) c.ranges.moved r.ensures c.requires.1 s.result
+    (sfits_of s.type_inv) s.ensures

@@ -2,169 +2,100 @@
 -- Assumes nothing.
 use mathlib.Core.Path.{◌≡◌, sym, ◌∙◌, ap}
 use mathlib.Core.Bool.{true, false}
+use Prim.Native.Nat.{ℕ}
 use lib.IntN.{ℤ, pos, ◌+ℤ◌, ◌*ℤ◌}
 use lib.Signed.{le_z, lt_z}
 use borrow.Author.Rules.{sfits_of}
-use mir.Syntax.{w64}
-use mir.Val.{SFits}
+use mir.Syntax.{w16, w64}
+use mir.Val.{Fits, SFits}
 use mir.ValLaws.{to_z-of_z}
 use Rattle.integers.proofs.Machine.{op_fits, op_gives}
 use Rattle.directions.specs.Directions.{Small}
-use Rattle.distances.proofs.DistanceLaws.{limit_fits, aside_fits, along-of}
+use Rattle.distances.proofs.DistanceLaws.{bits, limit_fits, aside_fits, along-of}
 use Rattle.distances.proofs.MiddleLaws.{told-near, told-behind, told-along}
 use Rattle.directions.proofs.Sizes.{read, small-read, said}
 use Rattle.distances.proofs.middles.told.Goals as goal
 
+-- the tests, as they are made of the locals: s holds the squared gap, w the squared way, f how far the way goes along
+-- (a, b), and l the squared length of (a, b)
+module _ {gap : ℕ} {a b x y s : ℤ} (fg : Fits w16 gap) (fa : SFits w16 a) (fb : SFits w16 b) (fx : SFits w16 x)
+    (fy : SFits w16 y) (fs : SFits w64 s) (es : s ≡ pos gap *ℤ pos gap) where
+  square : read s ≡ pos gap *ℤ pos gap
+  square = to_z-of_z w64 s fs ∙ es
+
+  near : {w : ℤ} → Small (bits x *ℤ bits x +ℤ bits y *ℤ bits y) 31 w
+      → lt_z (x *ℤ x +ℤ y *ℤ y) (pos gap *ℤ pos gap) ≡ lt_z (read w) (read s)
+  near h = sym (λ i. lt_z (said tt (along-of fx fy fx fy h) i) (square i))
+
+  module _ {f : ℤ} (h : Small (bits a *ℤ bits x +ℤ bits b *ℤ bits y) 31 f) where
+    far : Small (a *ℤ x +ℤ b *ℤ y) 31 f
+    far = along-of fa fb fx fy h
+
+    behind : le_z (a *ℤ x +ℤ b *ℤ y) (pos 0) ≡ le_z (read f) (pos 0)
+    behind = sym (ap (λ z. le_z z (pos 0)) (said tt far))
+
+    width_held : SFits w64 (read f *ℤ read f)
+    width_held = op_fits (small-read far tt) (small-read far tt) ◌*ℤ◌ (aside_fits far)
+
+    module _ {l : ℤ} (g : Small (bits a *ℤ bits a +ℤ bits b *ℤ bits b) 31 l) where
+      limit_held : SFits w64 (read s *ℤ read l)
+      limit_held = op_fits square (said tt (along-of fa fb fa fb g)) ◌*ℤ◌ (limit_fits a b fg fa fb)
+
+      enough : le_z (pos gap *ℤ pos gap *ℤ (a *ℤ a +ℤ b *ℤ b)) ((a *ℤ x +ℤ b *ℤ y) *ℤ (a *ℤ x +ℤ b *ℤ y))
+          ≡ le_z (read (read s *ℤ read l)) (read (read f *ℤ read f))
+      enough =
+          sym (λ i. le_z (op_gives square (said tt (along-of fa fb fa fb g)) ◌*ℤ◌ (limit_fits a b fg fa fb) i)
+          ((op_gives (small-read far tt) (small-read far tt) ◌*ℤ◌ (aside_fits far) ∙ ap (λ z. z *ℤ z) far.value) i))
+
 pub returns-then-way_along-square : goal.returns-then-way_along-square
 returns-then-way_along-square c =
-    let a : ℤ = c.args.a in
-    let b : ℤ = c.args.b in
-    let x : ℤ = c.args.x in
-    let y : ℤ = c.args.y in
-    let gap_squared : ℤ = pos c.args.gap *ℤ pos c.args.gap in
-    let way_squared : ℤ = (x *ℤ x +ℤ y *ℤ y) in
-    let near : lt_z (read c.way_along.result) (read c.squared-square.result) ≡ lt_z way_squared gap_squared =
-    (let is_square : read c.squared-square.result ≡ gap_squared =
-    to_z-of_z w64 c.squared-square.result (sfits_of c.squared-square.type_inv) ∙ c.squared-square.ensures in
-    let way_squared : ℤ = (x *ℤ x +ℤ y *ℤ y) in
-    let is_way : Small way_squared 31 c.way_along.result =
-    along-of c.ranges.x c.ranges.y c.ranges.x c.ranges.y c.way_along.ensures in
-    λ i. lt_z (said tt is_way i) (is_square i)) in
-    told-near c.args.gap a b x y (sym near ∙ c.if-way_along-square.true)
+    let e = c.args in
+    let r = c.ranges in
+    let q = c.squared-square in
+    told-near e.gap e.a e.b e.x e.y
+    (near r.gap r.a r.b r.x r.y (sfits_of q.type_inv) q.ensures c.way_along.ensures ∙ c.if-way_along-square.true)
 
 pub returns-then-width-le0 : goal.returns-then-width-le0
 returns-then-width-le0 c =
-    let a : ℤ = c.args.a in
-    let b : ℤ = c.args.b in
-    let x : ℤ = c.args.x in
-    let y : ℤ = c.args.y in
-    let gap_squared : ℤ = pos c.args.gap *ℤ pos c.args.gap in
-    let way_squared : ℤ = (x *ℤ x +ℤ y *ℤ y) in
-    let near : lt_z (read c.way_along.result) (read c.squared-square.result) ≡ lt_z way_squared gap_squared =
-    (let is_square : read c.squared-square.result ≡ gap_squared =
-    to_z-of_z w64 c.squared-square.result (sfits_of c.squared-square.type_inv) ∙ c.squared-square.ensures in
-    let way_squared : ℤ = (x *ℤ x +ℤ y *ℤ y) in
-    let is_way : Small way_squared 31 c.way_along.result =
-    along-of c.ranges.x c.ranges.y c.ranges.x c.ranges.y c.way_along.ensures in
-    λ i. lt_z (said tt is_way i) (is_square i)) in
-    let far : ℤ = (a *ℤ x +ℤ b *ℤ y) in
-    let behind : le_z (read c.way_along-width.result) (pos 0) ≡ le_z far (pos 0) =
-    (let far : ℤ = (let a : ℤ = c.args.a in
-    a *ℤ x +ℤ b *ℤ y) in
-    let is_far : Small far 31 c.way_along-width.result =
-    along-of c.ranges.a c.ranges.b c.ranges.x c.ranges.y c.way_along-width.ensures in
-    ap (λ z. le_z z (pos 0)) (said tt is_far)) in
-    told-behind c.args.gap a b x y (sym near ∙ c.if-way_along-square.false) (sym behind ∙ c.if-width-le0.true)
+    let e = c.args in
+    let r = c.ranges in
+    let q = c.squared-square in
+    told-behind e.gap e.a e.b e.x e.y
+    (near r.gap r.a r.b r.x r.y (sfits_of q.type_inv) q.ensures c.way_along.ensures ∙ c.if-way_along-square.false)
+    (behind r.gap r.a r.b r.x r.y (sfits_of q.type_inv) q.ensures c.way_along-width.ensures ∙ c.if-width-le0.true)
 
 pub overflow_mul-square : goal.overflow_mul-square
 overflow_mul-square c =
-    let gap_squared : ℤ = pos c.args.gap *ℤ pos c.args.gap in
-    let is_square : read c.squared-square.result ≡ gap_squared =
-    to_z-of_z w64 c.squared-square.result (sfits_of c.squared-square.type_inv) ∙ c.squared-square.ensures in
-    let length_squared : ℤ = (let a : ℤ = c.args.a in
-    let b : ℤ = c.args.b in
-    a *ℤ a +ℤ b *ℤ b) in
-    let is_length : Small length_squared 31 c.way_along-2.result =
-    along-of c.ranges.a c.ranges.b c.ranges.a c.ranges.b c.way_along-2.ensures in
-    let length_squared : ℤ = (let a : ℤ = c.args.a in
-    let b : ℤ = c.args.b in
-    a *ℤ a +ℤ b *ℤ b) in
-    let limit : SFits w64 (gap_squared *ℤ length_squared) = (let a : ℤ = c.args.a in
-    let b : ℤ = c.args.b in
-    limit_fits a b c.ranges.gap c.ranges.a c.ranges.b) in
-    op_fits is_square (said tt is_length) ◌*ℤ◌ limit
+    let r = c.ranges in
+    let q = c.squared-square in
+    limit_held r.gap r.a r.b r.x r.y (sfits_of q.type_inv) q.ensures c.way_along-width.ensures c.way_along-2.ensures
 
 pub overflow_mul-width : goal.overflow_mul-width
 overflow_mul-width c =
-    let far : ℤ = (let a : ℤ = c.args.a in
-    let b : ℤ = c.args.b in
-    let x : ℤ = c.args.x in
-    let y : ℤ = c.args.y in
-    a *ℤ x +ℤ b *ℤ y) in
-    let is_far : Small far 31 c.way_along-width.result =
-    along-of c.ranges.a c.ranges.b c.ranges.x c.ranges.y c.way_along-width.ensures in
-    op_fits (small-read is_far tt) (small-read is_far tt) ◌*ℤ◌ (aside_fits is_far)
+    let r = c.ranges in
+    let q = c.squared-square in
+    width_held r.gap r.a r.b r.x r.y (sfits_of q.type_inv) q.ensures c.way_along-width.ensures
 
 pub returns-then-square-way_along : goal.returns-then-square-way_along
 returns-then-square-way_along c =
-    let a : ℤ = c.args.a in
-    let b : ℤ = c.args.b in
-    let x : ℤ = c.args.x in
-    let y : ℤ = c.args.y in
-    let gap_squared : ℤ = pos c.args.gap *ℤ pos c.args.gap in
-    let way_squared : ℤ = (x *ℤ x +ℤ y *ℤ y) in
-    let near : lt_z (read c.way_along.result) (read c.squared-square.result) ≡ lt_z way_squared gap_squared =
-    (let is_square : read c.squared-square.result ≡ gap_squared =
-    to_z-of_z w64 c.squared-square.result (sfits_of c.squared-square.type_inv) ∙ c.squared-square.ensures in
-    let way_squared : ℤ = (x *ℤ x +ℤ y *ℤ y) in
-    let is_way : Small way_squared 31 c.way_along.result =
-    along-of c.ranges.x c.ranges.y c.ranges.x c.ranges.y c.way_along.ensures in
-    λ i. lt_z (said tt is_way i) (is_square i)) in
-    let far : ℤ = (a *ℤ x +ℤ b *ℤ y) in
-    let behind : le_z (read c.way_along-width.result) (pos 0) ≡ le_z far (pos 0) =
-    (let far : ℤ = (let a : ℤ = c.args.a in
-    a *ℤ x +ℤ b *ℤ y) in
-    let is_far : Small far 31 c.way_along-width.result =
-    along-of c.ranges.a c.ranges.b c.ranges.x c.ranges.y c.way_along-width.ensures in
-    ap (λ z. le_z z (pos 0)) (said tt is_far)) in
-    let far : ℤ = (a *ℤ x +ℤ b *ℤ y) in
-    let length_squared : ℤ = (a *ℤ a +ℤ b *ℤ b) in
-    let enough : le_z (read (read c.squared-square.result *ℤ read c.way_along-2.result))
-    (read (read c.way_along-width.result *ℤ read c.way_along-width.result)) ≡ le_z (gap_squared *ℤ length_squared)
-    (far *ℤ far) = (let is_square : read c.squared-square.result ≡ gap_squared =
-    to_z-of_z w64 c.squared-square.result (sfits_of c.squared-square.type_inv) ∙ c.squared-square.ensures in
-    let far : ℤ = (a *ℤ x +ℤ b *ℤ y) in
-    let is_far : Small far 31 c.way_along-width.result =
-    along-of c.ranges.a c.ranges.b c.ranges.x c.ranges.y c.way_along-width.ensures in
-    let length_squared : ℤ = (a *ℤ a +ℤ b *ℤ b) in
-    let is_length : Small length_squared 31 c.way_along-2.result =
-    along-of c.ranges.a c.ranges.b c.ranges.a c.ranges.b c.way_along-2.ensures in
-    let length_squared : ℤ = (a *ℤ a +ℤ b *ℤ b) in
-    let limit : SFits w64 (gap_squared *ℤ length_squared) = (limit_fits a b c.ranges.gap c.ranges.a c.ranges.b) in
-    λ i. le_z (op_gives is_square (said tt is_length) ◌*ℤ◌ limit i)
-    ((op_gives (small-read is_far tt) (small-read is_far tt) ◌*ℤ◌ (aside_fits is_far)
-    ∙ ap (λ z. z *ℤ z) is_far.value) i)) in
-    told-along c.args.gap a b x y (sym near ∙ c.if-way_along-square.false) (sym behind ∙ c.if-width-le0.false) true
-    (sym enough ∙ c.if-square-way_along.true)
+    let e = c.args in
+    let r = c.ranges in
+    let q = c.squared-square in
+    told-along e.gap e.a e.b e.x e.y
+    (near r.gap r.a r.b r.x r.y (sfits_of q.type_inv) q.ensures c.way_along.ensures ∙ c.if-way_along-square.false)
+    (behind r.gap r.a r.b r.x r.y (sfits_of q.type_inv) q.ensures c.way_along-width.ensures ∙ c.if-width-le0.false)
+    true
+    (enough r.gap r.a r.b r.x r.y (sfits_of q.type_inv) q.ensures c.way_along-width.ensures c.way_along-2.ensures
+    ∙ c.if-square-way_along.true)
 
 pub returns-else-square-way_along : goal.returns-else-square-way_along
 returns-else-square-way_along c =
-    let a : ℤ = c.args.a in
-    let b : ℤ = c.args.b in
-    let x : ℤ = c.args.x in
-    let y : ℤ = c.args.y in
-    let gap_squared : ℤ = pos c.args.gap *ℤ pos c.args.gap in
-    let way_squared : ℤ = (x *ℤ x +ℤ y *ℤ y) in
-    let near : lt_z (read c.way_along.result) (read c.squared-square.result) ≡ lt_z way_squared gap_squared =
-    (let is_square : read c.squared-square.result ≡ gap_squared =
-    to_z-of_z w64 c.squared-square.result (sfits_of c.squared-square.type_inv) ∙ c.squared-square.ensures in
-    let way_squared : ℤ = (x *ℤ x +ℤ y *ℤ y) in
-    let is_way : Small way_squared 31 c.way_along.result =
-    along-of c.ranges.x c.ranges.y c.ranges.x c.ranges.y c.way_along.ensures in
-    λ i. lt_z (said tt is_way i) (is_square i)) in
-    let far : ℤ = (a *ℤ x +ℤ b *ℤ y) in
-    let behind : le_z (read c.way_along-width.result) (pos 0) ≡ le_z far (pos 0) =
-    (let far : ℤ = (let a : ℤ = c.args.a in
-    a *ℤ x +ℤ b *ℤ y) in
-    let is_far : Small far 31 c.way_along-width.result =
-    along-of c.ranges.a c.ranges.b c.ranges.x c.ranges.y c.way_along-width.ensures in
-    ap (λ z. le_z z (pos 0)) (said tt is_far)) in
-    let far : ℤ = (a *ℤ x +ℤ b *ℤ y) in
-    let length_squared : ℤ = (a *ℤ a +ℤ b *ℤ b) in
-    let enough : le_z (read (read c.squared-square.result *ℤ read c.way_along-2.result))
-    (read (read c.way_along-width.result *ℤ read c.way_along-width.result)) ≡ le_z (gap_squared *ℤ length_squared)
-    (far *ℤ far) = (let is_square : read c.squared-square.result ≡ gap_squared =
-    to_z-of_z w64 c.squared-square.result (sfits_of c.squared-square.type_inv) ∙ c.squared-square.ensures in
-    let far : ℤ = (a *ℤ x +ℤ b *ℤ y) in
-    let is_far : Small far 31 c.way_along-width.result =
-    along-of c.ranges.a c.ranges.b c.ranges.x c.ranges.y c.way_along-width.ensures in
-    let length_squared : ℤ = (a *ℤ a +ℤ b *ℤ b) in
-    let is_length : Small length_squared 31 c.way_along-2.result =
-    along-of c.ranges.a c.ranges.b c.ranges.a c.ranges.b c.way_along-2.ensures in
-    let length_squared : ℤ = (a *ℤ a +ℤ b *ℤ b) in
-    let limit : SFits w64 (gap_squared *ℤ length_squared) = (limit_fits a b c.ranges.gap c.ranges.a c.ranges.b) in
-    λ i. le_z (op_gives is_square (said tt is_length) ◌*ℤ◌ limit i)
-    ((op_gives (small-read is_far tt) (small-read is_far tt) ◌*ℤ◌ (aside_fits is_far)
-    ∙ ap (λ z. z *ℤ z) is_far.value) i)) in
-    told-along c.args.gap a b x y (sym near ∙ c.if-way_along-square.false) (sym behind ∙ c.if-width-le0.false) false
-    (sym enough ∙ c.if-square-way_along.false)
+    let e = c.args in
+    let r = c.ranges in
+    let q = c.squared-square in
+    told-along e.gap e.a e.b e.x e.y
+    (near r.gap r.a r.b r.x r.y (sfits_of q.type_inv) q.ensures c.way_along.ensures ∙ c.if-way_along-square.false)
+    (behind r.gap r.a r.b r.x r.y (sfits_of q.type_inv) q.ensures c.way_along-width.ensures ∙ c.if-width-le0.false)
+    false
+    (enough r.gap r.a r.b r.x r.y (sfits_of q.type_inv) q.ensures c.way_along-width.ensures c.way_along-2.ensures
+    ∙ c.if-square-way_along.false)
