@@ -8,7 +8,8 @@ ghost use Rattle.std.specs.Prelude.{IfOk, IfSome, OnOk, length, take, ◌≡◌,
 use std::io;
 use std::io::{Read, Write};
 
-// Reads until the buffer is full or the input ends, and tells how many bytes it read.
+// Reads until the buffer is full or the input ends, and tells how many bytes it read. (A loop: no method of the library
+// reads so without a heap, as the project has it.)
 fn read_full<R: Read>(from: &mut R, buffer: &mut [u8]) -> io::Result<usize>
     ensures within { IfOk result (λ n. n ≤ length buffer.new) }
     ensures bytes { IfOk result (λ n. IfSome (R.remaining from.old)
