@@ -1,19 +1,14 @@
 -- Bytes as signed numbers: `signed` by its cases, that it is the 8-bit reading `to_z w8`, and its range. Assumes nothing.
 use mathlib.Core.Path.{◌≡◌, refl, sym, ◌∙◌, ap, subst}
 use mathlib.Core.Bool.{Bool, true, false, cond}
-use mathlib.Core.List.{[], ◌∷◌}
 use Prim.Native.Nat.{ℕ, suc, ◌-◌, ◌≤◌, ◌<◌}
-use native.Mathlib.Nat.{lt_of_le_of_lt}
-use native.Mathlib.Omega.{arith}
-use lib.Dec.{ltb, lit<}
-use lib.IntN.{ℤ, pos, negsuc, nat_abs, ◌+ℤ◌, ◌-ℤ◌}
-use mir.Syntax.{w8, w16}
+use lib.Dec.{ltb}
+use lib.IntN.{pos, negsuc, ◌-ℤ◌}
+use mir.Syntax.{w8}
 use mir.Val.{Fits, SFits, to_z, sel}
-use mir.ValLaws.{to_z_pos, to_z-Fits}
+use mir.ValLaws.{to_z-Fits}
 use borrow.Author.Tests.{lt-ltb, le-ltb, ltb-true, ltb-false}
 use Rattle.integers.specs.Byte.{signed}
-use Rattle.integers.proofs.Solver.{◌⊞◌}
-use Rattle.integers.proofs.Sizes.{bounded, fits_nat_abs}
 
 -- a byte below 128 is itself
 pub signed_low : (b : ℕ) → b < 128 → signed b ≡ pos b
@@ -41,12 +36,3 @@ signed-to_z b f = go (ltb b 128) refl
 -- so it fits 8 bits: from −128 to 127
 pub signed-fits : (b : ℕ) → Fits w8 b → SFits w8 (signed b)
 signed-fits b f = subst (SFits w8) (sym (signed-to_z b f)) (to_z-Fits w8 b f)
-
--- a byte's 16-bit reading is the byte
-pub byte_16 : (b : ℕ) → Fits w8 b → to_z w16 b ≡ pos b
-byte_16 b f = to_z_pos w16 b (omega arith)
-
--- a byte and a small number more or less fit 16 bits
-pub byte_sum-fits : (b : ℕ) (k : ℤ) → Fits w8 b → nat_abs k ≤ 1000 → SFits w16 (to_z w16 b +ℤ k)
-byte_sum-fits b k f h =
-    rw (byte_16 b f) (fits_nat_abs w16 (pos b +ℤ k) (lt_of_le_of_lt (bounded (256 ∷ 1000 ∷ []) 2 (λ b k. b ⊞ k) (pos b) k (omega arith) h) (lit< tt)))

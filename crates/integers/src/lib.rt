@@ -16,14 +16,14 @@ pub fn dot(ax: i32, ay: i32, bx: i16, by: i16) -> i64
 pub fn cross(ax: i16, ay: i16, bx: i16, by: i16) -> i64
     ensures { result ≡ ax *ℤ by -ℤ ay *ℤ bx }
 {
-    dot(by as i32, 0 - (bx as i32), ax, ay)
+    dot(by as i32, -(bx as i32), ax, ay)
 }
 
 // A byte as a signed number.
 pub fn byte_to_i16(b: u8) -> i16
     ensures { result ≡ signed b }
 {
-    if b < 128 { b as i16 } else { (b as i16) - 256 }
+    i16::from(b.cast_signed())
 }
 
 // Byte i of a slice as a signed number.

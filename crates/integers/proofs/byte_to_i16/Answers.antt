@@ -1,16 +1,12 @@
--- `integers::byte_to_i16` meets its contract: each arm is one of the two cases of `signed`, and no difference wraps.
--- Assumes nothing.
-use mathlib.Core.Path.{◌∙◌, sym}
-use native.Mathlib.Omega.{arith}
-use lib.Dec.{lit≤}
-use mir.Syntax.{w16}
+-- `integers::byte_to_i16` meets its contract.
+use mathlib.Core.Path.{sym, ◌∙◌}
+use mir.Syntax.{w8, w16}
 use mir.ValLaws.{to_z-of_z}
-use borrow.Author.Rules.{rules}
-use Rattle.integers.proofs.Bytes.{signed_low, signed_high, byte_16, byte_sum-fits}
+use borrow.Author.Rules.{sfits_of}
+use Rattle.integers.proofs.Bytes.{signed-to_z}
 use Rattle.integers.proofs.byte_to_i16.Goals as goal
 
-pub returns-then-b-lt128 : goal.returns-then-b-lt128
-returns-then-b-lt128 c = byte_16 c.args.b c.ranges.b ∙ sym (signed_low c.args.b (omega arith))
-
-pub returns-else-b-lt128 : goal.returns-else-b-lt128
-returns-else-b-lt128 c = to_z-of_z w16 _ (byte_sum-fits c.args.b _ c.ranges.b (lit≤ tt)) ∙ rw (byte_16 c.args.b c.ranges.b, signed_high c.args.b (omega arith))
+pub returns : goal.returns
+returns c =
+    to_z-of_z w16 c.from.result (sfits_of c.from.type_inv) ∙ c.from.ensures
+    ∙ to_z-of_z w8 c.cast_signed.result (sfits_of c.cast_signed.type_inv) ∙ c.cast_signed.ensures ∙ sym (signed-to_z c.args.b c.ranges.b)

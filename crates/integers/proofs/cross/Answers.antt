@@ -5,7 +5,7 @@ use lib.IntN.{ℤ, pos, ◌+ℤ◌, ◌-ℤ◌, ◌*ℤ◌}
 use mir.Syntax.{w16, w32, w64}
 use mir.Val.{SFits}
 use mir.ValLaws.{to_z-of_z}
-use Rattle.integers.proofs.Machine.{cast_fits, cast_gives, op_fits, op_gives}
+use Rattle.integers.proofs.Machine.{cast_gives, op_gives}
 use Rattle.integers.proofs.Sizes.{sized}
 use Rattle.integers.proofs.Solver.{ring, #, ◌⊞◌, ◌⊟◌, ◌⊠◌, ◌≈◌}
 use Rattle.integers.proofs.cross.Goals as goal

@@ -1,7 +1,7 @@
 -- `integers::dot` meets its contract: products of 32-bit and 16-bit numbers and their sum fit 64 bits. Assumes nothing.
 use mir.Syntax.{w64}
 use lib.IntN.{◌+ℤ◌, ◌*ℤ◌}
-use Rattle.integers.proofs.Machine.{cast_fits, cast_gives, op_fits, op_gives}
+use Rattle.integers.proofs.Machine.{cast_gives, op_fits, op_gives}
 use Rattle.integers.proofs.Products.{product_fits, products_fit}
 use Rattle.integers.proofs.dot.Goals as goal
 
