@@ -2,7 +2,7 @@
 use mathlib.Core.Bool.{Bool, true, false, ◌&&◌}
 use mathlib.Core.List.{List, [], ◌∷◌}
 use mathlib.Core.Path.{◌≡◌, refl, sym, ap, ◌∙◌}
-use Prim.Native.Nat.{ℕ, ◌+◌, ◌*◌, ◌≤◌, ◌<◌}
+use Prim.Native.Nat.{ℕ, ◌+◌, ◌*◌, ◌/◌, ◌%◌, ◌≤◌, ◌<◌, min}
 use native.Mathlib.Omega.{arith}
 use borrow.Author.Tests.{lt-ltb, le-ltb}
 use lib.Dec.{ltb}
@@ -16,10 +16,12 @@ use Rattle.words.specs.Bits.{test_bit}
 use Rattle.model.specs.Candidate.{natural}
 use Rattle.model.specs.Content.{kind_count}
 use Rattle.model.specs.Format.{content}
+use Rattle.model.specs.Grid.{rows, columns, dots, set_words}
 use Rattle.model.specs.Layout.{Entry, entry_kind, entry_of, is_entry, entry_extent}
 use Rattle.model.specs.Candidate.{is_candidate}
 use Rattle.model.specs.Problem.{Problem}
-use Rattle.model.proofs.Accepted.{accepted-sensible}
+use Rattle.std.specs.Int.{div_ceil}
+use Rattle.model.proofs.Accepted.{accepted-sensible, accepted-dots}
 use Rattle.model.proofs.Lists.{and_left, and_right, not_both}
 use Rattle.model.proofs.Search.Pieces.{admitted-parts, few-turns, entry-kind}
 use Rattle.job.specs.View.{problem_of, Viewed}
@@ -96,3 +98,17 @@ module _ (s : List ℕ) (v : View) (b : Boxes) (x : Viewed s v) (y : BoxesOf s b
     ends-on_board =
         let short = ends-within v b e.kind e.place.column e.place.row e.place.rotation (placement-is (of_view s v x e h) ∙ h) in
         omega (arith, (bounded s v x).size)
+
+-- ---- the words of a set of candidate numbers
+
+module _ (s : List ℕ) (v : View) (x : Viewed s v) where
+  pub few-dots : v.columns * v.rows ≤ 1024
+  unfolding dots
+  few-dots = rw (x.view.columns, x.view.rows) (accepted-dots s x.accepted)
+
+  pub words_counted : div_ceil (v.columns * v.rows) 16 ≡ set_words (content s).sheet
+  unfolding set_words dots
+  words_counted = rw (x.view.columns, x.view.rows) (up (columns (content s).sheet * rows (content s).sheet))
+    where
+      up : (n : ℕ) → n / 16 + min 1 (n % 16) ≡ (n + 15) / 16
+      up n = omega arith

@@ -21,6 +21,8 @@ pub struct PreparedJob<'a> {
 impl<'a> PreparedJob<'a> {
     ghost use Rattle.std.specs.Prelude.{◌≡◌, ◌≤◌, ◌<◌};
     ghost use Rattle.model.specs.Candidate.{is_candidate};
+    ghost use Rattle.model.specs.Format.{content};
+    ghost use Rattle.model.specs.Grid.{set_words};
     ghost use Rattle.model.specs.Layout.{entry, is_entry, entry_extent};
     ghost use Rattle.job.specs.View.{Viewed};
     ghost use Rattle.shapes.specs.Turned.{TurnedOf};
@@ -40,6 +42,14 @@ impl<'a> PreparedJob<'a> {
             turned,
             boxes,
         }
+    }
+
+    // How many words a set of candidate numbers takes: four bits for each dot.
+    pub fn set_words(&self) -> usize
+        ensures words { result ≡ set_words (content self.now.job.now).sheet }
+        ensures few { result ≤ 64 }
+    {
+        (self.view.columns * self.view.rows).div_ceil(16)
     }
 
     // Whether a kind may stand at a place. Any numbers may be given: of a kind past the last one there is none.
