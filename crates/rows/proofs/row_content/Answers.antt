@@ -1,101 +1,79 @@
--- `rows::row_content` meets its contract. Assumes nothing.
 use mathlib.Core.Path.{sym, ap, ◌∙◌}
+use Prim.Native.Nat.{◌<◌}
 use native.Mathlib.Omega.{arith}
-use Rattle.model.specs.declared.Written.TheVariants as W
-use Rattle.job.specs.View.{problem_of}
-use Rattle.rows.specs.Rows.{RowAsked}
-use Rattle.rows.proofs.AnswerLaws.{few-dots, word_count, kinds-exist, kind-absent, candidate-absent, all-exist, row-absent, row-short, row_written}
-use Rattle.candidates.proofs.PreparedLaws.{bounded, offered-is}
+use Rattle.std.specs.Prelude.{Ok}
+use Rattle.model.specs.Content.{kind_count}
+use Rattle.model.specs.Format.{content}
+use Rattle.candidates.specs.Prepared.{problem_in}
+use Rattle.candidates.proofs.PreparedLaws.{bounded, gap_is}
+use Rattle.rows.proofs.AnswerLaws.{kinds-exist, kind-absent, candidate-absent, all-exist, row-absent, row-short, row_written}
 use Rattle.rows.proofs.row_content.Goals as goal
+use Rattle.rows.proofs.row_content.Goals.{Else-kind-view}
+
+-- what the test of the kinds says
+exist : (c : Else-kind-view) → (c.args.kind < kind_count (content c.args.prepared.now.job.now).kinds) × (c.args.other < kind_count (content c.args.prepared.now.job.now).kinds)
+exist c =
+    let j = c.args.prepared.now in
+    kinds-exist j.job.now j.view j.prepared.viewed c.args.kind c.args.other c.if-kind-view.false
 
 pub returns-then-kind-view : goal.returns-then-kind-view
 returns-then-kind-view c =
-    let s = c.args.job.now in
-    let v = c.args.view in
-    let x = c.requires.viewed in
-    let q = row-absent (problem_of s v) c.args.kind c.args.number c.args.other c.args.row.now (kind-absent s v x c.args.kind c.args.number c.args.other c.if-kind-view.true) in
+    let j = c.args.prepared.now in
+    let q = row-absent (problem_in j) c.args.kind c.args.number c.args.other c.args.row.now
+    (kind-absent j.job.now j.view j.prepared.viewed c.args.kind c.args.number c.args.other c.if-kind-view.true) in
     record { value = sym (ap (λ o. o.answer) q); row_after = sym (ap (λ o. o.buffer) q) }
-
-pub is_candidate-requires : goal.is_candidate-requires
-is_candidate-requires c =
-    let s = c.args.job.now in
-    let v = c.args.view in
-    let x = c.requires.viewed in
-    (bounded s v x, rw x.view.kinds (kinds-exist s v x c.args.kind c.args.other c.if-kind-view.false).0)
 
 pub returns-then-not-is_candidate : goal.returns-then-not-is_candidate
 returns-then-not-is_candidate c =
-    let s = c.args.job.now in
-    let v = c.args.view in
-    let x = c.requires.viewed in
-    let h = kinds-exist s v x c.args.kind c.args.other c.if-kind-view.false in
-    let q = row-absent (problem_of s v) c.args.kind c.args.number c.args.other c.args.row.now
-    (candidate-absent (problem_of s v) c.args.kind c.args.number c.args.other (sym (offered-is s v c.args.boxes x c.requires.boxes c.args.kind h.0 c.args.number) ∙ sym c.is_candidate.ensures ∙ c.if-not-is_candidate.true)) in
+    let q = row-absent (problem_in c.args.prepared.now) c.args.kind c.args.number c.args.other c.args.row.now
+    (candidate-absent (problem_in c.args.prepared.now) c.args.kind c.args.number c.args.other (sym c.is_candidate.ensures ∙ c.if-not-is_candidate.true)) in
     record { value = sym (ap (λ o. o.answer) q); row_after = sym (ap (λ o. o.buffer) q) }
-
-pub overflow_mul-n : goal.overflow_mul-n
-overflow_mul-n c = omega (arith, few-dots c.args.job.now c.args.view c.requires.viewed)
-
-pub overflow_add-n : goal.overflow_add-n
-overflow_add-n c = omega (arith, few-dots c.args.job.now c.args.view c.requires.viewed)
 
 pub returns-then-row-n : goal.returns-then-row-n
 returns-then-row-n c =
-    let asked : RowAsked c.args.job.now c.args.view.margin c.args.kind
-    c.args.number c.args.other = (let s = c.args.job.now in
-    let v = c.args.view in
-    let h = kinds-exist s v c.requires.viewed c.args.kind c.args.other c.if-kind-view.false in
-    record {
-      kind = h.0;
-      other = h.1;
-      candidate =
-          sym (offered-is s v c.args.boxes c.requires.viewed c.requires.boxes c.args.kind h.0 c.args.number) ∙ sym c.is_candidate.ensures ∙ c.if-not-is_candidate.false;
-    }) in
-    let s = c.args.job.now in
-    let v = c.args.view in
-    let x = c.requires.viewed in
-    let q = row-short (problem_of s v) c.args.kind c.args.number c.args.other c.args.row.now (all-exist s v.margin c.args.kind c.args.number c.args.other (asked))
-    (rw (word_count s v x) at c.if-row-n.true) in
+    let j = c.args.prepared.now in
+    let h = exist (goal.at.returns-then-row-n c).Else-kind-view in
+    let q = row-short (problem_in j) c.args.kind c.args.number c.args.other c.args.row.now
+    (all-exist (problem_in j) c.args.kind c.args.number c.args.other h.0 (sym c.is_candidate.ensures ∙ c.if-not-is_candidate.false) h.1)
+    (rw c.set_words-n.ensures.words at c.if-row-n.true) in
     record { value = sym (ap (λ o. o.answer) q); row_after = sym (ap (λ o. o.buffer) q) }
 
-pub fill_for-requires : goal.fill_for-requires
-fill_for-requires c =
-    let asked : RowAsked c.args.job.now c.args.view.margin c.args.kind
-    c.args.number c.args.other = (let s = c.args.job.now in
-    let v = c.args.view in
-    let h = kinds-exist s v c.requires.viewed c.args.kind c.args.other c.if-kind-view.false in
-    record {
-      kind = h.0;
-      other = h.1;
-      candidate =
-          sym (offered-is s v c.args.boxes c.requires.viewed c.requires.boxes c.args.kind h.0 c.args.number) ∙ sym c.is_candidate.ensures ∙ c.if-not-is_candidate.false;
-    }) in
-    let s = c.args.job.now in
-    let v = c.args.view in
-    let x = c.requires.viewed in
-    ((c.requires, asked), omega (arith, word_count s v x, c.if-row-n.false))
+pub placed_of-requires : goal.placed_of-requires
+placed_of-requires c = let j = c.args.prepared.now in (bounded j.job.now j.view j.prepared.viewed).rows.0
 
-pub overflow_cast-result : goal.overflow_cast-result
-overflow_cast-result c = omega (arith, few-dots c.args.job.now c.args.view c.requires.viewed)
+pub pair_gap-requires : goal.pair_gap-requires
+pair_gap-requires c =
+    let j = c.args.prepared.now in
+    let h = exist (goal.at.pair_gap-requires c).Else-kind-view in
+    (bounded j.job.now j.view j.prepared.viewed, (rw j.prepared.viewed.view.kinds h.0, rw j.prepared.viewed.view.kinds h.1))
+
+pub invariant_of-asked : goal.invariant_of-asked
+invariant_of-asked c =
+    let j = c.args.prepared.now in
+    let h = exist (goal.at.invariant_of-asked c).Else-kind-view in
+    record {
+      row = record {
+        kind = h.0;
+        other = h.1;
+        candidate = sym c.is_candidate.ensures ∙ c.if-not-is_candidate.false;
+        first = c.piece_of.ensures;
+        place = c.placed_of.ensures;
+        second = c.piece_of-2.ensures;
+        apart = c.pair_gap.ensures ∙ gap_is j.job.now j.view j.prepared.viewed c.args.kind c.args.other h.0 h.1;
+      };
+    }
+
+pub fill-requires : goal.fill-requires
+fill-requires c = omega (arith, c.set_words-n.ensures.words, c.if-row-n.false)
 
 pub returns : goal.returns
 returns c =
-    let asked : RowAsked c.args.job.now c.args.view.margin c.args.kind
-    c.args.number c.args.other = (let s = c.args.job.now in
-    let v = c.args.view in
-    let h = kinds-exist s v c.requires.viewed c.args.kind c.args.other c.if-kind-view.false in
+    let j = c.args.prepared.now in
+    let h = exist (goal.at.returns c).Else-kind-view in
+    let q = row_written (problem_in j) c.args.kind c.args.number c.args.other c.args.row.now
+    (all-exist (problem_in j) c.args.kind c.args.number c.args.other h.0 (sym c.is_candidate.ensures ∙ c.if-not-is_candidate.false) h.1)
+    (rw c.set_words-n.ensures.words at c.if-row-n.false) in
     record {
-      kind = h.0;
-      other = h.1;
-      candidate =
-          sym (offered-is s v c.args.boxes c.requires.viewed c.requires.boxes c.args.kind h.0 c.args.number) ∙ sym c.is_candidate.ensures ∙ c.if-not-is_candidate.false;
-    }) in
-    let s = c.args.job.now in
-    let v = c.args.view in
-    let x = c.requires.viewed in
-    let q = row_written (problem_of s v) c.args.kind c.args.number c.args.other c.args.row.now (all-exist s v.margin c.args.kind c.args.number c.args.other (asked))
-    (rw (word_count s v x) at c.if-row-n.false) in
-    record {
-      value = ap W.Count (word_count s v x) ∙ sym (ap (λ o. o.answer) q);
-      row_after = c.fill_for.ensures ∙ sym (ap (λ o. o.buffer) q);
+      value = ap Ok c.set_words-n.ensures.words ∙ sym (ap (λ o. o.answer) q);
+      row_after = c.fill.ensures ∙ sym (ap (λ o. o.buffer) q);
     }
