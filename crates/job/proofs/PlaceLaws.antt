@@ -1,11 +1,11 @@
 -- Laws of the loop that records where parts begin.
 use mathlib.Core.List.{List, [], ◌∷◌, ◌++◌}
 use mathlib.Core.Logic.{◌⊎◌, inl, inr}
-use mathlib.Core.Path.{◌≡◌, refl, sym, ap, subst, ◌∙◌}
+use mathlib.Core.Path.{◌≡◌, sym, ap, subst, ◌∙◌}
 use Prim.Native.Nat.{ℕ, ◌+◌, ◌-◌, ◌<◌}
 use native.Mathlib.Nat.{eq-or-lt_of_le}
 use native.Mathlib.Omega.{arith}
-use lib.ListN.{length, get_or, drop, set, length-set, get_or-append}
+use lib.ListN.{length, get_or, drop, set, get_or-append}
 use lib.Seq.{get_or-set_same, get_or-set_other, get_or-append_seam}
 use Rattle.model.specs.Format.{got, many, read_part}
 use Rattle.model.proofs.Readers.{many-length}
@@ -25,24 +25,21 @@ at_more {A} P d xs ys x n e l h z i k = go (eq-or-lt_of_le {n = i} {m = n} (omeg
         let v : get_or ys i d ≡ x = ap (λ r. get_or r i d) e ∙ ap (λ m. get_or (xs ++ (x ∷ [])) m d) (q ∙ sym l) ∙ get_or-append_seam xs x [] d in
         subst (P i) (sym v) (subst (λ m. P m x) (sym q) z)
 
-module _ (list : List ℕ) (from n base first : ℕ) (before : List ℕ) where
-  pub placed-none : Placed list from 0 base first before before
-  placed-none = record { found = λ i h. absurd (omega arith); size = refl; kept = λ j h. refl }
+module _ (list : List ℕ) (from n base : ℕ) where
+  pub placed-none : (places : List ℕ) → Placed list from 0 base places
+  placed-none places = record { found = λ i h. absurd (omega arith) }
 
   -- The place of the next part.
-  pub placed-more : (i here c : ℕ) (table : List ℕ) → Reads (many read_part i (drop from list)) (here - from) → PartNext list from i here c
-      → first + i < length table → Placed list from i base first before table
-      → Placed list from (i + 1) base first before (set table (first + i) (base + here))
-  placed-more i here c table r p l q =
+  pub placed-more : (i here c : ℕ) (places : List ℕ) → Reads (many read_part i (drop from list)) (here - from) → PartNext list from i here c
+      → i < length places → Placed list from i base places → Placed list from (i + 1) base (set places i (base + here))
+  placed-more i here c places r p l q =
       record {
         found =
-            at_more (λ j P. FoundAt list base (get_or (set table (first + i) (base + here)) (first + j) 0) P) [] (values_of (many read_part i (drop from list)))
+            at_more (λ j P. FoundAt list base (get_or (set places i (base + here)) j 0) P) [] (values_of (many read_part i (drop from list)))
             (values_of (many read_part (i + 1) (drop from list))) _ i p.values (many-length read_part i (drop from list) _ (here - from) r)
-            (λ j h. subst (λ o. FoundAt list base o (get_or (values_of (many read_part i (drop from list))) j [])) (sym (get_or-set_other table (first + i) (first + j) (base + here) 0 (λ e. omega arith))) (q.found j h))
-            (record { behind = here; place = get_or-set_same table (first + i) (base + here) 0 l; reads = p.reads ∙ ap (got (value_of [] (read_part (drop here list)))) (sym (size_is _ _ _ p.reads)) });
-        size = length-set table (first + i) (base + here) ∙ q.size;
-        kept = λ j h. get_or-set_other table (first + i) j (base + here) 0 (λ e. omega arith) ∙ q.kept j h;
+            (λ j h. subst (λ o. FoundAt list base o (get_or (values_of (many read_part i (drop from list))) j [])) (sym (get_or-set_other places i j (base + here) 0 (λ e. omega arith))) (q.found j h))
+            (record { behind = here; place = get_or-set_same places i (base + here) 0 l; reads = p.reads ∙ ap (got (value_of [] (read_part (drop here list)))) (sym (size_is _ _ _ p.reads)) });
       }
 
-  pub placed_end : (i : ℕ) (table : List ℕ) → i ≡ n → Placed list from i base first before table → Placed list from n base first before table
-  placed_end i table e q = subst (λ m. Placed list from m base first before table) e q
+  pub placed_end : (i : ℕ) (places : List ℕ) → i ≡ n → Placed list from i base places → Placed list from n base places
+  placed_end i places e q = subst (λ m. Placed list from m base places) e q

@@ -1,36 +1,39 @@
 -- The view that is put together is that of the job, and cause 7 is what is read through it.
 use mathlib.Core.Bool.{Bool, true, false, cond, ◌||◌}
-use mathlib.Core.List.{List, [], map}
+use mathlib.Core.List.{List, [], ◌∷◌, map}
 use mathlib.Core.Path.{◌≡◌, refl, sym, ap, ap₂, subst, subst₂, ◌∙◌}
-use Prim.Native.Nat.{ℕ, ◌+◌, ◌*◌, ◌-◌, ◌/◌, ◌<◌, ◌≤◌, min}
+use Prim.Native.Nat.{ℕ, zero, suc, ◌+◌, ◌*◌, ◌-◌, ◌/◌, ◌<◌, ◌≤◌, min}
+use native.Mathlib.Numerals.{add-one}
 use native.Mathlib.Omega.{arith}
 use lib.ListN.{length, get_or, take, drop, length-take, length-drop}
 use lib.Seq.{get_or-take, get_or-drop, take_all, drop-drop}
+use Rattle.std.proofs.lemmas.List.Sums.{sum_by-cons}
+use Rattle.std.specs.List as S
 use Rattle.model.specs.Content.{Part, Kind, no_kind, kind_at, kind_count, piece_count}
 use Rattle.model.specs.ContentFit.{BoardFit}
 use Rattle.model.specs.Format.{byte_at, word_at, board_at, got, many, read_kind, vertices, kinds_at, kinds_length, kinds_stated, kind_bytes, kinds_got, content, board_of, by_rising_id, classes_at, classes_stated, cause1, cause2, cause3, cause4, cause5, cause6, cause7, refusal}
 use Rattle.model.specs.Gap.{best_class, kind_gap}
-use Rattle.model.specs.Lists.{any, sum}
+use Rattle.model.specs.Lists.{any, sum, rising, below}
 use Rattle.model.specs.Grid.{rows, columns}
 use Rattle.model.specs.Refusal.{number}
 use Rattle.model.specs.declared.Refusal.{Refusal}
 use Rattle.model.specs.declared.Refusal.TheVariants as R
 use Rattle.model.proofs.Causes.{no_cause, NoCause, none_before, refusal_is, Sections, sections, board-fits, KindsFit, kinds-fit}
-use Rattle.model.proofs.Folds.{any-take-more}
+use Rattle.model.proofs.Folds.{any-more, any-take-more, below_more}
 use Rattle.model.proofs.Readers.{many-length}
 use Rattle.model.proofs.Records.{byte_behind, length-vertices, vertices-same, part-read}
 use Rattle.frame.specs.Board.{BoardIn}
 use Rattle.frame.specs.declared.board.Board.{Board}
 use Rattle.records.specs.Classes.{classes_from, classes_unfit}
-use Rattle.job.specs.Gaps.{cut_or0}
+use Rattle.job.specs.Gaps.{class_cut}
 use Rattle.job.specs.Places.{FoundAt}
 use Rattle.records.specs.Records.{Reads, values_of}
 use Rattle.job.specs.Refusal.{refusal_to6}
 use Rattle.job.specs.Soundness.{bad_part, bad_at, bad_kind}
 use Rattle.job.specs.Table.{Stored, Built}
+use Rattle.job.specs.declared.Kind as J
 use Rattle.job.specs.declared.View.{View}
-use Rattle.job.specs.declared.table.Table.{Table}
-use Rattle.job.specs.View.{PartAt, ViewOf}
+use Rattle.job.specs.View.{blank, part_at_of, PartAt, ViewOf}
 use Rattle.records.specs.Parts.{unfit_from}
 use Rattle.records.proofs.PartLaws.{unfit_same}
 use Rattle.job.proofs.CauseLaws.{classes-are, classes-cause, list_is, list_length}
@@ -80,10 +83,6 @@ pub cause7-is : (s : List ℕ) → cause7 s ≡ any bad_kind (content s).kinds
 unfolding cause7 bad_kind bad_part content
 cause7-is s = refl
 
-pub any_none : {A : Type 0} (p : A → Bool) (xs : List A) → false ≡ any p (take 0 xs)
-unfolding any
-any_none p xs = refl
-
 -- It has few corners, and they lie within the job.
 pub part_room : {s : List ℕ} {o : ℕ} {P : Part} → PartAt s o P → (byte_at s o ≤ 8) × (o + 1 + byte_at s o * 2 ≤ length s)
 part_room p =
@@ -97,29 +96,31 @@ pub bad-at : (s : List ℕ) (o : ℕ) (P : Part) → PartAt s o P → bad_at s o
 unfolding bad_at
 bad-at s o P p = ap bad_part (ap (λ n. vertices n (drop (o + 1) s)) p.stated ∙ p.read)
 
-pub parts_more : (s : List ℕ) (ps : List Part) (o i : ℕ) → i < length ps → PartAt s o (get_or ps i [])
-    → any bad_part (take (i + 1) ps) ≡ (any bad_part (take i ps) || bad_at s o)
-parts_more s ps o i h p = any-take-more bad_part ps [] i h ∙ ap (λ b. any bad_part (take i ps) || b) (sym (bad-at s o _ p))
+-- A test of numbers that tells of each element what p does.
+any-upto : {A : Type 0} (p : A → Bool) (q : ℕ → Bool) (d : A) (xs : List A) (n : ℕ) → n ≤ length xs → ((i : ℕ) → i < n → q i ≡ p (get_or xs i d))
+    → any q (below n) ≡ any p (take n xs)
+unfolding any below rising
+any-upto p q d xs zero h f = refl
+any-upto p q d xs (suc n) h f =
+    ap (λ m. any q (below m)) (sym (add-one n)) ∙ ap (any q) (below_more n) ∙ any-more q (below n) n
+    ∙ ap₂ (λ a b. a || b) (any-upto p q d xs n (omega arith) (λ i l. f i (omega arith))) (f n (omega arith))
+    ∙ sym (any-take-more p xs d n h) ∙ ap (λ m. any p (take m xs)) (add-one n)
 
-pub parts_all : (k : Kind) (i : ℕ) → length k.parts ≤ i → any bad_part (take i k.parts) ≡ bad_kind k
+any-places : {A : Type 0} (p : A → Bool) (q : ℕ → Bool) (d : A) (xs : List A) (n : ℕ) → n ≡ length xs → ((i : ℕ) → i < n → q i ≡ p (get_or xs i d)) → any q (below n) ≡ any p xs
+any-places p q d xs n e f = any-upto p q d xs n (omega arith) f ∙ ap (any p) (take_all n xs (omega arith))
+
+pub parts_judged : (s ats : List ℕ) (k : Kind) (n : ℕ) → n ≡ length k.parts → ((i : ℕ) → i < length k.parts → PartAt s (get_or ats i 0) (get_or k.parts i []))
+    → any (λ i. bad_at s (get_or ats i 0)) (below n) ≡ bad_kind k
 unfolding bad_kind
-parts_all k i h = ap (any bad_part) (take_all i k.parts h)
+parts_judged s ats k n e f =
+    any-places bad_part (λ i. bad_at s (get_or ats i 0)) [] k.parts n e (λ i l. bad-at s (get_or ats i 0) (get_or k.parts i []) (f i (omega arith)))
 
-pub kinds-more : (s : List ℕ) (t : ℕ) → t < kind_count (content s).kinds
-    → any bad_kind (take (t + 1) (content s).kinds) ≡ (any bad_kind (take t (content s).kinds) || bad_kind (kind_at (content s).kinds t))
+pub kinds-judged : (s : List ℕ) (n : ℕ) → n ≡ kind_count (content s).kinds → any (λ t. bad_kind (kind_at (content s).kinds t)) (below n) ≡ cause7 s
 unfolding kind_at kind_count
-kinds-more s t h = any-take-more bad_kind (content s).kinds no_kind t h
-
-pub kinds-all : (s : List ℕ) (t : ℕ) → kind_count (content s).kinds ≤ t → any bad_kind (take t (content s).kinds) ≡ cause7 s
-unfolding kind_count
-kinds-all s t h = ap (any bad_kind) (take_all t (content s).kinds h) ∙ sym (cause7-is s)
+kinds-judged s n e =
+    any-places bad_kind (λ t. bad_kind (kind_at (content s).kinds t)) no_kind (content s).kinds n e (λ t l. refl) ∙ sym (cause7-is s)
 
 -- ---- The view
-
--- The tables in a view.
-abbrev pub table_in : View → Table
-table_in v =
-    record { pieces = v.pieces; demands = v.demands; rotations = v.rotations; gaps = v.gaps; cuts = v.cuts; parts = v.parts; part_at = v.part_at }
 
 pub no_six : (s : List ℕ) → refusal_to6 s ≡ 0 → NoCause s
 unfolding refusal_to6
@@ -129,6 +130,16 @@ no_six s e = none_before s 0 e
 pub six_none : (s : List ℕ) → refusal s ≡ 0 → refusal_to6 s ≡ 0
 unfolding refusal_to6
 six_none s e = let n = no_cause s e in rw (n.no1, n.no2, n.no3, n.no4, n.no5, n.no6)
+
+-- The demands of the kinds in a table are those of these kinds.
+demands-sum : (table : List J.Kind) (ks : List Kind) → length ks ≤ length table → ((t : ℕ) → t < length ks → (get_or table t blank).demand ≡ (get_or ks t no_kind).demand)
+    → S.sum (map (λ e. e.demand) (take (length ks) table)) ≡ sum (map (λ k. k.demand) ks)
+unfolding sum
+demands-sum table [] h f = refl
+demands-sum [] (k ∷ ks) h f = absurd (omega arith)
+demands-sum (e ∷ es) (k ∷ ks) h f =
+    sum_by-cons (λ x. x) e.demand (map (λ e. e.demand) (take (length ks) es))
+    ∙ ap₂ (λ a b. a + b) (f 0 (omega arith)) (demands-sum es ks (omega arith) (λ t q. f (suc t) (omega arith)))
 
 module _ (s : List ℕ) (e : refusal_to6 s ≡ 0) where
   pub inside : Sections s
@@ -162,37 +173,48 @@ module _ (s : List ℕ) (e : refusal_to6 s ≡ 0) where
     unfolding content
     classes-risen o m eo em = rw (eo, em, ← (classes-are s))
 
-    -- What was read and filled makes the view.
-    pub view-is : (o m : ℕ) (v : View) → o ≡ classes_at s → m ≡ classes_stated s
-        → Built (classes_from s o m) (take (base + size - base) (drop base s)) base n (length (take (base + size - base) (drop base s))) (table_in v)
-        → v.width ≡ (board_of s).W → v.length ≡ (board_of s).L → v.step ≡ (board_of s).g
-        → v.rows ≡ v.width / v.step + 1 → v.columns ≡ v.length / v.step + 1 → v.margin ≤ 63 → v.kinds ≡ n → ViewOf s v
-    unfolding content rows columns piece_count kind_at
-    view-is o m v eo em b ew el eg er ec em' ek =
-        let vs : values_of (many read_kind n (take (base + size - base) (drop base s))) ≡ (content s).kinds = values_from _ _ _ got-list in
-        let stored : (t : ℕ) → t < kind_count (content s).kinds → Stored (classes_from s o m) (take (base + size - base) (drop base s)) base (table_in v) t (kind_at (content s).kinds t) =
-        λ t h. subst (λ l. Stored (classes_from s o m) (take (base + size - base) (drop base s)) base (table_in v) t (get_or l t no_kind)) vs (b.stored t (let q = kind-count in omega arith)) in
-        record {
-          width = ew;
-          len = el;
-          step = eg;
-          rows = er ∙ ap₂ (λ a c. a / c + 1) ew eg;
-          columns = ec ∙ ap₂ (λ a c. a / c + 1) el eg;
-          margin = em';
-          kinds = ek ∙ sym kind-count;
-          pieces = b.demanded ∙ ap (λ l. sum (map (λ k. k.demand) l)) vs;
-          kind = λ t h.
-              let st = stored t h in
-              record {
-                demand = st.demand;
-                rotations = st.rotations;
-                gap = st.gap ∙ ap (λ cs. kind_gap cs (kind_at (content s).kinds t)) (classes-risen o m eo em);
-                cut = st.cut ∙ ap (λ cs. cut_or0 (best_class cs (kind_at (content s).kinds t))) (classes-risen o m eo em);
-                parts = st.parts;
-                few_parts = st.few_parts;
-                part = λ i q. part-at s _ _ (subst₂ (λ l c. FoundAt l c (get_or v.part_at (t * 6 + i) 0) (get_or (kind_at (content s).kinds t).parts i [])) (list_is s base size eb es) eb (st.part i q));
-              };
-        }
+    module _ (o m : ℕ) (eo : o ≡ classes_at s) (em : m ≡ classes_stated s) (table : List J.Kind)
+        (b : Built (classes_from s o m) (take (base + size - base) (drop base s)) base n (length (take (base + size - base) (drop base s))) table) where
+      kinds-stored : (t : ℕ) → t < kind_count (content s).kinds
+          → Stored (classes_from s o m) (take (base + size - base) (drop base s)) base (get_or table t blank) (kind_at (content s).kinds t)
+      unfolding kind_at
+      kinds-stored t h =
+          let vs : values_of (many read_kind n (take (base + size - base) (drop base s))) ≡ (content s).kinds = values_from _ _ _ got-list in
+          subst (λ l. Stored (classes_from s o m) (take (base + size - base) (drop base s)) base (get_or table t blank) (get_or l t no_kind)) vs
+          (b.stored t (let q = kind-count in omega arith))
+
+      pub pieces-are : n ≤ length table → S.sum (map (λ e. e.demand) (take n table)) ≡ piece_count (content s).kinds
+      unfolding piece_count kind_count kind_at
+      pieces-are h =
+          ap (λ m. S.sum (map (λ e. e.demand) (take m table))) (sym kind-count)
+          ∙ demands-sum table (content s).kinds (let q = kind-count in omega arith) (λ t h. (kinds-stored t h).demand)
+
+      -- What was read makes the view.
+      pub view-is : (v : View) → table ≡ v.kind → v.pieces ≡ piece_count (content s).kinds → v.width ≡ (board_of s).W → v.length ≡ (board_of s).L → v.step ≡ (board_of s).g
+          → v.rows ≡ v.width / v.step + 1 → v.columns ≡ v.length / v.step + 1 → v.margin ≤ 63 → v.kinds ≡ n → ViewOf s v
+      unfolding content rows columns
+      view-is v et ep ew el eg er ec hm ek =
+          record {
+            width = ew;
+            len = el;
+            step = eg;
+            rows = er ∙ ap₂ (λ a c. a / c + 1) ew eg;
+            columns = ec ∙ ap₂ (λ a c. a / c + 1) el eg;
+            margin = hm;
+            kinds = ek ∙ sym kind-count;
+            pieces = ep;
+            kind = λ t h.
+                let st = subst (λ l. Stored (classes_from s o m) (take (base + size - base) (drop base s)) base (get_or l t blank) (kind_at (content s).kinds t)) et (kinds-stored t h) in
+                record {
+                  demand = st.demand;
+                  rotations = st.rotations;
+                  gap = st.gap ∙ ap (λ cs. kind_gap cs (kind_at (content s).kinds t)) (classes-risen o m eo em);
+                  cut = st.cut ∙ ap (λ cs. class_cut (best_class cs (kind_at (content s).kinds t))) (classes-risen o m eo em);
+                  parts = st.parts;
+                  few_parts = st.few_parts;
+                  part = λ i q. part-at s _ _ (subst₂ (λ l c. FoundAt l c (part_at_of v t i) (get_or (kind_at (content s).kinds t).parts i [])) (list_is s base size eb es) eb (st.part i q));
+                };
+          }
 
 -- The board that was read is that of the job.
 pub board-read : (s : List ℕ) (o : ℕ) (b : Board) → o ≡ board_at s → BoardIn s o b

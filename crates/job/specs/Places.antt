@@ -1,5 +1,5 @@
 -- Where the parts of a type record begin.
-use Rattle.std.specs.Prelude.{List, [], ◌≡◌, ℕ, ◌+◌, ◌<◌, length, get_or, drop}
+use Rattle.std.specs.Prelude.{List, [], ◌≡◌, ℕ, ◌+◌, ◌<◌, get_or, drop}
 use Rattle.model.specs.Content.{Part}
 use Rattle.model.specs.Format.{got, many, read_part}
 use Rattle.records.specs.Records.{size_of, values_of}
@@ -10,8 +10,6 @@ pub record FoundAt (s : List ℕ) (base o : ℕ) (P : Part) : Type 0 where
   pub place : o ≡ base + behind
   pub reads : read_part (drop behind s) ≡ got P (size_of (read_part (drop behind s)))
 
--- The places of the n parts from byte `from` of the list on stand in a table from entry `first` on; the entries before are as they were.
-pub record Placed (list : List ℕ) (from n base first : ℕ) (before table : List ℕ) : Type 0 where
-  pub found : (i : ℕ) → i < n → FoundAt list base (get_or table (first + i) 0) (get_or (values_of (many read_part n (drop from list))) i [])
-  pub size : length table ≡ length before
-  pub kept : (j : ℕ) → j < first → get_or table j 0 ≡ get_or before j 0
+-- These are the places of the n parts from byte `from` of the list on.
+pub record Placed (list : List ℕ) (from n base : ℕ) (places : List ℕ) : Type 0 where
+  pub found : (i : ℕ) → i < n → FoundAt list base (get_or places i 0) (get_or (values_of (many read_part n (drop from list))) i [])

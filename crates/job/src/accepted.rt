@@ -19,7 +19,7 @@ pub fn view_of(job: &[u8]) -> View
     let b = board::read_board(job, t.board);
     let base = t.kinds;
     let end = base + t.kinds_length;
-    let table = table::read_kinds(
+    let kind = table::read_kinds(
         job,
         t.classes,
         t.class_count,
@@ -27,12 +27,6 @@ pub fn view_of(job: &[u8]) -> View
         base,
         t.kind_count,
     );
-    let demands = table.demands;
-    let rotations = table.rotations;
-    let gaps = table.gaps;
-    let cuts = table.cuts;
-    let parts = table.parts;
-    let part_at = table.part_at;
     View {
         width: b.width,
         length: b.length,
@@ -41,13 +35,8 @@ pub fn view_of(job: &[u8]) -> View
         columns: board::multiples(b.length, b.step),
         margin: 0,
         kinds: t.kind_count,
-        pieces: table.pieces,
-        demands,
-        rotations,
-        gaps,
-        cuts,
-        parts,
-        part_at,
+        pieces: kind[..t.kind_count].iter().map(|kind| kind.demand).sum(),
+        kind,
     }
 }
 
@@ -65,14 +54,8 @@ fn kind_refused(job: &[u8], view: View, t: usize) -> bool
     requires { (ViewOf job.now view × (kind_count (content job.now).kinds ≤ 8)) × (t < kind_count (content job.now).kinds) }
     ensures { result ≡ bad_kind (kind_at (content job.now).kinds t) }
 {
-    let n = view.parts[t];
-    let mut refused = false;
-    let mut i = 0;
-    while i < n {
-        refused = refused | part_refused(job, view.part_at[t * 6 + i]);
-        i += 1;
-    }
-    refused
+    let kind = view.kind[t];
+    (0..kind.parts).any(|i| part_refused(job, kind.part_at[i]))
 }
 
 // Cause 7: some part of some kind is refused.
@@ -80,12 +63,5 @@ pub fn unsound(job: &[u8], view: View) -> bool
     requires { ViewOf job.now view × (kind_count (content job.now).kinds ≤ 8) }
     ensures { result ≡ cause7 job.now }
 {
-    let n = view.kinds;
-    let mut refused = false;
-    let mut t = 0;
-    while t < n {
-        refused = refused | kind_refused(job, view, t);
-        t += 1;
-    }
-    refused
+    (0..view.kinds).any(|t| kind_refused(job, view, t))
 }

@@ -15,9 +15,19 @@ mod gaps;
 mod places;
 mod table;
 
-// What the layers above use of an accepted job under a margin: numbers, and where each part's bytes begin. Of each array the first
-// `kinds` entries count; of `part_at` the entries t * 6 + i for part i of kind t. Entry t of `cuts` tells the best-ranked class of kind t, by its id
-// plus 1, if it is marked as common cut, and is 0 otherwise.
+// What the layers above use of a kind: how many pieces of it are demanded, the turns that it may have, its gap, the id of its best-ranked class if that
+// is marked as common cut, how many parts it has, and where the bytes of each begin.
+#[derive(Clone, Copy)]
+pub struct Kind {
+    pub demand: usize,
+    pub rotations: usize,
+    pub gap: usize,
+    pub cut: Option<usize>,
+    pub parts: usize,
+    pub part_at: [usize; 6],
+}
+
+// What they use of an accepted job under a margin. The first `kinds` entries of `kind` count.
 #[derive(Clone, Copy)]
 pub struct View {
     pub width: usize,
@@ -28,12 +38,7 @@ pub struct View {
     pub margin: usize,
     pub kinds: usize,
     pub pieces: usize,
-    pub demands: [usize; 8],
-    pub rotations: [usize; 8],
-    pub gaps: [usize; 8],
-    pub cuts: [usize; 8],
-    pub parts: [usize; 8],
-    pub part_at: [usize; 48],
+    pub kind: [Kind; 8],
 }
 
 // Reads a job, at margin 0. Type records are judged whole, cause 6, before any part's soundness, cause 7.

@@ -1,23 +1,12 @@
-// What the type records of an accepted job say, in tables of one entry a type.
+// What the type records of an accepted job say, a record for each kind.
 ghost use Rattle.std.specs.Prelude.{false, ◌≡◌, ◌+◌, ◌*◌, ◌≤◌, ◌<◌, length};
 ghost use Rattle.model.specs.Format.{many, read_kind};
 ghost use Rattle.records.specs.Classes.{classes_from, classes_unfit};
 ghost use Rattle.records.specs.Records.{Reads};
 ghost use Rattle.job.specs.Table.{HeadIn, Built};
 
-use crate::{gaps, places};
+use crate::{Kind, gaps, places};
 use frame::fields;
-
-#[derive(Clone, Copy)]
-pub struct Table {
-    pub pieces: usize,
-    pub demands: [usize; 8],
-    pub rotations: [usize; 8],
-    pub gaps: [usize; 8],
-    pub cuts: [usize; 8],
-    pub parts: [usize; 8],
-    pub part_at: [usize; 48],
-}
 
 // The four fields in front of a type's parts.
 #[derive(Clone, Copy)]
@@ -40,34 +29,42 @@ fn read_head(list: &[u8], here: usize) -> Head
     }
 }
 
-// The tables of the type records in `list`, a piece of the job that begins at byte `base`; n classes stand from byte `at` on.
-pub fn read_kinds(job: &[u8], at: usize, n: usize, list: &[u8], base: usize, kinds: usize) -> Table
+// The kinds of the type records in `list`, a piece of the job that begins at byte `base`; n classes stand from byte `at` on. A type in no class has the
+// largest gap of the class list.
+pub fn read_kinds(
+    job: &[u8],
+    at: usize,
+    n: usize,
+    list: &[u8],
+    base: usize,
+    kinds: usize,
+) -> [Kind; 8]
     requires { ((n < 256) × (at + n * 3 ≤ length job.now) × (kinds ≤ 8) × (base + length list.now ≤ 65536)) × (Reads (many read_kind kinds list.now) (length list.now) × (classes_unfit job.now at n ≡ false)) }
     ensures { Built (classes_from job.now at n) list.now base kinds (length list.now) result }
 {
-    let mut table = Table {
-        pieces: 0,
-        demands: [0usize; 8],
-        rotations: [0usize; 8],
-        gaps: [0usize; 8],
-        cuts: [0usize; 8],
-        parts: [0usize; 8],
-        part_at: [0usize; 48],
-    };
+    let mut table = [Kind {
+        demand: 0,
+        rotations: 0,
+        gap: 0,
+        cut: None,
+        parts: 0,
+        part_at: [0; 6],
+    }; 8];
     let default = gaps::largest_gap(job, at, n);
     let mut here = 0;
-    let mut t = 0;
-    while t < kinds {
+    for t in 0..kinds {
         let head = read_head(list, here);
-        table.demands[t] = head.demand;
-        table.rotations[t] = head.rotations;
-        let best = gaps::best_class(job, at, n, default, head.classes);
-        table.gaps[t] = best.gap;
-        table.cuts[t] = best.cut;
-        table.parts[t] = head.parts;
-        table.pieces += head.demand;
-        here = places::place_parts(list, here + 4, head.parts, base, t * 6, &mut table.part_at);
-        t += 1;
+        let best = gaps::best_class(job, at, n, head.classes);
+        let (part_at, end) = places::place_parts(list, here + 4, head.parts, base);
+        table[t] = Kind {
+            demand: head.demand,
+            rotations: head.rotations,
+            gap: best.map_or(default, |class| class.gap),
+            cut: best.and_then(|class| class.cut),
+            parts: head.parts,
+            part_at,
+        };
+        here = end;
     }
     table
 }

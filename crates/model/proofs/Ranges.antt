@@ -14,12 +14,12 @@ use Rattle.std.proofs.lemmas.Iterator.{YieldsList}
 use Rattle.std.proofs.lemmas.Iterator.Search.{all_from_yields_List, any_from_yields_List}
 use Rattle.model.specs.Lists.{all, any, rising, below}
 
-list_all-all : {A : Type 0} (p : A → Bool) (xs : List A) → list_all p xs ≡ all p xs
+pub list_all-all : {A : Type 0} (p : A → Bool) (xs : List A) → list_all p xs ≡ all p xs
 unfolding all
 list_all-all p [] = refl
 list_all-all p (x ∷ xs) = ap (λ b. p x && b) (list_all-all p xs)
 
-list_any-any : {A : Type 0} (p : A → Bool) (xs : List A) → list_any p xs ≡ any p xs
+pub list_any-any : {A : Type 0} (p : A → Bool) (xs : List A) → list_any p xs ≡ any p xs
 unfolding any
 list_any-any p [] = refl
 list_any-any p (x ∷ xs) = ap (λ b. p x || b) (list_any-any p xs)
@@ -29,7 +29,7 @@ unfolding rising
 numbers_rising i zero = refl
 numbers_rising i (suc k) = ap (λ (ns : List ℕ). i ∷ ns) (ap (λ j. range_with_len j k) (omega arith) ∙ numbers_rising (suc i) k)
 
-numbers_below : (n : ℕ) → range_with_len 0 n ≡ below n
+pub numbers_below : (n : ℕ) → range_with_len 0 n ≡ below n
 unfolding below
 numbers_below n = numbers_rising 0 n
 

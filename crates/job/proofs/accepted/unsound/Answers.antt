@@ -1,22 +1,14 @@
-use mathlib.Core.Bool.{◌||◌}
-use mathlib.Core.Path.{sym, ap₂, ◌∙◌}
+use Rattle.std.proofs.Common.{rules, refl, ◌∙◌}
 use native.Mathlib.Omega.{arith}
+use Rattle.std.proofs.lemmas.Iterator.{YieldsList-from_range}
+use Rattle.model.specs.Content.{kind_at}
 use Rattle.model.specs.Format.{content}
+use Rattle.model.proofs.Ranges.{any_below}
 use Rattle.job.specs.Soundness.{bad_kind}
-use Rattle.job.proofs.ViewLaws.{any_none, kinds-more, kinds-all}
+use Rattle.job.proofs.ViewLaws.{kinds-judged}
 use Rattle.job.proofs.accepted.unsound.Goals as goal
 
-pub loop-t-init : goal.loop-t-init
-loop-t-init c = (let e = c.requires.0.kinds in omega arith, any_none bad_kind (content c.args.job.now).kinds)
-
-pub kind_refused-refused-requires : goal.kind_refused-refused-requires
-kind_refused-refused-requires c = ((c.requires.0, c.requires.1), omega arith)
-
-pub overflow_add-t : goal.overflow_add-t
-overflow_add-t c = omega (arith, c.requires.1)
-
-pub loop-t-preserved : goal.loop-t-preserved
-loop-t-preserved c = (omega arith, ap₂ ◌||◌ c.loop-t.invariant.1 c.kind_refused-refused.ensures ∙ sym (kinds-more c.args.job.now c.loop-t.t (omega arith)))
-
 pub returns : goal.returns
-returns c = c.loop-t.invariant.1 ∙ kinds-all c.args.job.now c.loop-t.t (omega arith)
+returns c =
+    any_below (λ t. bad_kind (kind_at (content c.args.job.now).kinds t)) c.args.view.kinds _ _ c.any.ensures.ran (YieldsList-from_range 0 _ _ refl (omega arith)) (λ x b q k. search rules)
+    ∙ kinds-judged c.args.job.now _ c.requires.0.kinds

@@ -1,21 +1,19 @@
-use mathlib.Core.Path.{◌≡◌, ap, ◌∙◌}
-use Prim.Native.Nat.{max}
+use Rattle.std.proofs.Common.{rules, sym, ap, ◌∙◌, ◌+◌, ◌*◌}
 use native.Mathlib.Omega.{arith}
-use Rattle.model.specs.Format.{gap_meant}
-use Rattle.model.specs.Gap.{largest_gap}
-use Rattle.records.specs.Classes.{classes_from}
-use Rattle.job.proofs.GapLaws.{largest-none, largest-next}
+use Rattle.std.specs.Option.{unwrap_or}
+use Rattle.std.proofs.lemmas.Iterator.{YieldsList-from_range, YieldsList-from_map}
+use Rattle.std.proofs.lemmas.Iterator.Adapters.{option_map_id}
+use Rattle.std.proofs.lemmas.Iterator.Consumers.{max_from_yields_List}
+use Rattle.model.specs.Format.{byte_at, gap_meant}
+use Rattle.job.proofs.GapLaws.{largest_along}
 use Rattle.job.proofs.gaps.largest_gap.Goals as goal
-
-pub loop-i-init : goal.loop-i-init
-loop-i-init c = (omega arith, largest-none _ _)
-
-pub loop-i-preserved : goal.loop-i-preserved
-loop-i-preserved c =
-    let gap = c.gap_meant-gap.ensures ∙ ap gap_meant c.byte.ensures.0 in
-    (omega arith, largest-next c.args.job.now c.args.at c.loop-i.i c.loop-i.largest _ c.loop-i.invariant.1 (c.larger-largest.ensures ∙ ap (max c.loop-i.largest) gap))
 
 pub returns : goal.returns
 returns c =
-    let e : c.loop-i.i ≡ c.args.n = omega arith in
-    c.loop-i.invariant.1 ∙ ap (λ i. largest_gap (classes_from c.args.job.now c.args.at i)) e
+    c.unwrap_or.ensures
+    ∙ ap (λ o. unwrap_or o 0)
+    (sym (option_map_id c.max.result)
+    ∙ max_from_yields_List _ _ c.max.ensures.ran
+    (YieldsList-from_map _ (λ i. gap_meant (byte_at c.args.job.now (c.args.at + i * 3 + 2))) (YieldsList-from_range 0 _ c.args.n c.map.ensures.source (omega arith))
+    c.map.ensures.closure (λ x r q k. search rules)))
+    ∙ largest_along c.args.job.now c.args.at c.args.n

@@ -5,7 +5,7 @@ use Rattle.job.proofs.GapLaws.{offered-yes, offered-unnamed, offered-absent}
 use Rattle.job.proofs.gaps.offer_id.Goals as goal
 
 pub class_at-requires : goal.class_at-requires
-class_at-requires c = let f = some-found _ _ _ _ c.find.ensures c.in-Some.is in (omega arith, omega arith)
+class_at-requires c = let f = some-found _ _ _ _ c.find.ensures c.in-Some.is in omega arith
 
 pub returns-in-Some : goal.returns-in-Some
 returns-in-Some c =
