@@ -2,56 +2,44 @@
 ghost use Rattle.std.specs.Prelude.{true, ◌≡◌};
 ghost use Rattle.model.specs.Candidate.{is_candidate};
 ghost use Rattle.model.specs.Layout.{entry_of, conflict};
-ghost use Rattle.shapes.specs.Turned.{TurnedOf};
 ghost use Rattle.candidates.specs.Conflicts.{placed_of};
-ghost use Rattle.plans.specs.Planned.{PlanOf, planned};
+ghost use Rattle.live_sets.specs.Known.{problem, Standing};
 ghost use Rattle.live_sets.specs.Narrowing.{stays};
 
+use crate::placing::{Fixed, Latest};
 use candidates::conflicts::{Placed, conflict_between, placed_of};
 use plans::lookup;
-use plans::plan::Plan;
 
-// Whether candidate n of kind t, at the first place, is in conflict with candidate m of kind u, at the second.
-fn in_conflict(
-    job: &[u8],
-    plan: Plan,
-    turned: &[i16],
-    t: usize,
-    n: usize,
-    from: Placed,
-    u: usize,
-    m: usize,
-    place: Placed,
-) -> bool
-    requires plan_of { PlanOf job.now plan × TurnedOf job.now turned.now }
-    requires are_candidates { (is_candidate (planned job.now plan) t n ≡ true) × (is_candidate (planned job.now plan) u m ≡ true) }
-    requires places { (from ≡ placed_of plan.rows n) × (place ≡ placed_of plan.rows m) }
-    ensures { result ≡ conflict (planned job.now plan) (entry_of (planned job.now plan) t n) (entry_of (planned job.now plan) u m) }
+// Whether the latest piece is in conflict with candidate m of kind u, at the place.
+fn in_conflict(fixed: &Fixed, latest: &Latest, u: usize, m: usize, place: Placed) -> bool
+    requires known { Standing fixed.now latest.now }
+    requires are_candidates { (is_candidate (problem fixed.now) latest.now.kind latest.now.number ≡ true) × (is_candidate (problem fixed.now) u m ≡ true) }
+    requires stands { place ≡ placed_of fixed.now.plan.rows m }
+    ensures { result ≡ conflict (problem fixed.now) (entry_of (problem fixed.now) latest.now.kind latest.now.number) (entry_of (problem fixed.now) u m) }
 {
-    let first = lookup::piece_in(job, plan, t);
-    let second = lookup::piece_in(job, plan, u);
-    let gap = lookup::pair_gap(job, plan, t, u);
-    conflict_between(turned, plan.step, first, from, second, place, gap)
+    let first = lookup::piece_in(fixed.job, fixed.plan, latest.kind);
+    let second = lookup::piece_in(fixed.job, fixed.plan, u);
+    let gap = lookup::pair_gap(fixed.job, fixed.plan, latest.kind, u);
+    conflict_between(
+        fixed.turned,
+        fixed.plan.step,
+        first,
+        latest.place,
+        second,
+        place,
+        gap,
+    )
 }
 
-// Candidate m of kind u stays once candidate n of kind t is placed, where `from` says. The cheap test comes first.
-pub fn still_live(
-    job: &[u8],
-    plan: Plan,
-    turned: &[i16],
-    t: usize,
-    n: usize,
-    from: Placed,
-    u: usize,
-    m: usize,
-) -> bool
-    requires plan_of { (PlanOf job.now plan × TurnedOf job.now turned.now) × (from ≡ placed_of plan.rows n) }
-    requires are_candidates { (is_candidate (planned job.now plan) t n ≡ true) × (is_candidate (planned job.now plan) u m ≡ true) }
-    ensures { result ≡ stays (planned job.now plan) t n u m }
+// Candidate m of kind u stays once the latest piece is placed. The cheap test comes first.
+pub fn still_live(fixed: &Fixed, latest: &Latest, u: usize, m: usize) -> bool
+    requires known { Standing fixed.now latest.now }
+    requires are_candidates { (is_candidate (problem fixed.now) latest.now.kind latest.now.number ≡ true) × (is_candidate (problem fixed.now) u m ≡ true) }
+    ensures { result ≡ stays (problem fixed.now) latest.now.kind latest.now.number u m }
 {
-    if (t == u) & (m <= n) {
+    if (latest.kind == u) & (m <= latest.number) {
         return false;
     }
-    let place = placed_of(plan.rows, m);
-    !in_conflict(job, plan, turned, t, n, from, u, m, place)
+    let place = placed_of(fixed.plan.rows, m);
+    !in_conflict(fixed, latest, u, m, place)
 }

@@ -3,3 +3,4 @@
 
 mod board;
 pub mod narrowing;
+pub mod placing;

@@ -6,166 +6,112 @@ ghost use Rattle.model.specs.Candidate.{is_candidate};
 ghost use Rattle.model.specs.Format.{content};
 ghost use Rattle.model.specs.Grid.{set_words};
 ghost use Rattle.model.specs.Problem.{under};
-ghost use Rattle.shapes.specs.Turned.{TurnedOf};
-ghost use Rattle.candidates.specs.Conflicts.{placed_of};
-ghost use Rattle.plans.specs.Planned.{PlanOf, planned};
-ghost use Rattle.live_sets.specs.Known.{Known};
+ghost use Rattle.live_sets.specs.Known.{problem, Standing};
 ghost use Rattle.live_sets.specs.Narrowing.{stays, BitsAdmitted, Filled, Narrowable};
 ghost use Rattle.live_sets.specs.Reach.{Rowed, Laid, Near};
 
 use crate::board;
-use candidates::conflicts::Placed;
+use crate::placing::{Fixed, Latest};
 use nofit::places::{Nofit, above_start, below_start, holds};
-use plans::plan::Plan;
 use words::strings::bits_at;
 use words::{bits, numbers};
 
 // The bits of a word whose candidates stay, by the corners of the pieces. Only the bits that are set are looked at.
-fn sift_word(
-    job: &[u8],
-    plan: Plan,
-    turned: &[i16],
-    t: usize,
-    n: usize,
-    place: Placed,
-    u: usize,
-    first: usize,
-    w: u64,
-) -> u64
-    requires plan_of { (PlanOf job.now plan × TurnedOf job.now turned.now) × (place ≡ placed_of plan.rows n) }
-    requires candidate { (is_candidate (planned job.now plan) t n ≡ true) × (first < 65536) }
-    requires bits_admitted { BitsAdmitted (planned job.now plan) u first w }
-    ensures { (i : ℕ) → test_bit result i ≡ (test_bit w i && stays (planned job.now plan) t n u (first + i)) }
+fn sift_word(fixed: &Fixed, latest: &Latest, u: usize, first: usize, w: u64) -> u64
+    requires known { Standing fixed.now latest.now }
+    requires candidate { (is_candidate (problem fixed.now) latest.now.kind latest.now.number ≡ true) × (first < 65536) }
+    requires bits_admitted { BitsAdmitted (problem fixed.now) u first w }
+    ensures { (i : ℕ) → test_bit result i ≡ (test_bit w i && stays (problem fixed.now) latest.now.kind latest.now.number u (first + i)) }
 {
-    let mut left = w;
-    let mut kept = w;
-    while left != 0 {
-        let b = bits::lowest_bit(left);
-        let stay = board::still_live(job, plan, turned, t, n, place, u, first + b);
-        kept = bits::assign_bit(kept, b as u64, stay);
-        left = bits::clear_bit(left, b as u64);
-    }
-    kept
+    bits::keep(w, |i| board::still_live(fixed, latest, u, first + i))
 }
 
 // Of the 64 numbers from `first` on, those that stand in this row or above it: such a number has the same column as the number that is so many rows less.
-fn rows_from(nofit: Nofit, strings: &[u8], row: usize, first: usize) -> u64
-    requires { Rowed nofit strings.now row first }
-    ensures { (i : ℕ) → i < 64 → test_bit result i ≡ leb row ((first + i) / 4 % nofit.rows) }
+fn rows_from(nofit: &Nofit, strings: &[u8], row: usize, first: usize) -> u64
+    requires { Rowed nofit.now strings.now row first }
+    ensures { (i : ℕ) → i < 64 → test_bit result i ≡ leb row ((first + i) / 4 % nofit.now.rows) }
 {
     let at = first + nofit.rows * 4;
     !(bits_at(strings, at) ^ bits_at(strings, at - row * 4))
 }
 
-// Of the 64 numbers from `first` on, those of candidates that go once candidate n of kind t is placed, by the strings of both kinds: one
+// Of the 64 numbers from `first` on, those of candidates that go once the latest piece is placed, by the strings of both kinds: one
 // string for the rows from the placed one's on, and one for the rows under it.
 // Strings do not know the margin: what is promised speaks of the candidates at margin 0, which every candidate is.
-fn blocked_word(
-    job: &[u8],
-    nofit: Nofit,
-    strings: &[u8],
-    t: usize,
-    n: usize,
-    place: Placed,
-    u: usize,
-    first: usize,
-) -> u64
-    requires { Laid job.now nofit strings.now t n place u first × Near nofit place.column first }
-    ensures { (i : ℕ) → i < 64 → is_candidate (under 0 (content job.now)) u (first + i) ≡ true → test_bit result i ≡ not (stays (under 0 (content job.now)) t n u (first + i)) }
+fn blocked_word(fixed: &Fixed, latest: &Latest, u: usize, first: usize) -> u64
+    requires { Laid fixed.now.job.now fixed.now.nofit fixed.now.strings.now latest.now.kind latest.now.number latest.now.place u first × Near fixed.now.nofit latest.now.place.column first }
+    ensures { (i : ℕ) → i < 64 → is_candidate (under 0 (content fixed.now.job.now)) u (first + i) ≡ true → test_bit result i ≡ not (stays (under 0 (content fixed.now.job.now)) latest.now.kind latest.now.number u (first + i)) }
 {
+    let nofit = fixed.nofit;
+    let strings = fixed.strings;
+    let place = latest.place;
     let at = first + 64 + nofit.reach * nofit.rows * 4
         - (place.column * nofit.rows + place.row) * 4;
-    let above = bits_at(strings, above_start(nofit, t, place.rotation, u) + at);
+    let above = bits_at(
+        strings,
+        above_start(nofit, latest.kind, place.rotation, u) + at,
+    );
     let below = bits_at(
         strings,
-        below_start(nofit, t, place.rotation, u) + at + nofit.rows * 4,
+        below_start(nofit, latest.kind, place.rotation, u) + at + nofit.rows * 4,
     );
-    let here = rows_from(nofit, strings, place.row, first);
+    let here = rows_from(&nofit, strings, place.row, first);
     (above & here) | (below & !here)
 }
 
 // The bits of a word whose candidates stay, by the strings of both kinds. Out of reach of the placed piece nothing is in conflict with it.
-fn strain_word(
-    job: &[u8],
-    nofit: Nofit,
-    strings: &[u8],
-    t: usize,
-    n: usize,
-    place: Placed,
-    u: usize,
-    first: usize,
-    w: u64,
-) -> u64
-    requires { Laid job.now nofit strings.now t n place u first × BitsAdmitted (under 0 (content job.now)) u first w }
-    ensures { (i : ℕ) → test_bit result i ≡ (test_bit w i && stays (under 0 (content job.now)) t n u (first + i)) }
+fn strain_word(fixed: &Fixed, latest: &Latest, u: usize, first: usize, w: u64) -> u64
+    requires { Laid fixed.now.job.now fixed.now.nofit fixed.now.strings.now latest.now.kind latest.now.number latest.now.place u first × BitsAdmitted (under 0 (content fixed.now.job.now)) u first w }
+    ensures { (i : ℕ) → test_bit result i ≡ (test_bit w i && stays (under 0 (content fixed.now.job.now)) latest.now.kind latest.now.number u (first + i)) }
 {
-    let span = nofit.reach * nofit.rows * 4;
-    let middle = place.column * nofit.rows * 4;
+    let rows = fixed.nofit.rows;
+    let span = fixed.nofit.reach * rows * 4;
+    let middle = latest.place.column * rows * 4;
     if middle + span <= first {
         return w;
     }
-    if first + 64 + span <= middle + nofit.rows * 4 {
-        if t == u {
+    if first + 64 + span <= middle + rows * 4 {
+        if latest.kind == u {
             return 0;
         }
         return w;
     }
-    w & !blocked_word(job, nofit, strings, t, n, place, u, first)
+    w & !blocked_word(fixed, latest, u, first)
 }
 
 // The bits of a word whose candidates stay.
-fn narrow_word(
-    job: &[u8],
-    plan: Plan,
-    nofit: Nofit,
-    turned: &[i16],
-    strings: &[u8],
-    t: usize,
-    n: usize,
-    place: Placed,
-    u: usize,
-    first: usize,
-    w: u64,
-) -> u64
-    requires known { Known job.now plan nofit turned.now strings.now × (place ≡ placed_of plan.rows n) }
-    requires candidate { (is_candidate (planned job.now plan) t n ≡ true) × (first + 64 ≤ set_words (content job.now).sheet * 64) }
-    requires bits_admitted { BitsAdmitted (planned job.now plan) u first w }
-    ensures { (i : ℕ) → test_bit result i ≡ (test_bit w i && stays (planned job.now plan) t n u (first + i)) }
+fn narrow_word(fixed: &Fixed, latest: &Latest, u: usize, first: usize, w: u64) -> u64
+    requires known { Standing fixed.now latest.now }
+    requires candidate { (is_candidate (problem fixed.now) latest.now.kind latest.now.number ≡ true) × (first + 64 ≤ set_words (content fixed.now.job.now).sheet * 64) }
+    requires bits_admitted { BitsAdmitted (problem fixed.now) u first w }
+    ensures { (i : ℕ) → test_bit result i ≡ (test_bit w i && stays (problem fixed.now) latest.now.kind latest.now.number u (first + i)) }
 {
     if w == 0 {
         return 0;
     }
-    if (t <= u) & holds(nofit, t, place.rotation, u) {
-        return strain_word(job, nofit, strings, t, n, place, u, first, w);
+    if (latest.kind <= u) & holds(fixed.nofit, latest.kind, latest.place.rotation, u) {
+        return strain_word(fixed, latest, u, first, w);
     }
-    sift_word(job, plan, turned, t, n, place, u, first, w)
+    sift_word(fixed, latest, u, first, w)
 }
 
-// The set at word `to`: the members of the set at word `from` that stay once candidate n of kind t is placed, where `place` says.
+// The set at word `to`: the members of the set at word `from` that stay once the latest piece is placed.
 pub fn narrow(
-    job: &[u8],
-    plan: Plan,
-    nofit: Nofit,
-    turned: &[i16],
-    strings: &[u8],
-    t: usize,
-    n: usize,
-    place: Placed,
+    fixed: &Fixed,
+    latest: &Latest,
     u: usize,
     work: &mut [u8],
     from: usize,
     to: usize,
     words: usize,
 )
-    requires known { Known job.now plan nofit turned.now strings.now × (place ≡ placed_of plan.rows n) }
-    requires narrowable { Narrowable (planned job.now plan) t n u from to words work.old }
-    ensures { Filled to words (λ m. member work.old (from * 64 + m) && stays (planned job.now plan) t n u m) work.old work.new }
+    requires known { Standing fixed.now latest.now }
+    requires narrowable { Narrowable (problem fixed.now) latest.now.kind latest.now.number u from to words work.old }
+    ensures { Filled to words (λ m. member work.old (from * 64 + m) && stays (problem fixed.now) latest.now.kind latest.now.number u m) work.old work.new }
 {
-    let mut k = 0;
-    while k < words {
+    for k in 0..words {
         let w = numbers::get_u64(work, (from + k) * 8);
-        let kept = narrow_word(job, plan, nofit, turned, strings, t, n, place, u, k * 64, w);
+        let kept = narrow_word(fixed, latest, u, k * 64, w);
         numbers::put_u64(work, (to + k) * 8, kept);
-        k += 1;
     }
 }

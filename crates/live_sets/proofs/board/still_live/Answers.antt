@@ -2,25 +2,25 @@
 use mathlib.Core.Bool.{not}
 use mathlib.Core.Path.{ap, ◌∙◌}
 use Rattle.plans.proofs.PlanLaws.{some-row}
-use Rattle.plans.specs.Planned.{planned}
+use Rattle.live_sets.specs.Known.{problem}
 use Rattle.live_sets.proofs.Meeting.{stays-not_above, stays-conflict}
 use Rattle.live_sets.proofs.board.still_live.Goals as goal
 
-pub returns-then-t-u : goal.returns-then-t-u
-returns-then-t-u c = stays-not_above (planned c.args.job.now c.args.plan) c.args.t c.args.n c.args.u c.args.m
-    c.if-t-u.true
+pub returns-then-latest-u : goal.returns-then-latest-u
+returns-then-latest-u c = stays-not_above (problem c.args.fixed.now) c.args.latest.now.kind c.args.latest.now.number c.args.u c.args.m
+    c.if-latest-u.true
 
 pub placed_of-place-requires : goal.placed_of-place-requires
-placed_of-place-requires c = some-row c.args.job.now c.args.plan c.requires.plan_of.0.0
+placed_of-place-requires c = some-row c.args.fixed.now.job.now c.args.fixed.now.plan c.requires.known.0.plan
 
 pub in_conflict-requires : goal.in_conflict-requires
 in_conflict-requires c = record {
-  plan_of = c.requires.plan_of.0;
+  known = c.requires.known;
   are_candidates = c.requires.are_candidates;
-  places = (c.requires.plan_of.1, c.placed_of-place.ensures);
+  stands = c.placed_of-place.ensures;
 }
 
 pub returns : goal.returns
 returns c =
     ap not c.in_conflict.ensures
-    ∙ stays-conflict (planned c.args.job.now c.args.plan) c.args.t c.args.n c.args.u c.args.m c.if-t-u.false
+    ∙ stays-conflict (problem c.args.fixed.now) c.args.latest.now.kind c.args.latest.now.number c.args.u c.args.m c.if-latest-u.false

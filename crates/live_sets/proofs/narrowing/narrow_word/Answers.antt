@@ -25,27 +25,27 @@ pub strain_word-requires : goal.strain_word-requires
 strain_word-requires c = (
   known_laid _ _ _ _ _ c.requires.known.0 _ _ _ c.requires.known.1 c.requires.candidate.0 c.args.u c.args.first
       (word_kind _ c.args.u c.args.first c.args.w c.ranges.w.fits c.if-w-eq0.false c.requires.bits_admitted)
-      c.requires.candidate.1 (sym (ap (λ (b : Bool). leb c.args.t c.args.u && b) c.holds.ensures) ∙ c.if-t-u.true),
-  λ i e. candidate-less 0 c.args.plan.margin (omega arith) (content c.args.job.now) c.args.u (c.args.first + i)
+      c.requires.candidate.1 (sym (ap (λ (b : Bool). leb c.args.latest.now.kind c.args.u && b) c.holds.ensures) ∙ c.if-latest-u.true),
+  λ i e. candidate-less 0 c.args.fixed.now.plan.margin (omega arith) (content c.args.fixed.now.job.now) c.args.u (c.args.first + i)
       (c.requires.bits_admitted i e),
 )
 
 -- which candidates stay does not turn on the margin
-pub returns-then-t-u : goal.returns-then-t-u
-returns-then-t-u c i =
+pub returns-then-latest-u : goal.returns-then-latest-u
+returns-then-latest-u c i =
     c.strain_word.ensures i
-    ∙ ap (λ (b : Bool). test_bit c.args.w i && b) (stays-any-margin 0 c.args.plan.margin (content c.args.job.now)
-    c.args.t c.args.n c.args.u (c.args.first + i))
+    ∙ ap (λ (b : Bool). test_bit c.args.w i && b) (stays-any-margin 0 c.args.fixed.now.plan.margin (content c.args.fixed.now.job.now)
+    c.args.latest.now.kind c.args.latest.now.number c.args.u (c.args.first + i))
 
 pub sift_word-requires : goal.sift_word-requires
 sift_word-requires c = record {
-  plan_of = ((c.requires.known.0.plan, c.requires.known.0.table), c.requires.known.1);
+  known = c.requires.known;
   candidate = (
     c.requires.candidate.0,
     omega (
       arith,
       c.requires.candidate.1,
-      few_words c.args.job.now c.requires.known.0.plan.accepted,
+      few_words c.args.fixed.now.job.now c.requires.known.0.plan.accepted,
     ),
   );
   bits_admitted = c.requires.bits_admitted;

@@ -22,5 +22,5 @@ pub bits_at-requires-2 : goal.bits_at-requires-2
 bits_at-requires-2 c = omega (arith, c.requires.within, c.requires.fits)
 
 pub returns : goal.returns
-returns c = rows-mask c.args.nofit c.args.strings.now c.args.row c.args.first c.requires c.bits_at.result
+returns c = rows-mask c.args.nofit.now c.args.strings.now c.args.row c.args.first c.requires c.bits_at.result
     c.bits_at-2.result c.bits_at.ensures c.bits_at-2.ensures

@@ -3,7 +3,8 @@ use Prim.Native.Nat.{◌+◌}
 use native.Mathlib.Omega.{arith}
 use borrow.Author.Rules.{rules}
 use Rattle.live_sets.proofs.Blocking.{placed-small, first_small, span_small, stays-behind, stays-before, goes_before}
-use Rattle.live_sets.proofs.Sifting.{bit_below, keeps-all, keeps-none, keeps-others}
+use Rattle.words.proofs.Tested.{bit_below}
+use Rattle.live_sets.proofs.Sifting.{keeps-all, keeps-none, keeps-others}
 use Rattle.live_sets.proofs.narrowing.strain_word.Goals as goal
 
 pub overflow_mul-span : goal.overflow_mul-span
@@ -41,8 +42,8 @@ overflow_add-first-2 c = omega (
       c.requires.0,
 )
 
-pub overflow_mul-nofit : goal.overflow_mul-nofit
-overflow_mul-nofit c = omega (arith, span_small _ _ _ _ _ _ _ _ c.requires.0)
+pub overflow_mul-rows : goal.overflow_mul-rows
+overflow_mul-rows c = omega (arith, span_small _ _ _ _ _ _ _ _ c.requires.0)
 
 pub overflow_add-middle-2 : goal.overflow_add-middle-2
 overflow_add-middle-2 c = omega (
@@ -52,17 +53,17 @@ overflow_add-middle-2 c = omega (
       c.requires.0,
 )
 
-pub returns-then-t-u : goal.returns-then-t-u
-returns-then-t-u c =
+pub returns-then-latest-u : goal.returns-then-latest-u
+returns-then-latest-u c =
     keeps-none _ c.args.w
     (λ i e. goes_before _ _ _ _ _ _ _ _ c.requires.0 c.if-first-span.true (c.args.first + i)
-    (omega (arith, bit_below c.args.w i c.ranges.w.fits e)) c.if-t-u.true)
+    (omega (arith, bit_below c.args.w i c.ranges.w.fits e)) c.if-latest-u.true)
 
 pub returns-then-first-span : goal.returns-then-first-span
 returns-then-first-span c =
     keeps-all _ c.args.w
     (λ i e. stays-before _ _ _ _ _ _ _ _ c.requires.0 c.if-first-span.true (c.args.first + i)
-    (omega (arith, bit_below c.args.w i c.ranges.w.fits e)) c.if-t-u.false (c.requires.1 i e))
+    (omega (arith, bit_below c.args.w i c.ranges.w.fits e)) c.if-latest-u.false (c.requires.1 i e))
 
 pub blocked_word-requires : goal.blocked_word-requires
 blocked_word-requires c = (c.requires.0, record { from = c.if-first-span.false; to = c.if-middle-span.false })
