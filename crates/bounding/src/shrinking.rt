@@ -15,14 +15,10 @@ fn is_clear(job: &[u8], plan: Plan, work: &[u8], k: usize) -> bool
     requires { PlanOf job.now plan × (k < set_words (content job.now).sheet) × (work_words (planned job.now plan) * 8 ≤ length work.now) }
     ensures { result ≡ true → (u : ℕ) → u < plan.types → number_at 8 work.now ((u * plan.words + k) * 8) ≡ 0 }
 {
-    let kinds = plan.types;
-    let words = plan.words;
-    let mut u: usize = 0;
-    while u < kinds {
-        if numbers::get_u64(work, (u * words + k) * 8) != 0 {
+    for u in 0..plan.types {
+        if numbers::get_u64(work, (u * plan.words + k) * 8) != 0 {
             return false;
         }
-        u += 1;
     }
     true
 }
@@ -32,12 +28,10 @@ pub fn shrink(job: &[u8], plan: Plan, work: &[u8], span: usize) -> usize
     requires { PlanOf job.now plan × (span ≤ set_words (content job.now).sheet) × (work_words (planned job.now plan) * 8 ≤ length work.now) }
     ensures { Shrunk plan.types plan.words span work.now result }
 {
-    let mut left = span;
-    while left > 0 {
-        if !is_clear(job, plan, work, left - 1) {
-            return left;
+    for k in (0..span).rev() {
+        if !is_clear(job, plan, work, k) {
+            return k + 1;
         }
-        left -= 1;
     }
-    left
+    0
 }

@@ -21,15 +21,7 @@ fn trim_word(job: &[u8], plan: Plan, u: usize, first: usize, w: u64, bound: usiz
     requires { PlanOf job.now plan × (first < 65536) × BitsAdmitted (planned job.now plan) u first w }
     ensures { (i : ℕ) → test_bit result i ≡ (test_bit w i && ends_below (planned job.now plan) bound u (first + i)) }
 {
-    let mut left = w;
-    let mut kept = w;
-    while left != 0 {
-        let b = bits::lowest_bit(left);
-        let below = lookup::end_of(job, plan, u, first + b) < bound;
-        kept = bits::assign_bit(kept, b as u64, below);
-        left = bits::clear_bit(left, b as u64);
-    }
-    kept
+    bits::keep(w, |i| lookup::end_of(job, plan, u, first + i) < bound)
 }
 
 // The set of so many words at word `at`: its members that end below the bound.
@@ -45,15 +37,13 @@ pub fn trim_set(
     requires { PlanOf job.now plan × Trimmable (planned job.now plan) u at words work.old }
     ensures { Filled at words (λ m. member work.old (at * 64 + m) && ends_below (planned job.now plan) bound u m) work.old work.new }
 {
-    let mut k: usize = 0;
-    while k < words {
+    for k in 0..words {
         let w = numbers::get_u64(work, (at + k) * 8);
         numbers::put_u64(
             work,
             (at + k) * 8,
             trim_word(job, plan, u, k * 64, w, bound),
         );
-        k += 1;
     }
 }
 
@@ -64,10 +54,10 @@ fn trim_next(job: &[u8], plan: Plan, bound: usize, span: usize, i: usize, work: 
     requires trimmable { 0 < copies_left (i % kind_count (content job.now).kinds) (pieces_from (content job.now).kinds (i / kind_count (content job.now).kinds)) → Trimmable (planned job.now plan) (i % kind_count (content job.now).kinds) (i * set_words (content job.now).sheet) span work.old }
     ensures { SetTrimmed (planned job.now plan) bound span i work.old work.new }
 {
-    let copies = plan.copies;
-    let kinds = plan.types;
-    if copies[i / kinds * 8 + i % kinds] > 0 {
-        trim_set(job, plan, i % kinds, bound, work, i * plan.words, span);
+    let level = i / plan.types;
+    let u = i % plan.types;
+    if lookup::copies_left(job, plan, level, u) > 0 {
+        trim_set(job, plan, u, bound, work, i * plan.words, span);
     }
 }
 
@@ -77,10 +67,7 @@ pub fn trim(job: &[u8], plan: Plan, bound: usize, span: usize, work: &mut [u8])
     requires admitted { (work_words (planned job.now plan) * 8 ≤ length work.old) × Admitted (planned job.now plan) span work.old }
     ensures { Trimmed (planned job.now plan) bound span (piece_count (content job.now).kinds * kind_count (content job.now).kinds) work.old work.new }
 {
-    let sets = plan.pieces * plan.types;
-    let mut i: usize = 0;
-    while i < sets {
+    for i in 0..plan.pieces * plan.types {
         trim_next(job, plan, bound, span, i, work);
-        i += 1;
     }
 }

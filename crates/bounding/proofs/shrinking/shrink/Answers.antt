@@ -1,32 +1,30 @@
+use mathlib.Core.Path.{◌≡◌, subst}
+use Prim.Native.Nat.{◌+◌, ◌-◌}
 use native.Mathlib.Omega.{arith}
+use Rattle.bounding.specs.Trimmed.{Shrunk}
 use Rattle.bounding.proofs.Bounds.{shrunk-none, shrunk-more}
 use Rattle.bounding.proofs.shrinking.shrink.Goals as goal
 
-pub loop-left-init : goal.loop-left-init
-loop-left-init c = shrunk-none _ _ _ _
-
-pub overflow_sub-left : goal.overflow_sub-left
-overflow_sub-left c = omega (arith, c.loop-left-test.true)
+pub loop-k-init : goal.loop-k-init
+loop-k-init c = shrunk-none _ _ _ _
 
 pub is_clear-requires : goal.is_clear-requires
 is_clear-requires c = (
   c.requires.0,
-  omega (arith, c.requires.1, c.loop-left.invariant.within, c.loop-left-test.true),
+  omega (arith, c.requires.1, c.loop-k.invariant.within, c.loop-k-test.true),
   c.requires.2,
 )
 
 pub returns-then-not-is_clear : goal.returns-then-not-is_clear
-returns-then-not-is_clear c = c.loop-left.invariant
+returns-then-not-is_clear c =
+    let e : c.loop-k.k ≡ c.loop-k.k - 1 + 1 = omega (arith, c.loop-k-test.true) in
+    subst (Shrunk c.args.plan.types c.args.plan.words c.args.span c.args.work.now) e c.loop-k.invariant
 
-pub overflow_sub-left-in-loop-left : goal.overflow_sub-left-in-loop-left
-overflow_sub-left-in-loop-left c = omega (arith, c.loop-left-test.true)
-
-pub loop-left-smaller : goal.loop-left-smaller
-loop-left-smaller c = omega (arith, c.loop-left-test.true)
-
-pub loop-left-preserved : goal.loop-left-preserved
-loop-left-preserved c = shrunk-more _ _ _ c.loop-left.left _ c.loop-left.invariant c.loop-left-test.true
+pub loop-k-preserved : goal.loop-k-preserved
+loop-k-preserved c = shrunk-more _ _ _ c.loop-k.k _ c.loop-k.invariant c.loop-k-test.true
     (c.is_clear.ensures c.if-not-is_clear.false)
 
 pub returns : goal.returns
-returns c = c.loop-left.invariant
+returns c =
+    let e : c.loop-k.k ≡ 0 = omega (arith, c.loop-k-test.false) in
+    subst (Shrunk c.args.plan.types c.args.plan.words c.args.span c.args.work.now) e c.loop-k.invariant

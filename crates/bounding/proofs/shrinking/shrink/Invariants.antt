@@ -2,8 +2,5 @@
 use Rattle.bounding.specs.Trimmed.{Shrunk}
 use Rattle.bounding.proofs.shrinking.shrink.Given as goal
 
-abbrev pub invariant-loop-left : goal.invariant-loop-left
-invariant-loop-left l = Shrunk l.plan.types l.plan.words l.span l.work l.left
-
-abbrev pub decreases-loop-left : goal.decreases-loop-left
-decreases-loop-left l = l.left
+abbrev pub invariant-loop-k : goal.invariant-loop-k
+invariant-loop-k l = Shrunk l.plan.types l.plan.words l.span l.work l.k

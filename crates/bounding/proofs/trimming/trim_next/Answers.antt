@@ -1,10 +1,9 @@
 -- `bounding::trimming::trim_next` meets its contract.
 use mathlib.Core.List.{List}
-use mathlib.Core.Path.{◌≡◌, ap, ◌∙◌}
-use Prim.Native.Nat.{ℕ, ◌+◌, ◌*◌, ◌/◌, ◌%◌, ◌≤◌, ◌<◌}
+use mathlib.Core.Path.{◌≡◌, ap}
+use Prim.Native.Nat.{ℕ, ◌*◌, ◌/◌, ◌%◌, ◌≤◌, ◌<◌}
 use native.Mathlib.Nat.{mul-le-mul}
 use native.Mathlib.Omega.{arith}
-use lib.ListN.{get_or}
 use Rattle.model.specs.Content.{kind_count, piece_count}
 use Rattle.model.specs.Format.{content}
 use Rattle.model.specs.Search.{copies_left}
@@ -33,43 +32,27 @@ module _ (s : List ℕ) (p : Plan) (o : PlanOf s p) (i : ℕ) (h : i < piece_cou
         (omega (arith, kind, k), omega (arith, h, mul-le-mul n k)),
       )
 
-  -- The table tells the copies left.
-  told : get_or p.copies (i / p.types * 8 + i % p.types) 0
-      ≡ copies_left (i % kind_count (content s).kinds) (pieces_from (content s).kinds
-      (i / kind_count (content s).kinds))
-  told =
-      o.copies (i / p.types) (i % p.types) level few.1.0
-      ∙ ap (λ (n : ℕ). copies_left (i % n) (pieces_from (content s).kinds (i / n))) o.types
+  -- The copies left, by the kinds of the job.
+  told : copies_left (i % p.types) (pieces_from (content s).kinds (i / p.types))
+      ≡ copies_left (i % kind_count (content s).kinds) (pieces_from (content s).kinds (i / kind_count (content s).kinds))
+  told = ap (λ (n : ℕ). copies_left (i % n) (pieces_from (content s).kinds (i / n))) o.types
 
-pub nonzero_div-i : goal.nonzero_div-i
-nonzero_div-i c = omega (arith, few c.args.job.now c.args.plan c.requires.plan_of.0 c.args.i c.requires.plan_of.2)
+pub nonzero_div-level : goal.nonzero_div-level
+nonzero_div-level c = omega (arith, few c.args.job.now c.args.plan c.requires.plan_of.0 c.args.i c.requires.plan_of.2)
 
-pub nonzero_rem-i : goal.nonzero_rem-i
-nonzero_rem-i c = omega (arith, few c.args.job.now c.args.plan c.requires.plan_of.0 c.args.i c.requires.plan_of.2)
+pub nonzero_rem-u : goal.nonzero_rem-u
+nonzero_rem-u c = omega (arith, few c.args.job.now c.args.plan c.requires.plan_of.0 c.args.i c.requires.plan_of.2)
 
-pub nonzero_rem-i-then-copies-i-gt0 : goal.nonzero_rem-i-then-copies-i-gt0
-nonzero_rem-i-then-copies-i-gt0 c = omega (
-  arith,
-  few c.args.job.now c.args.plan c.requires.plan_of.0 c.args.i
-      c.requires.plan_of.2,
+pub copies_left-requires : goal.copies_left-requires
+copies_left-requires c = (
+  c.requires.plan_of.0,
+  level c.args.job.now c.args.plan c.requires.plan_of.0 c.args.i c.requires.plan_of.2,
+  (few c.args.job.now c.args.plan c.requires.plan_of.0 c.args.i c.requires.plan_of.2).1.0,
 )
 
 pub overflow_mul-i : goal.overflow_mul-i
-overflow_mul-i c = omega (arith, few c.args.job.now c.args.plan c.requires.plan_of.0 c.args.i c.requires.plan_of.2)
-
-pub overflow_add-i : goal.overflow_add-i
-overflow_add-i c = omega (arith, few c.args.job.now c.args.plan c.requires.plan_of.0 c.args.i c.requires.plan_of.2)
-
-pub bounds-copies-i : goal.bounds-copies-i
-bounds-copies-i c = omega (arith, few c.args.job.now c.args.plan c.requires.plan_of.0 c.args.i c.requires.plan_of.2)
-
-pub overflow_mul-i-then-copies-i-gt0 : goal.overflow_mul-i-then-copies-i-gt0
-overflow_mul-i-then-copies-i-gt0 c =
-    omega (
-      arith,
-      mul-le-mul (few c.args.job.now c.args.plan c.requires.plan_of.0 c.args.i c.requires.plan_of.2).1.1
-          (words-few c.args.job.now c.args.plan c.requires.plan_of.0),
-    )
+overflow_mul-i c =
+    omega (arith, mul-le-mul (few c.args.job.now c.args.plan c.requires.plan_of.0 c.args.i c.requires.plan_of.2).1.1 (words-few c.args.job.now c.args.plan c.requires.plan_of.0))
 
 pub trim_set-requires : goal.trim_set-requires
 trim_set-requires c = (
@@ -77,22 +60,24 @@ trim_set-requires c = (
   rw (c.requires.plan_of.0.types, c.requires.plan_of.0.words)
       (c.requires.trimmable (omega (
         arith,
-        c.if-copies-i-gt0.true,
+        c.if-copies_left-gt0.true,
+        c.copies_left.ensures,
         told c.args.job.now c.args.plan c.requires.plan_of.0 c.args.i c.requires.plan_of.2,
       ))),
 )
 
-pub returns-then-copies-i-gt0 : goal.returns-then-copies-i-gt0
-returns-then-copies-i-gt0 c =
+pub returns-then-copies_left-gt0 : goal.returns-then-copies_left-gt0
+returns-then-copies_left-gt0 c =
     set-trimmed (planned c.args.job.now c.args.plan) c.args.i c.requires.plan_of.2 c.args.bound c.args.span
     c.requires.plan_of.1
     c.args.work.now _ _ _ c.requires.plan_of.0.types c.requires.plan_of.0.words c.trim_set.ensures
 
-pub returns-else-copies-i-gt0 : goal.returns-else-copies-i-gt0
-returns-else-copies-i-gt0 c =
+pub returns-else-copies_left-gt0 : goal.returns-else-copies_left-gt0
+returns-else-copies_left-gt0 c =
     set-skipped (planned c.args.job.now c.args.plan) c.args.i c.requires.plan_of.2 _ _ _
     (omega (
       arith,
-      c.if-copies-i-gt0.false,
+      c.if-copies_left-gt0.false,
+      c.copies_left.ensures,
       told c.args.job.now c.args.plan c.requires.plan_of.0 c.args.i c.requires.plan_of.2,
     ))
