@@ -2,7 +2,8 @@
 use mathlib.Core.Bool.{true, false}
 use mathlib.Core.List.{List}
 use mathlib.Core.Logic.{◌⊎◌, inl, inr}
-use mathlib.Core.Path.{◌≡◌, refl, sym, ◌∙◌, subst}
+use Rattle.std.specs.Prelude.{Option, Some, None}
+use mathlib.Core.Path.{◌≡◌, sym, ◌∙◌, subst}
 use Prim.Native.Nat.{ℕ, ◌+◌, ◌-◌, ◌*◌, max, ◌≤◌, ◌<◌}
 use native.Mathlib.Omega.{arith}
 use Rattle.words.specs.Sets.{member, next_member}
@@ -10,18 +11,10 @@ use Rattle.words.proofs.Cases.{le_or_lt}
 use Rattle.words.proofs.First.{Found, found}
 use Rattle.model.specs.Layout.{Layout, entry_of, entry_extent}
 use Rattle.model.specs.Problem.{Problem}
-use Rattle.model.proofs.Lists.{not_both}
 use Rattle.stepping.specs.LiveSets.{set_of, Spans, Keeps}
 use Rattle.stepping.proofs.Kept.{past_span}
-use Rattle.branching.specs.Choosing.{NextMember, NextLive}
+use Rattle.branching.specs.Choosing.{FirstMember, NextMember, NextLive}
 use Rattle.branching.specs.declared.choosing.Next.{Next}
-
--- A candidate found, and none.
-abbrev pub taking : ℕ → ℕ → Next
-taking n end = record { found = true; number = n; extent = end }
-
-abbrev pub nothing : ℕ → ℕ → Next
-nothing n end = record { found = false; number = n; extent = end }
 
 -- ---- The next member
 
@@ -46,48 +39,39 @@ next_found s limit from =
 pub next_is_member : (s : List ℕ) (limit from n : ℕ) → n ≡ next_member limit s from → n < limit → member s n ≡ true
 next_is_member s limit from n e l = rw e ((next_found s limit from).2 (rw (← e) l))
 
-module _ (j : Problem) (u end : ℕ) (s : List ℕ) (limit from n : ℕ) (e : n ≡ next_member limit s from) where
+module _ (s : List ℕ) (limit from n : ℕ) (e : n ≡ next_member limit s from) where
   passed_over : (i : ℕ) → from ≤ i → i < n → (i < limit) × (member s i ≡ false)
   passed_over i p q = (next_found s limit from).1 i p (rw (← e) q)
 
   -- There is a member.
-  pub member-found : (own end' : ℕ) → n < limit → own ≡ entry_extent j (entry_of j u n) → end' ≡ max own end → NextMember j u end s limit from (taking n end')
-  member-found own end' l g m =
+  pub member-found : (j : Problem) (u end own end' : ℕ) → n < limit → own ≡ entry_extent j (entry_of j u n) → end' ≡ max own end
+      → FirstMember j u end s limit from (record { number = n; extent = end' })
+  member-found j u end own end' l g m =
       record {
         above = rw e (next_found s limit from).0;
-        passed = passed_over;
-        found = λ f. (l, next_is_member s limit from n e l, rw (← g) m);
-        none = λ f. absurd (not_both refl f);
+        passed = λ i p q. (passed_over i p q).1;
+        small = l;
+        member = next_is_member s limit from n e l;
+        reaches = rw (← g) m;
       }
 
   -- There is none.
-  pub member-none : limit ≤ n → NextMember j u end s limit from (nothing n end)
-  member-none l =
-      record { above = rw e (next_found s limit from).0; passed = passed_over; found = λ f. absurd (not_both f refl); none = λ f. l }
+  pub member-none : limit ≤ n → (i : ℕ) → from ≤ i → i < limit → member s i ≡ false
+  member-none l i p q = (passed_over i p (omega arith)).1
 
 -- ---- What it says of the candidates
 
-module _ (j : Problem) (placed : Layout) (bound u end from : ℕ) where
-  -- What is placed does not end below the bound: nothing is live.
-  pub live-none : bound ≤ end → NextLive j placed bound u end from (nothing from end)
-  live-none o = record { above = omega arith; passed = λ i p q. absurd (omega arith); found = λ f. absurd (not_both f refl); none = λ f. inl o }
-
-  module _ (span : ℕ) (s : List ℕ) (c : Spans j bound span) (k : Keeps j placed bound span u s) where
-    -- The first member is the first live candidate, and behind the span there is none.
-    pub live-member : (r : Next) → end < bound → NextMember j u end s (span * 64) from r → NextLive j placed bound u end from r
-    live-member r o b =
-        record {
-          above = b.above;
-          passed = passed;
-          found = λ f.
-              let g = b.found f in
-              record { small = omega (arith, g.0, c.within); below = o; member = sym (k r.number g.0) ∙ g.1; reaches = g.2 };
-          none = λ f. inr (λ i p. none f i p (le_or_lt (span * 64) i));
-        }
-      where
-        passed : (i : ℕ) → from ≤ i → i < r.number → set_of j placed bound u i ≡ false
-        passed i p q = let g = b.passed i p q in sym (k i g.0) ∙ g.1
-
-        none : r.found ≡ false → (i : ℕ) → from ≤ i → (span * 64 ≤ i) ⊎ (i < span * 64) → set_of j placed bound u i ≡ false
-        none f i p (inl l) = past_span j placed bound span u c i l
-        none f i p (inr l) = passed i p (omega (arith, b.none f))
+module _ (j : Problem) (placed : Layout) (bound u end from span : ℕ) (s : List ℕ) (c : Spans j bound span) (k : Keeps j placed bound span u s) where
+  -- The first member is the first live candidate, and behind the span there is none.
+  pub live-member : (r : Option Next) → end < bound → NextMember j u end s (span * 64) from r → NextLive j placed bound u end from r
+  live-member (Some r) o b =
+      record {
+        above = b.above;
+        passed = λ i p q. sym (k i (omega (arith, b.small))) ∙ b.passed i p q;
+        live = record { small = omega (arith, b.small, c.within); below = o; member = sym (k r.number b.small) ∙ b.member; reaches = b.reaches };
+      }
+  live-member None o b = inr (λ i p. go i p (le_or_lt (span * 64) i))
+    where
+      go : (i : ℕ) → from ≤ i → (span * 64 ≤ i) ⊎ (i < span * 64) → set_of j placed bound u i ≡ false
+      go i p (inl l) = past_span j placed bound span u c i l
+      go i p (inr l) = sym (k i l) ∙ b i p l

@@ -5,87 +5,65 @@ ghost use Rattle.model.specs.Candidate.{is_candidate};
 ghost use Rattle.model.specs.Content.{piece_count};
 ghost use Rattle.model.specs.Format.{content};
 ghost use Rattle.model.specs.Services.{work_words};
-ghost use Rattle.plans.specs.Planned.{PlanOf, planned};
+ghost use Rattle.plans.specs.Planned.{PlanOf};
 ghost use Rattle.stepping.specs.Levels.{piece_kind, placed_of};
 ghost use Rattle.stepping.specs.LiveSets.{Spans, Keeps};
 ghost use Rattle.stepping.specs.Slots.{slot_of};
+ghost use Rattle.live_sets.specs.Known.{problem};
 ghost use Rattle.branching.specs.Choosing.{NextMember, NextLive};
 
+use live_sets::placing::{Branch, Fixed};
 use plans::lookup;
-use plans::plan::Plan;
 use runs::progress::Progress;
 use words::sets;
 
-// The next candidate to take, where one is found: its number, and how far the layout reaches with it.
+// The next candidate to take: its number, and how far the layout reaches with it.
 #[derive(Clone, Copy)]
 pub struct Next {
-    pub found: bool,
     pub number: usize,
     pub extent: usize,
 }
 
 // The first member of a set of kind u, from a number on, in its first words.
 fn next_in(
-    job: &[u8],
-    plan: Plan,
+    fixed: &Fixed,
     u: usize,
     set: &[u8],
     from: usize,
     extent: usize,
     span: usize,
-) -> Next
-    requires plan_of { PlanOf job.now plan × (span ≤ 64) × (span * 8 ≤ length set.now) }
-    requires by_index { (m : ℕ) → m < span * 64 → member set.now m ≡ true → is_candidate (planned job.now plan) u m ≡ true }
-    ensures { NextMember (planned job.now plan) u extent set.now (span * 64) from result }
+) -> Option<Next>
+    requires plan_of { PlanOf fixed.now.job.now fixed.now.plan × (span ≤ 64) × (span * 8 ≤ length set.now) }
+    requires by_index { (m : ℕ) → m < span * 64 → member set.now m ≡ true → is_candidate (problem fixed.now) u m ≡ true }
+    ensures { NextMember (problem fixed.now) u extent set.now (span * 64) from result }
 {
-    let n = sets::next_member(set, span as u32, from);
-    if n < span * 64 {
-        let end = lookup::end_of(job, plan, u, n);
-        return Next {
-            found: true,
-            number: n,
-            extent: lookup::larger(end, extent),
-        };
+    let number = sets::next_member(set, span as u32, from);
+    if number < span * 64 {
+        let end = lookup::end_of(fixed.job, fixed.plan, u, number);
+        return Some(Next {
+            number,
+            extent: end.max(extent),
+        });
     }
-    Next {
-        found: false,
-        number: n,
-        extent,
-    }
+    None
 }
 
-// The first live candidate of piece `level`, from a number on: the next member of its set. None is where what is placed does not end below the bound.
+// The first live candidate of the branch's next piece, from a number on: the next member of its set. None is where what is placed does not end below the bound.
 pub fn next_live(
-    job: &[u8],
-    plan: Plan,
-    numbers: [usize; 12],
-    level: usize,
-    extent: usize,
+    fixed: &Fixed,
+    branch: &Branch,
     state: Progress,
     work: &[u8],
     from: usize,
-) -> Next
-    requires plan_of { PlanOf job.now plan × (level < piece_count (content job.now).kinds) × (work_words (planned job.now plan) * 8 ≤ length work.now) }
-    requires spans { Spans (planned job.now plan) state.bound state.span × Keeps (planned job.now plan) (placed_of (planned job.now plan) numbers level) state.bound state.span (piece_kind (content job.now).kinds level) (slot_of (planned job.now plan) work.now level (piece_kind (content job.now).kinds level)) }
-    ensures { NextLive (planned job.now plan) (placed_of (planned job.now plan) numbers level) state.bound (piece_kind (content job.now).kinds level) extent from result }
+) -> Option<Next>
+    requires plan_of { PlanOf fixed.now.job.now fixed.now.plan × (branch.now.level < piece_count (content fixed.now.job.now).kinds) × (work_words (problem fixed.now) * 8 ≤ length work.now) }
+    requires spans { Spans (problem fixed.now) state.bound state.span × Keeps (problem fixed.now) (placed_of (problem fixed.now) branch.now.numbers branch.now.level) state.bound state.span (piece_kind (content fixed.now.job.now).kinds branch.now.level) (slot_of (problem fixed.now) work.now branch.now.level (piece_kind (content fixed.now.job.now).kinds branch.now.level)) }
+    ensures { NextLive (problem fixed.now) (placed_of (problem fixed.now) branch.now.numbers branch.now.level) state.bound (piece_kind (content fixed.now.job.now).kinds branch.now.level) branch.now.extent from result }
 {
-    if state.bound <= extent {
-        return Next {
-            found: false,
-            number: from,
-            extent,
-        };
+    if state.bound <= branch.extent {
+        return None;
     }
-    let kinds = plan.kinds;
-    let kind = kinds[level];
-    let at = lookup::set_start(job, plan, level, kind as usize) * 8;
-    next_in(
-        job,
-        plan,
-        kind as usize,
-        &work[at..],
-        from,
-        extent,
-        state.span,
-    )
+    let kind = fixed.plan.kinds[branch.level] as usize;
+    let at = lookup::set_start(fixed.job, fixed.plan, branch.level, kind) * 8;
+    next_in(fixed, kind, &work[at..], from, branch.extent, state.span)
 }

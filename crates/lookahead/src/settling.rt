@@ -4,17 +4,15 @@ ghost use Rattle.words.specs.Sets.{count_members};
 ghost use Rattle.model.specs.Content.{kind_count};
 ghost use Rattle.model.specs.Format.{content};
 ghost use Rattle.model.specs.Search.{copies_left};
-ghost use Rattle.plans.specs.Planned.{planned};
-ghost use Rattle.live_sets.specs.Known.{Known};
+ghost use Rattle.live_sets.specs.Known.{KnownOf, problem};
 ghost use Rattle.stepping.specs.Levels.{pieces_from};
 ghost use Rattle.stepping.specs.Slots.{SetPlace};
-ghost use Rattle.lookahead.specs.Settled.{Placeable, Latest, Made, KindSettled, Settled};
+ghost use Rattle.lookahead.specs.Settled.{Placeable, Latest as LatestOf, Made, KindSettled, Settled};
 
-use candidates::conflicts::{Placed, placed_of};
+use candidates::conflicts::placed_of;
 use live_sets::narrowing::narrow;
-use nofit::places::Nofit;
-use plans::lookup::set_start;
-use plans::plan::Plan;
+use live_sets::placing::{Branch, Fixed, Latest};
+use plans::lookup::{copies_left, set_start};
 use runs::progress::Progress;
 use words::sets;
 
@@ -26,112 +24,67 @@ pub fn has_members(work: &[u8], at: usize, words: usize, copies: u8) -> bool
     sets::has_members(&work[at * 8..], words as u32, copies as u64)
 }
 
-// The set of this level and kind, at word `to`: what is left of the set of the level before once candidate n of kind t, the latest of the numbers, is placed.
+// The set of the branch's level and of this kind, at word `to`: what is left of the set of the level before once the latest piece is placed.
 fn make_set(
-    job: &[u8],
-    plan: Plan,
-    nofit: Nofit,
-    turned: &[i16],
-    strings: &[u8],
+    fixed: &Fixed,
+    branch: &Branch,
     state: Progress,
-    numbers: [usize; 12],
-    level: usize,
-    t: usize,
-    n: usize,
-    place: Placed,
+    latest: &Latest,
     u: usize,
     work: &mut [u8],
     to: usize,
 )
-    requires known { Known job.now plan nofit turned.now strings.now }
-    requires placeable { Placeable (planned job.now plan) numbers level state.bound state.span work.old }
-    requires u_bound { (u < kind_count (content job.now).kinds) × (0 < copies_left u (pieces_from (content job.now).kinds level)) × SetPlace (planned job.now plan) level u to }
-    requires latest { Latest (planned job.now plan) plan.rows numbers level t n place }
-    ensures { Made (planned job.now plan) numbers level state.bound state.span u work.old work.new }
+    requires known { KnownOf fixed.now }
+    requires placeable { Placeable (problem fixed.now) branch.now.numbers branch.now.level state.bound state.span work.old }
+    requires u_bound { (u < kind_count (content fixed.now.job.now).kinds) × (0 < copies_left u (pieces_from (content fixed.now.job.now).kinds branch.now.level)) × SetPlace (problem fixed.now) branch.now.level u to }
+    requires latest { LatestOf (problem fixed.now) fixed.now.plan.rows branch.now.numbers branch.now.level latest.now.kind latest.now.number latest.now.place }
+    ensures { Made (problem fixed.now) branch.now.numbers branch.now.level state.bound state.span u work.old work.new }
 {
-    let from = set_start(job, plan, level - 1, u);
-    narrow(
-        job, plan, nofit, turned, strings, t, n, place, u, work, from, to, state.span,
-    );
+    let from = set_start(fixed.job, fixed.plan, branch.level - 1, u);
+    narrow(fixed, latest, u, work, from, to, state.span);
 }
 
-// The set of this level and kind, if copies of the kind are left, and whether it has members for them. What is the same for all kinds is handed in.
+// The set of the branch's level and of this kind, if copies of the kind are left, and whether it has members for them.
 fn settle_kind(
-    job: &[u8],
-    plan: Plan,
-    nofit: Nofit,
-    turned: &[i16],
-    strings: &[u8],
+    fixed: &Fixed,
+    branch: &Branch,
     state: Progress,
-    numbers: [usize; 12],
-    level: usize,
-    t: usize,
-    n: usize,
-    place: Placed,
+    latest: &Latest,
     u: usize,
-    copies: u8,
     work: &mut [u8],
 ) -> bool
-    requires known { Known job.now plan nofit turned.now strings.now }
-    requires placeable { Placeable (planned job.now plan) numbers level state.bound state.span work.old }
-    requires u_bound { (u < kind_count (content job.now).kinds) × (copies ≡ copies_left u (pieces_from (content job.now).kinds level)) }
-    requires latest { Latest (planned job.now plan) plan.rows numbers level t n place }
-    ensures { KindSettled (planned job.now plan) numbers level state.bound state.span u work.old work.new result }
+    requires known { KnownOf fixed.now }
+    requires placeable { Placeable (problem fixed.now) branch.now.numbers branch.now.level state.bound state.span work.old }
+    requires u_bound { u < kind_count (content fixed.now.job.now).kinds }
+    requires latest { LatestOf (problem fixed.now) fixed.now.plan.rows branch.now.numbers branch.now.level latest.now.kind latest.now.number latest.now.place }
+    ensures { KindSettled (problem fixed.now) branch.now.numbers branch.now.level state.bound state.span u work.old work.new result }
 {
+    let copies = copies_left(fixed.job, fixed.plan, branch.level, u);
     if copies == 0 {
         return true;
     }
-    let at = set_start(job, plan, level, u);
-    make_set(
-        job, plan, nofit, turned, strings, state, numbers, level, t, n, place, u, work, at,
-    );
+    let at = set_start(fixed.job, fixed.plan, branch.level, u);
+    make_set(fixed, branch, state, latest, u, work, at);
     has_members(work, at, state.span, copies)
 }
 
-// The sets of this level, and look-ahead. It ends at the first kind with too few members.
-pub fn settle(
-    job: &[u8],
-    plan: Plan,
-    nofit: Nofit,
-    turned: &[i16],
-    strings: &[u8],
-    state: Progress,
-    numbers: [usize; 12],
-    level: usize,
-    work: &mut [u8],
-) -> bool
-    requires known { Known job.now plan nofit turned.now strings.now }
-    requires placeable { Placeable (planned job.now plan) numbers level state.bound state.span work.old }
-    ensures { Settled (planned job.now plan) numbers level state.bound state.span work.old work.new result }
+// The sets of the branch's level, and look-ahead. It ends at the first kind with too few members.
+pub fn settle(fixed: &Fixed, branch: &Branch, state: Progress, work: &mut [u8]) -> bool
+    requires known { KnownOf fixed.now }
+    requires placeable { Placeable (problem fixed.now) branch.now.numbers branch.now.level state.bound state.span work.old }
+    ensures { Settled (problem fixed.now) branch.now.numbers branch.now.level state.bound state.span work.old work.new result }
 {
-    let kinds = plan.types;
-    let before = level - 1;
-    let n = numbers[before];
-    let order = plan.kinds;
-    let t = order[before] as usize;
-    let place = placed_of(plan.rows, n);
-    let copies = plan.copies;
-    let mut u = 0;
-    while u < kinds {
-        if !settle_kind(
-            job,
-            plan,
-            nofit,
-            turned,
-            strings,
-            state,
-            numbers,
-            level,
-            t,
-            n,
-            place,
-            u,
-            copies[level * 8 + u],
-            work,
-        ) {
+    let before = branch.level - 1;
+    let number = branch.numbers[before];
+    let latest = Latest {
+        kind: fixed.plan.kinds[before] as usize,
+        number,
+        place: placed_of(fixed.plan.rows, number),
+    };
+    for u in 0..fixed.plan.types {
+        if !settle_kind(fixed, branch, state, &latest, u, work) {
             return false;
         }
-        u += 1;
     }
     true
 }

@@ -1,7 +1,6 @@
 // The walk of an accepted job, under a margin, from its root, where nothing is placed.
-ghost use Rattle.std.specs.Prelude.{◌*◌, ◌+◌, ◌≤◌, length, replicate};
-ghost use Rattle.job.specs.View.{problem_of};
-ghost use Rattle.candidates.specs.Conflicts.{Prepared};
+ghost use Rattle.std.specs.Prelude.{◌*◌, ◌+◌, ◌≤◌, length, replicate, is_some, unwrap_or};
+ghost use Rattle.candidates.specs.Prepared.{problem_in};
 ghost use Rattle.stepping.specs.Levels.{try_level, numbers_at};
 ghost use Rattle.plans.specs.Planned.{planned};
 ghost use Rattle.walks.specs.Walk.{held_of, Ready, Left};
@@ -9,13 +8,13 @@ ghost use Rattle.root.specs.Walked.{RoomFor, Begun, Walked, Computed};
 
 use crate::beginning::settle_first;
 use bounding::shrinking::shrink;
-use job::View;
+use candidates::prepared::PreparedJob;
+use live_sets::placing::{Branch, Fixed};
 use nofit::measures::nofit_of;
 use nofit::patterns::make_nofit;
 use nofit::places::Nofit;
 use plans::plan::{Plan, make_plan};
 use runs::progress::{Progress, begin};
-use shapes::boxes::Boxes;
 use walks::walk::try_piece;
 
 // How many words the no-fit strings may take. The fewer the steps, the fewer strings are worth their price; 25,399 words, with the parities and a word more,
@@ -32,10 +31,7 @@ fn room_for(budget: u32) -> usize
 
 // The walk of the first piece, with the table of no-fit strings in the bytes lent.
 fn walk_over(
-    job: &[u8],
-    view: View,
-    turned: &[i16],
-    boxes: Boxes,
+    prepared: &PreparedJob,
     plan: Plan,
     nofit: Nofit,
     strings: &mut [u8],
@@ -43,95 +39,80 @@ fn walk_over(
     answer: &mut [u8],
     start: Progress,
 ) -> Progress
-    requires computed { Computed job.now view turned.now boxes plan nofit }
+    requires computed { Computed prepared.now.job.now prepared.now.view prepared.now.turned.now prepared.now.boxes plan nofit }
     requires strings_in_bounds { (nofit.first + nofit.held * nofit.size + 1) * 8 ≤ length strings.old }
-    requires ready { Ready (planned job.now plan) work.old answer.old (replicate 12 0) 0 1 0 start }
-    ensures { Left (planned job.now plan) (replicate 12 0) work.old answer.old work.new answer.new 1 start result (try_level (planned job.now plan) (numbers_at (replicate 12 0)) 0 0 start.left (held_of (planned job.now plan) start.found answer.old)) }
+    requires ready { Ready (planned prepared.now.job.now plan) work.old answer.old (replicate 12 0) 0 1 0 start }
+    ensures { Left (planned prepared.now.job.now plan) (replicate 12 0) work.old answer.old work.new answer.new 1 start result (try_level (planned prepared.now.job.now plan) (numbers_at (replicate 12 0)) 0 0 start.left (held_of (planned prepared.now.job.now plan) start.found answer.old)) }
 {
-    make_nofit(job, view, turned, boxes, nofit, strings);
-    try_piece(
-        job,
+    make_nofit(
+        prepared.job,
+        prepared.view,
+        prepared.turned,
+        prepared.boxes,
+        nofit,
+        strings,
+    );
+    let fixed = Fixed {
+        job: prepared.job,
         plan,
         nofit,
-        turned,
+        turned: prepared.turned,
         strings,
-        work,
-        answer,
-        [0usize; 12],
-        0,
-        0,
-        start,
-    )
+    };
+    let branch = Branch {
+        numbers: [0; 12],
+        level: 0,
+        extent: 0,
+    };
+    try_piece(&fixed, &branch, start, work, answer)
 }
 
 // The same with a table of its own: a small one where that is enough, since a table is cleared before it is filled.
 fn walk_with_table(
-    job: &[u8],
-    view: View,
-    turned: &[i16],
-    boxes: Boxes,
+    prepared: &PreparedJob,
     plan: Plan,
     nofit: Nofit,
     work: &mut [u8],
     answer: &mut [u8],
     start: Progress,
 ) -> Progress
-    requires computed { Computed job.now view turned.now boxes plan nofit × (nofit.first + nofit.held * nofit.size + 1 ≤ 25600) }
-    requires ready { Ready (planned job.now plan) work.old answer.old (replicate 12 0) 0 1 0 start }
-    ensures { Left (planned job.now plan) (replicate 12 0) work.old answer.old work.new answer.new 1 start result (try_level (planned job.now plan) (numbers_at (replicate 12 0)) 0 0 start.left (held_of (planned job.now plan) start.found answer.old)) }
+    requires computed { Computed prepared.now.job.now prepared.now.view prepared.now.turned.now prepared.now.boxes plan nofit × (nofit.first + nofit.held * nofit.size + 1 ≤ 25600) }
+    requires ready { Ready (planned prepared.now.job.now plan) work.old answer.old (replicate 12 0) 0 1 0 start }
+    ensures { Left (planned prepared.now.job.now plan) (replicate 12 0) work.old answer.old work.new answer.new 1 start result (try_level (planned prepared.now.job.now plan) (numbers_at (replicate 12 0)) 0 0 start.left (held_of (planned prepared.now.job.now plan) start.found answer.old)) }
 {
     if nofit.first + nofit.held * nofit.size < 1024 {
         let mut strings = [0u8; 8192];
-        return walk_over(
-            job,
-            view,
-            turned,
-            boxes,
-            plan,
-            nofit,
-            &mut strings,
-            work,
-            answer,
-            start,
-        );
+        return walk_over(prepared, plan, nofit, &mut strings, work, answer, start);
     }
     let mut strings = [0u8; 204800];
-    walk_over(
-        job,
-        view,
-        turned,
-        boxes,
-        plan,
-        nofit,
-        &mut strings,
-        work,
-        answer,
-        start,
-    )
+    walk_over(prepared, plan, nofit, &mut strings, work, answer, start)
 }
 
-// The walk of an accepted job, in buffers that are large enough, with the layout that the answer numbers hold as best, or with none. What holds for the whole
-// walk is computed first; the table of no-fit strings only where look-ahead lets the walk begin.
+// The walk of an accepted job, in buffers that are large enough, from the layout that the answer numbers hold, if `best` says where one ends that they hold.
+// What holds for the whole walk is computed first; the table of no-fit strings only where look-ahead lets the walk begin.
 pub fn walk(
-    job: &[u8],
-    view: View,
-    turned: &[i16],
-    boxes: Boxes,
+    prepared: &PreparedJob,
     budget: u32,
-    bound: usize,
-    found: bool,
+    best: Option<usize>,
     work: &mut [u8],
     answer: &mut [u8],
 ) -> Progress
-    requires prepared { Prepared job.now view turned.now boxes }
-    requires room_for { RoomFor (problem_of job.now view) work.old answer.old × Begun (problem_of job.now view) bound found answer.old }
-    ensures { Walked (problem_of job.now view) (held_of (problem_of job.now view) found answer.old) budget work.old answer.old work.new answer.new result }
+    requires room_for { RoomFor (problem_in prepared.now) work.old answer.old × Begun (problem_in prepared.now) (unwrap_or best (prepared.now.view.length + 1)) (is_some best) answer.old }
+    ensures { Walked (problem_in prepared.now) (held_of (problem_in prepared.now) (is_some best) answer.old) budget work.old answer.old work.new answer.new result }
 {
-    let plan = make_plan(job, view, boxes);
-    if !settle_first(job, view, boxes, plan, bound, work) {
+    let bound = best.unwrap_or(prepared.view.length + 1);
+    let found = best.is_some();
+    let plan = make_plan(prepared.job, prepared.view, prepared.boxes);
+    if !settle_first(prepared, plan, bound, work) {
         return begin(budget, bound, found, plan.words);
     }
-    let start = begin(budget, bound, found, shrink(job, plan, work, plan.words));
-    let nofit = nofit_of(job, view, boxes, room_for(budget));
-    walk_with_table(job, view, turned, boxes, plan, nofit, work, answer, start)
+    let span = shrink(prepared.job, plan, work, plan.words);
+    let start = begin(budget, bound, found, span);
+    let nofit = nofit_of(
+        prepared.job,
+        prepared.view,
+        prepared.boxes,
+        room_for(budget),
+    );
+    walk_with_table(prepared, plan, nofit, work, answer, start)
 }

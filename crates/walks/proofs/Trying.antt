@@ -1,7 +1,7 @@
 -- The loop of one piece: what stands at each turn, and what each way out of it leaves.
 use mathlib.Core.Bool.{Bool, true, false}
 use mathlib.Core.List.{List, ◌∷◌}
-use mathlib.Core.Logic.{◌⊎◌, inl, inr}
+use mathlib.Core.Logic.{inl, inr}
 use mathlib.Core.Option.{Option, none}
 use mathlib.Core.Path.{◌≡◌, refl, sym, ap, ◌∙◌, subst}
 use Prim.Native.Nat.{ℕ, suc, ◌+◌, ◌*◌, ◌-◌, max, ◌≤◌, ◌<◌}
@@ -9,6 +9,7 @@ use native.Mathlib.Numerals.{add-one}
 use native.Mathlib.Omega.{arith}
 use lib.ListN.{length, drop, set, length-set, length-map}
 use lib.Seq.{get_or-set_same, get_or-set_other}
+use Rattle.std.specs.Prelude.{None}
 use Rattle.words.specs.Number.{count}
 use Rattle.model.specs.Content.{piece_count}
 use Rattle.model.specs.Grid.{set_words}
@@ -31,7 +32,7 @@ use Rattle.stepping.proofs.Levels.{piece_kind_lem, placed-next, placed_same, lev
 use Rattle.stepping.proofs.LiveSets.{placed-admitted, placed_below_lem}
 use Rattle.stepping.proofs.PieceOrder.{copies-here}
 use Rattle.stepping.proofs.Steps.{spent-skip_to}
-use Rattle.branching.specs.Choosing.{NextLive}
+use Rattle.branching.specs.Choosing.{FirstLive, NextLive}
 use Rattle.walks.specs.Walk.{held_of, Ready, Taken, Left}
 use Rattle.branching.specs.declared.choosing.Next.{Next}
 use Rattle.runs.specs.Told.{stepped, halted}
@@ -105,29 +106,26 @@ module _ (j : Problem) (ns : List ℕ) (level end : ℕ) where
     pub trying_keeps : level < piece_count j.kinds → Keeps j (placed_of j ns level) st.bound st.span (piece_kind j.kinds level) (slot_of j work level (piece_kind j.kinds level))
     trying_keeps h = t.ready.sets level (piece_kind j.kinds level) (omega arith) (piece_kind_lem j.kinds level h) (copies-here j.kinds level h)
 
-    module _ (r : Next) (v : NextLive j (placed_of j ns level) st.bound (piece_kind j.kinds level) end from r) where
+    -- There is no live candidate: what is placed does not end below the bound, or no member is left.
+    pub trying_past : NextLive j (placed_of j ns level) st.bound (piece_kind j.kinds level) end from None → Left j ns work₀ out₀ work out (level + 1) st₀ st (whole st₀ out₀)
+    trying_past (inl o) =
+        trying_leaves (level_over j (numbers_at ns) level (held_of j st.found out) t.ready.admitted from st.left
+        (omega (arith, t.ready.bound-is, t.ready.end_is)))
+    trying_past (inr o) =
+        let past : from ≤ from + set_words j.sheet * 64 = omega arith in
+        trying_leaves
+        (level_skip j (numbers_at ns) level (held_of j st.found out) t.ready.admitted from (from + set_words j.sheet * 64) st.left past
+        (λ i p q. ap (λ (b : ℕ). set_of j (placed_of j ns level) b (piece_kind j.kinds level) i) (sym t.ready.bound-is) ∙ o i p)
+        ∙ level_past j (numbers_at ns) level (held_of j st.found out) t.ready.admitted (from + set_words j.sheet * 64) st.left (omega (arith, limit_words j.sheet)))
+
+    module _ (r : Next) (v : FirstLive j (placed_of j ns level) st.bound (piece_kind j.kinds level) end from r) where
       -- The walk goes to the next live candidate.
       trying_skips : try_level j (numbers_at ns) level from st.left (held_of j st.found out) ≡ try_level j (numbers_at ns) level r.number st.left (held_of j st.found out)
       trying_skips =
           level_skip j (numbers_at ns) level (held_of j st.found out) t.ready.admitted from r.number st.left v.above
           (λ i p q. ap (λ (b : ℕ). set_of j (placed_of j ns level) b (piece_kind j.kinds level) i) (sym t.ready.bound-is) ∙ v.passed i p q)
 
-      -- There is none: what is placed does not end below the bound, or no member is left.
-      pub trying_past : r.found ≡ false → Left j ns work₀ out₀ work out (level + 1) st₀ st (whole st₀ out₀)
-      trying_past f = go (v.none f)
-        where
-          go : (st.bound ≤ end) ⊎ ((i : ℕ) → from ≤ i → set_of j (placed_of j ns level) st.bound (piece_kind j.kinds level) i ≡ false) → Left j ns work₀ out₀ work out (level + 1) st₀ st (whole st₀ out₀)
-          go (inl o) =
-              trying_leaves (level_over j (numbers_at ns) level (held_of j st.found out) t.ready.admitted from st.left
-              (omega (arith, t.ready.bound-is, t.ready.end_is)))
-          go (inr o) =
-              let past : from ≤ from + set_words j.sheet * 64 = omega arith in
-              trying_leaves
-              (level_skip j (numbers_at ns) level (held_of j st.found out) t.ready.admitted from (from + set_words j.sheet * 64) st.left past
-              (λ i p q. ap (λ (b : ℕ). set_of j (placed_of j ns level) b (piece_kind j.kinds level) i) (sym t.ready.bound-is) ∙ o i p)
-              ∙ level_past j (numbers_at ns) level (held_of j st.found out) t.ready.admitted (from + set_words j.sheet * 64) st.left (omega (arith, limit_words j.sheet)))
-
-      module _ (f : r.found ≡ true) (inside : level < piece_count j.kinds) (few : level < 12) where
+      module _ (inside : level < piece_count j.kinds) (few : level < 12) where
         -- The numbers with the new one: those below are as they were.
         same-below : (i : ℕ) → i < level → numbers_at ns i ≡ numbers_at (set ns level r.number) i
         same-below i q = sym (get_or-set_other ns level i r.number 0 (λ e. omega arith))
@@ -142,10 +140,10 @@ module _ (j : Problem) (ns : List ℕ) (level end : ℕ) where
         admitted = rw (← (placed-is level (omega arith))) t.ready.admitted
 
         member_is : set_of j (placed_of j (set ns level r.number) level) (bound_of j (held_of j st.found out)) (piece_kind j.kinds level) (numbers_at (set ns level r.number) level) ≡ true
-        member_is = rw (← (placed-is level (omega arith)), number_is, ← t.ready.bound-is) (v.found f).member
+        member_is = rw (← (placed-is level (omega arith)), number_is, ← t.ready.bound-is) v.live.member
 
         short : largest_end j (placed_of j (set ns level r.number) level) < bound_of j (held_of j st.found out)
-        short = rw (← (placed-is level (omega arith)), ← t.ready.bound-is, ← t.ready.end_is) (v.found f).below
+        short = rw (← (placed-is level (omega arith)), ← t.ready.bound-is, ← t.ready.end_is) v.live.below
 
         -- The walk from the new number on, with the numbers as they are then.
         trying_at : whole st₀ out₀ ≡ try_level j (numbers_at (set ns level r.number)) level (numbers_at (set ns level r.number) level) st.left (held_of j st.found out)
@@ -182,7 +180,7 @@ module _ (j : Problem) (ns : List ℕ) (level end : ℕ) where
             ∙ rw (number_is, ← (placed-is level (omega arith)))
 
         live : set_of j (placed_of j ns level) st.bound (piece_kind j.kinds level) r.number ≡ true
-        live = (v.found f).member
+        live = v.live.member
 
         -- What the walk asks once it is placed.
         pub taken-ready : (less : Progress) → less ≡ stepped st → Ready j work out (set ns level r.number) (level + 1) (level + 1) r.extent less
@@ -192,7 +190,7 @@ module _ (j : Problem) (ns : List ℕ) (level end : ℕ) where
               out-fits = t.ready.out-fits;
               room = length-set ns level r.number ∙ t.ready.room;
               admitted = rw placed-more (placed-admitted j (placed_of j ns level) st.bound (piece_kind j.kinds level) r.number live t.ready.admitted);
-              end_is = rw placed-more ((v.found f).reaches ∙ ap (max (entry_extent j (entry_of j (piece_kind j.kinds level) r.number))) t.ready.end_is ∙ sym (end-cons j (entry_of j (piece_kind j.kinds level) r.number) (placed_of j ns level)));
+              end_is = rw placed-more (v.live.reaches ∙ ap (max (entry_extent j (entry_of j (piece_kind j.kinds level) r.number))) t.ready.end_is ∙ sym (end-cons j (entry_of j (piece_kind j.kinds level) r.number) (placed_of j ns level)));
               bound-is = t.ready.bound-is;
               written = t.ready.written;
               running = refl;
@@ -207,7 +205,7 @@ module _ (j : Problem) (ns : List ℕ) (level end : ℕ) where
             rw q (record {
               some = omega arith;
               within = omega arith;
-              below = rw ((v.found f).reaches, t.ready.end_is, ← (end-cons j (entry_of j (piece_kind j.kinds level) r.number) (placed_of j ns level))) (placed_below_lem j (placed_of j ns level) st.bound (piece_kind j.kinds level) r.number live (rw (← t.ready.end_is) (v.found f).below));
+              below = rw (v.live.reaches, t.ready.end_is, ← (end-cons j (entry_of j (piece_kind j.kinds level) r.number) (placed_of j ns level))) (placed_below_lem j (placed_of j ns level) st.bound (piece_kind j.kinds level) r.number live (rw (← t.ready.end_is) v.live.below));
               latest = rw (e, number_is, ← (placed-is level (omega arith))) live;
             })
 

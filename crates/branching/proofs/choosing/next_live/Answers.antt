@@ -1,4 +1,5 @@
 -- `branching::choosing::next_live` meets its contract.
+use mathlib.Core.Logic.{inl}
 use mathlib.Core.Path.{◌≡◌, sym, ap, ◌∙◌, subst}
 use Prim.Native.Nat.{ℕ, ◌+◌, ◌*◌, ◌-◌, ◌≤◌, ◌<◌}
 use native.Mathlib.Omega.{arith}
@@ -12,23 +13,23 @@ use Rattle.stepping.proofs.Kept.{kept-candidate}
 use Rattle.stepping.proofs.Levels.{piece_kind_lem}
 use Rattle.stepping.proofs.Limits.{few-pieces, few_words}
 use Rattle.stepping.proofs.Slots.{part-rest}
-use Rattle.plans.specs.Planned.{planned}
+use Rattle.live_sets.specs.Known.{problem}
 use Rattle.branching.specs.Choosing.{NextLive}
-use Rattle.branching.proofs.Passing.{live-none, live-member}
+use Rattle.branching.proofs.Passing.{live-member}
 use Rattle.branching.proofs.choosing.next_live.Goals as goal
 
-pub returns-then-state-extent : goal.returns-then-state-extent
-returns-then-state-extent c = live-none _ _ _ _ _ _ c.if-state-extent.true
+pub returns-then-state-branch : goal.returns-then-state-branch
+returns-then-state-branch c = inl c.if-state-branch.true
 
-pub bounds-kinds-level : goal.bounds-kinds-level
-bounds-kinds-level c = omega (arith, c.requires.plan_of.1, few-pieces c.args.job.now c.requires.plan_of.0.accepted)
+pub bounds-fixed-branch : goal.bounds-fixed-branch
+bounds-fixed-branch c = omega (arith, c.requires.plan_of.1, few-pieces c.args.fixed.now.job.now c.requires.plan_of.0.accepted)
 
 pub set_start-at-requires : goal.set_start-at-requires
 set_start-at-requires c =
-    let kind_below : get_or c.args.plan.kinds c.args.level 0 < kind_count (content c.args.job.now).kinds =
-    (let kind_is : get_or c.args.plan.kinds c.args.level 0 ≡ piece_kind (content c.args.job.now).kinds
-    c.args.level = c.requires.plan_of.0.kinds c.args.level c.requires.plan_of.1 in
-    rw (kind_is) (piece_kind_lem (content c.args.job.now).kinds c.args.level c.requires.plan_of.1)) in
+    let kind_below : get_or c.args.fixed.now.plan.kinds c.args.branch.now.level 0 < kind_count (content c.args.fixed.now.job.now).kinds =
+    (let kind_is : get_or c.args.fixed.now.plan.kinds c.args.branch.now.level 0 ≡ piece_kind (content c.args.fixed.now.job.now).kinds
+    c.args.branch.now.level = c.requires.plan_of.0.kinds c.args.branch.now.level c.requires.plan_of.1 in
+    rw (kind_is) (piece_kind_lem (content c.args.fixed.now.job.now).kinds c.args.branch.now.level c.requires.plan_of.1)) in
     (c.requires.plan_of.0, c.requires.plan_of.1, kind_below)
 
 pub overflow_mul-at : goal.overflow_mul-at
@@ -36,33 +37,33 @@ overflow_mul-at c = omega (arith, c.set_start-at.ensures.few)
 
 pub slice_bounds-next_in-count : goal.slice_bounds-next_in-count
 slice_bounds-next_in-count c =
-    let room : c.set_start-at.result * 8 + c.args.plan.words * 8 ≤ length c.args.work.now =
+    let room : c.set_start-at.result * 8 + c.args.fixed.now.plan.words * 8 ≤ length c.args.work.now =
     omega (arith, c.set_start-at.ensures.within, c.requires.plan_of.0.words, c.requires.plan_of.2) in
     omega (arith, room)
 
 pub slice_bounds-next_in-start : goal.slice_bounds-next_in-start
 slice_bounds-next_in-start c =
-    let room : c.set_start-at.result * 8 + c.args.plan.words * 8 ≤ length c.args.work.now =
+    let room : c.set_start-at.result * 8 + c.args.fixed.now.plan.words * 8 ≤ length c.args.work.now =
     omega (arith, c.set_start-at.ensures.within, c.requires.plan_of.0.words, c.requires.plan_of.2) in
     omega (arith, room)
 
 pub next_in-requires : goal.next_in-requires
 unfolding slot_of
 next_in-requires c =
-    let room : c.set_start-at.result * 8 + c.args.plan.words * 8 ≤ length c.args.work.now =
+    let room : c.set_start-at.result * 8 + c.args.fixed.now.plan.words * 8 ≤ length c.args.work.now =
     omega (arith, c.set_start-at.ensures.within, c.requires.plan_of.0.words, c.requires.plan_of.2) in
-    let kept : Keeps (planned c.args.job.now c.args.plan) (placed_of (planned c.args.job.now c.args.plan) c.args.numbers
-    c.args.level) c.args.state.bound c.args.state.span (get_or c.args.plan.kinds c.args.level 0)
+    let kept : Keeps (problem c.args.fixed.now) (placed_of (problem c.args.fixed.now) c.args.branch.now.numbers
+    c.args.branch.now.level) c.args.state.bound c.args.state.span (get_or c.args.fixed.now.plan.kinds c.args.branch.now.level 0)
     (take (length c.args.work.now - c.set_start-at.result * 8) (drop (c.set_start-at.result * 8) c.args.work.now)) =
-    (let kind_is : get_or c.args.plan.kinds c.args.level 0 ≡ piece_kind (content c.args.job.now).kinds
-    c.args.level = c.requires.plan_of.0.kinds c.args.level c.requires.plan_of.1 in
-    subst (Keeps (planned c.args.job.now c.args.plan) (placed_of (planned c.args.job.now c.args.plan) c.args.numbers
-    c.args.level) c.args.state.bound c.args.state.span (get_or c.args.plan.kinds c.args.level 0))
+    (let kind_is : get_or c.args.fixed.now.plan.kinds c.args.branch.now.level 0 ≡ piece_kind (content c.args.fixed.now.job.now).kinds
+    c.args.branch.now.level = c.requires.plan_of.0.kinds c.args.branch.now.level c.requires.plan_of.1 in
+    subst (Keeps (problem c.args.fixed.now) (placed_of (problem c.args.fixed.now) c.args.branch.now.numbers
+    c.args.branch.now.level) c.args.state.bound c.args.state.span (get_or c.args.fixed.now.plan.kinds c.args.branch.now.level 0))
     (ap (λ (a : ℕ). drop (a * 8) c.args.work.now) (sym c.set_start-at.ensures.place)
     ∙ sym (part-rest (c.set_start-at.result * 8) c.args.work.now))
-    (subst (λ (u : ℕ). Keeps (planned c.args.job.now c.args.plan) (placed_of (planned c.args.job.now c.args.plan)
-    c.args.numbers c.args.level) c.args.state.bound c.args.state.span u
-    (slot_of (planned c.args.job.now c.args.plan) c.args.work.now c.args.level u)) (sym (kind_is))
+    (subst (λ (u : ℕ). Keeps (problem c.args.fixed.now) (placed_of (problem c.args.fixed.now)
+    c.args.branch.now.numbers c.args.branch.now.level) c.args.state.bound c.args.state.span u
+    (slot_of (problem c.args.fixed.now) c.args.work.now c.args.branch.now.level u)) (sym (kind_is))
     c.requires.spans.1)) in
     record {
       plan_of = (
@@ -70,32 +71,32 @@ next_in-requires c =
         omega (
           arith,
           c.requires.spans.0.within,
-          few_words c.args.job.now c.requires.plan_of.0.accepted,
+          few_words c.args.fixed.now.job.now c.requires.plan_of.0.accepted,
         ),
         rw (part-rest (c.set_start-at.result * 8) c.args.work.now)
             (simp length-drop (omega (arith, room, c.requires.plan_of.0.words, c.requires.spans.0.within))),
       );
-      by_index = λ m h. kept-candidate (planned c.args.job.now c.args.plan) _ _ _ _ _ (kept) m h;
+      by_index = λ m h. kept-candidate (problem c.args.fixed.now) _ _ _ _ _ (kept) m h;
     }
 
 pub returns : goal.returns
 unfolding slot_of
 returns c =
-    let kind_is : get_or c.args.plan.kinds c.args.level 0 ≡ piece_kind (content c.args.job.now).kinds c.args.level =
-    c.requires.plan_of.0.kinds c.args.level c.requires.plan_of.1 in
-    let kept : Keeps (planned c.args.job.now c.args.plan) (placed_of (planned c.args.job.now c.args.plan) c.args.numbers
-    c.args.level) c.args.state.bound c.args.state.span (get_or c.args.plan.kinds c.args.level 0)
+    let kind_is : get_or c.args.fixed.now.plan.kinds c.args.branch.now.level 0 ≡ piece_kind (content c.args.fixed.now.job.now).kinds c.args.branch.now.level =
+    c.requires.plan_of.0.kinds c.args.branch.now.level c.requires.plan_of.1 in
+    let kept : Keeps (problem c.args.fixed.now) (placed_of (problem c.args.fixed.now) c.args.branch.now.numbers
+    c.args.branch.now.level) c.args.state.bound c.args.state.span (get_or c.args.fixed.now.plan.kinds c.args.branch.now.level 0)
     (take (length c.args.work.now - c.set_start-at.result * 8) (drop (c.set_start-at.result * 8) c.args.work.now)) =
-    (let kind_is : get_or c.args.plan.kinds c.args.level 0 ≡ piece_kind (content c.args.job.now).kinds
-    c.args.level = c.requires.plan_of.0.kinds c.args.level c.requires.plan_of.1 in
-    subst (Keeps (planned c.args.job.now c.args.plan) (placed_of (planned c.args.job.now c.args.plan) c.args.numbers
-    c.args.level) c.args.state.bound c.args.state.span (get_or c.args.plan.kinds c.args.level 0))
+    (let kind_is : get_or c.args.fixed.now.plan.kinds c.args.branch.now.level 0 ≡ piece_kind (content c.args.fixed.now.job.now).kinds
+    c.args.branch.now.level = c.requires.plan_of.0.kinds c.args.branch.now.level c.requires.plan_of.1 in
+    subst (Keeps (problem c.args.fixed.now) (placed_of (problem c.args.fixed.now) c.args.branch.now.numbers
+    c.args.branch.now.level) c.args.state.bound c.args.state.span (get_or c.args.fixed.now.plan.kinds c.args.branch.now.level 0))
     (ap (λ (a : ℕ). drop (a * 8) c.args.work.now) (sym c.set_start-at.ensures.place)
     ∙ sym (part-rest (c.set_start-at.result * 8) c.args.work.now))
-    (subst (λ (u : ℕ). Keeps (planned c.args.job.now c.args.plan) (placed_of (planned c.args.job.now c.args.plan)
-    c.args.numbers c.args.level) c.args.state.bound c.args.state.span u
-    (slot_of (planned c.args.job.now c.args.plan) c.args.work.now c.args.level u)) (sym (kind_is))
+    (subst (λ (u : ℕ). Keeps (problem c.args.fixed.now) (placed_of (problem c.args.fixed.now)
+    c.args.branch.now.numbers c.args.branch.now.level) c.args.state.bound c.args.state.span u
+    (slot_of (problem c.args.fixed.now) c.args.work.now c.args.branch.now.level u)) (sym (kind_is))
     c.requires.spans.1)) in
-    subst (λ (u : ℕ). NextLive (planned c.args.job.now c.args.plan) (placed_of (planned c.args.job.now c.args.plan)
-    c.args.numbers c.args.level) c.args.state.bound u c.args.extent c.args.from c.next_in.result) (kind_is)
-    (live-member _ _ _ _ _ _ _ _ c.requires.spans.0 (kept) _ c.if-state-extent.false c.next_in.ensures)
+    subst (λ (u : ℕ). NextLive (problem c.args.fixed.now) (placed_of (problem c.args.fixed.now)
+    c.args.branch.now.numbers c.args.branch.now.level) c.args.state.bound u c.args.branch.now.extent c.args.from c.next_in.result) (kind_is)
+    (live-member _ _ _ _ _ _ _ _ c.requires.spans.0 (kept) _ c.if-state-branch.false c.next_in.ensures)

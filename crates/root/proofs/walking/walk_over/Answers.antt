@@ -10,7 +10,7 @@ make_nofit-requires c = record {
 
 pub try_piece-requires : goal.try_piece-requires
 try_piece-requires c = record {
-  known = (record { plan = c.requires.computed.plan; table = c.requires.computed.table; nofit = c.make_nofit.ensures }, (accepted-sensible c.args.job.now c.args.plan.margin c.requires.computed.viewed.accepted).pieced);
+  known = (record { plan = c.requires.computed.plan; table = c.requires.computed.table; nofit = c.make_nofit.ensures }, (accepted-sensible c.args.prepared.now.job.now c.args.plan.margin c.requires.computed.viewed.accepted).pieced);
   ready = c.requires.ready;
 }
 
