@@ -1,4 +1,5 @@
 pub mod Loops
+pub mod CornerReads
 pub mod ClassLaws
 pub mod RisingLaws
 pub mod KindLaws

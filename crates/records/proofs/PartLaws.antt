@@ -10,13 +10,6 @@ use lib.Dec.{eqb}
 use lib.IntN.{ℤ, ◌-ℤ◌, ◌*ℤ◌}
 use lib.ListN.{get_or, drop, length-map}
 use lib.Seq.{ext_get_or}
-use mir.Syntax.{w8, w16}
-use mir.Val.{Fits, SFits, to_z, of_z}
-use Rattle.integers.proofs.Bytes.{signed-fits}
-use Rattle.integers.proofs.Machine.{fits₂, gives₂}
-use Rattle.integers.proofs.Sizes.{sized}
-use Rattle.integers.proofs.Solver.{◌⊟◌}
-use Rattle.integers.specs.Byte.{signed}
 use Rattle.model.specs.Content.{Vertex, origin}
 use Rattle.model.specs.Format.{byte_at, vertices, vertex_in_range}
 use Rattle.model.specs.Geometry.{strictly_left, vertex_at, following, edge_sound}
@@ -82,25 +75,6 @@ module _ (s : List ℕ) (n : ℕ) where
   pub unfit_same : unfit_from s n ≡ (not (Geometry.sound (vertices n (drop 1 s))) || not (all vertex_in_range (vertices n (drop 1 s))))
   unfolding unfit_from in_range_from
   unfit_same = rw (sound-same, part-corners)
-
--- ---- Differences of signed bytes
-
-module _ (x y : ℤ) (a b : ℕ) (ex : x ≡ signed a) (ey : y ≡ signed b) (fa : Fits w8 a) (fb : Fits w8 b) where
-  wide_x : SFits w16 x
-  wide_x = rw ex (sized w8 w16 1 (λ v. v) tt (signed a) (signed-fits a fa))
-
-  wide_y : SFits w16 y
-  wide_y = rw ey (sized w8 w16 1 (λ v. v) tt (signed b) (signed-fits b fb))
-
-  fits : SFits w16 (x -ℤ y)
-  fits = rw (ex, ey) (sized w8 w16 2 (λ v w. v ⊟ w) tt (signed a) (signed b) (signed-fits a fa) (signed-fits b fb))
-
-  -- It does not wrap, and is the difference of the signed values.
-  pub difference_fits : SFits w16 (to_z w16 (of_z w16 x) -ℤ to_z w16 (of_z w16 y))
-  difference_fits = fits₂ w16 x y wide_x wide_y (λ v w. v -ℤ w) fits
-
-  pub difference_is : to_z w16 (of_z w16 (to_z w16 (of_z w16 x) -ℤ to_z w16 (of_z w16 y))) ≡ signed a -ℤ signed b
-  difference_is = gives₂ w16 x y wide_x wide_y (λ v w. v -ℤ w) fits ∙ rw (ex, ey)
 
 -- The turn at a corner, from its four differences.
 pub turn_is : (p q r : Vertex) (area ax ay bx by : ℤ) → area ≡ ax *ℤ by -ℤ ay *ℤ bx

@@ -2,6 +2,7 @@
 #![tactic(auto)]
 
 pub mod classes;
+pub mod corners;
 pub mod kinds;
 pub mod parts;
 pub mod rising;

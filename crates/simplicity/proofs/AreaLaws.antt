@@ -1,28 +1,24 @@
 -- The doubled area as the sum over the corner numbers, and its size.
 use mathlib.Core.List.{List, [], ◌∷◌}
-use mathlib.Core.Path.{◌≡◌, refl, sym, ap, ap₂, ◌∙◌}
+use mathlib.Core.Path.{◌≡◌, refl, sym, ap, ap₂, subst, ◌∙◌}
 use mathlib.Core.Logic.{⊎_elim}
-use Prim.Native.Nat.{ℕ, zero, suc, ◌+◌, ◌*◌, ◌≤◌, ◌<◌, zero-le}
+use Prim.Native.Nat.{ℕ, zero, suc, ◌+◌, ◌*◌, ◌≤◌, ◌<◌}
 use native.Mathlib.Numerals.{add-one}
 use native.Mathlib.Omega.{arith}
 use lib.IntN.{ℤ, pos, nat_abs, ◌+ℤ◌, ◌-ℤ◌, ◌*ℤ◌}
 use lib.ListN.{length, get_or}
 use mir.Syntax.{w8, w64}
-use mir.Val.{Fits, SFits, to_z, of_z}
+use mir.Val.{SFits, to_z, of_z}
+use mir.ValLaws.{to_z-of_z}
 use Rattle.integers.proofs.Absolute.{nat_abs-+ℤ}
-use Rattle.integers.proofs.Bytes.{signed-fits}
-use Rattle.integers.proofs.Machine.{op_fits, op_gives}
 use Rattle.integers.proofs.Sizes.{bounded, size_of, fits-64}
 use Rattle.integers.proofs.Solver.{ring, #, ◌⊞◌, ◌⊟◌, ◌⊠◌, ◌≈◌}
-use Rattle.integers.specs.Byte.{signed}
 use Rattle.model.specs.Content.{Vertex, origin}
-use Rattle.model.specs.Format.{byte_at}
 use Rattle.model.specs.Geometry.{vertex_at, following}
 use Rattle.outlines.specs.Outline.{last_of, path_sum, edge_sum, det, doubled_area}
 use Rattle.outlines.proofs.Places.{last_get_or, following-is}
-use Rattle.records.specs.Parts.{vertex_from, part_from, next_of}
 use Rattle.simplicity.specs.Corners.{sum_below, edge_area}
-use Rattle.simplicity.proofs.CornerLaws.{part_length, corner-at, next_corner}
+use Rattle.simplicity.proofs.CornerLaws.{following-of}
 
 -- ---- Sums over the numbers below k
 
@@ -65,16 +61,13 @@ module _ (F : Vertex → Vertex → ℤ) where
       outer : F (last_of a bs) a ≡ F (get_or P (length bs) origin) (get_or P (following P (length bs)) origin)
       outer = ⊎_elim (λ r. ap₂ F (last_get_or a (a ∷ bs) (length bs) refl) (ap (λ j. get_or P j origin) (sym r.1))) (λ r. absurd (r.0 refl)) (following-is P (length bs))
 
--- The doubled area of the outline that stands in a part.
-pub area_is : (s : List ℕ) (n : ℕ) → sum_below (edge_area s n) n ≡ doubled_area (part_from s n)
+-- The doubled area of an outline.
+pub area_is : (P : List Vertex) → sum_below (edge_area P) (length P) ≡ doubled_area P
 unfolding doubled_area edge_area
-area_is s n = sym (edge_sum_lem det P ∙ ap (sum_below edge) (part_length s n) ∙ sum_same edge (edge_area s n) n (λ i h. ap₂ det (corner-at s n i h) (next_corner s n i h)))
-  where
-    P : List Vertex
-    P = part_from s n
-
-    edge : ℕ → ℤ
-    edge i = det (vertex_at P i) (vertex_at P (following P i))
+area_is P =
+    sym (edge_sum_lem det P
+    ∙ sum_same (λ i. det (vertex_at P i) (vertex_at P (following P i))) (edge_area P) (length P)
+    (λ i h. ap (λ q. det (vertex_at P i) (vertex_at P q)) (following-of P i)))
 
 -- What an edge adds, from the coordinates of its ends.
 pub det-is : (a b : Vertex) (z ax ay bx by : ℤ) → z ≡ ax *ℤ by -ℤ ay *ℤ bx → ax ≡ a.x → ay ≡ a.y → bx ≡ b.x → by ≡ b.y → z ≡ det a b
@@ -83,37 +76,24 @@ det-is a b z ax ay bx by e p q r t = rw (e, p, q, r, t)
 
 -- ---- Sizes
 
--- A coordinate of a byte is at most 128 away from 0, and so an edge adds at most 2 ^ 15.
-module _ (s : List ℕ) (bytes : (i : ℕ) → Fits w8 (get_or s i 0)) where
-  coordinate-small : (i : ℕ) → nat_abs (signed (byte_at s i)) ≤ 128
-  unfolding byte_at
-  coordinate-small i = size_of w8 (signed (get_or s i 0)) (signed-fits (get_or s i 0) (bytes i))
+-- Coordinates of bytes are at most 128 away from 0, and so an edge adds at most 2 ^ 15.
+pub edge_small : (a b : Vertex) → SFits w8 a.x → SFits w8 a.y → SFits w8 b.x → SFits w8 b.y → nat_abs (det a b) ≤ 32768
+unfolding det
+edge_small a b p q r t =
+    bounded (128 ∷ 128 ∷ 128 ∷ 128 ∷ []) 4 (λ p q r t. p ⊠ t ⊟ q ⊠ r) a.x a.y b.x b.y (size_of w8 a.x p) (size_of w8 a.y q) (size_of w8 b.x r)
+    (size_of w8 b.y t)
 
-  edge_small : (n i : ℕ) → nat_abs (edge_area s n i) ≤ 32768
-  unfolding edge_area det
-  edge_small n i =
-      let a = vertex_from s i in
-      let b = vertex_from s (next_of n i) in
-      bounded (128 ∷ 128 ∷ 128 ∷ 128 ∷ []) 4 (λ p q r t. p ⊠ t ⊟ q ⊠ r) a.x a.y b.x b.y (coordinate-small (i * 2 + 1))
-      (coordinate-small (i * 2 + 2)) (coordinate-small (next_of n i * 2 + 1)) (coordinate-small (next_of n i * 2 + 2))
+-- One edge more, of up to eight, in 64 bits.
+module _ (P : List Vertex) (k : ℕ) (h : k < 8) (a d : ℤ) (small : nat_abs a ≤ k * 32768) (more : nat_abs d ≤ 32768) where
+  sum-small : nat_abs (a +ℤ d) ≤ (k + 1) * 32768
+  sum-small = let z = nat_abs-+ℤ a d in omega (arith, z)
 
-  sum-small : (n k : ℕ) → nat_abs (sum_below (edge_area s n) k) ≤ k * 32768
+  pub more_fits : SFits w64 (a +ℤ d)
+  more_fits = fits-64 (a +ℤ d) (omega (arith, sum-small))
+
+  pub more_is : a ≡ sum_below (edge_area P) k → d ≡ edge_area P k
+      → (to_z w64 (of_z w64 (a +ℤ d)) ≡ sum_below (edge_area P) (k + 1)) × (nat_abs (to_z w64 (of_z w64 (a +ℤ d))) ≤ (k + 1) * 32768)
   unfolding sum_below
-  sum-small n zero = zero-le
-  sum-small n (suc k) =
-      let step : nat_abs (sum_below (edge_area s n) k +ℤ edge_area s n k) ≤ nat_abs (sum_below (edge_area s n) k) + nat_abs (edge_area s n k) = nat_abs-+ℤ (sum_below (edge_area s n) k) (edge_area s n k) in
-      omega (arith, step, sum-small n k, edge_small n k)
-
-  -- The sum over up to eight edges.
-  area_fits : (n k : ℕ) → k ≤ 8 → SFits w64 (sum_below (edge_area s n) k)
-  area_fits n k h = fits-64 (sum_below (edge_area s n) k) (omega (arith, sum-small n k, h))
-
-  -- One edge more, in 64 bits.
-  module _ (n k : ℕ) (h : k < 8) (a d : ℤ) (ea : a ≡ sum_below (edge_area s n) k) (ed : d ≡ edge_area s n k) where
-    pub more_fits : SFits w64 (a +ℤ d)
-    unfolding sum_below
-    more_fits = op_fits ea ed ◌+ℤ◌ (area_fits n (suc k) (omega arith))
-
-    pub more_is : to_z w64 (of_z w64 (a +ℤ d)) ≡ sum_below (edge_area s n) (k + 1)
-    unfolding sum_below
-    more_is = op_gives ea ed ◌+ℤ◌ (area_fits n (suc k) (omega arith)) ∙ ap (sum_below (edge_area s n)) (sym (add-one k))
+  more_is ea ed =
+      let e = to_z-of_z w64 (a +ℤ d) more_fits in
+      (e ∙ ap₂ ◌+ℤ◌ ea ed ∙ ap (sum_below (edge_area P)) (sym (add-one k)), subst (λ z. nat_abs z ≤ (k + 1) * 32768) (sym e) sum-small)

@@ -1,20 +1,41 @@
--- The corners of a part by their numbers, and the neighbours of each.
-use mathlib.Core.Bool.{Bool, true, false, cond}
+-- The corners of an outline by their numbers, and the neighbours of each.
 use mathlib.Core.List.{List}
-use mathlib.Core.Path.{◌≡◌, refl, sym, ap, ◌∙◌}
-use Prim.Native.Nat.{ℕ, ◌-◌, ◌<◌}
+use mathlib.Core.Path.{◌≡◌, refl, sym, ◌∙◌}
+use Prim.Native.Nat.{ℕ, ◌+◌, ◌*◌, ◌/◌, ◌<◌, ◌≤◌}
 use native.Mathlib.Numerals.{add-one}
 use native.Mathlib.Omega.{arith}
-use lib.Dec.{eqb}
-use lib.ListN.{length, get_or, length-map}
-use Rattle.model.specs.Content.{Vertex, origin}
+use lib.ListN.{length, get_or, take, length-take}
+use lib.Seq.{ext_get_or, get_or-take}
+use Rattle.std.proofs.lemmas.List.{get_or_default}
+use Rattle.integers.specs.Byte.{signed}
+use Rattle.model.specs.Content.{Vertex, vertex, origin}
+use Rattle.model.specs.Format.{byte_at, vertices}
+use Rattle.model.proofs.Records.{length-vertices, vertex-at}
+use Rattle.outlines.specs.Outline.{outline_in}
 use Rattle.model.specs.Geometry.{vertex_at, following}
-use Rattle.model.specs.Lists.{below}
-use Rattle.model.proofs.Lists.{length-below}
 use Rattle.outlines.specs.Numbered.{previous}
-use Rattle.records.specs.Parts.{vertex_from, part_from, next_of}
-use Rattle.records.proofs.PartLaws.{corner, part-corners, next_lt}
+use Rattle.records.specs.Parts.{next_of}
 use Rattle.simplicity.specs.Corners.{previous_of}
+
+-- The corner whose x stands at byte i.
+abbrev pub vertex_in : List ℕ → ℕ → Vertex
+vertex_in s i = vertex (signed (byte_at s i)) (signed (byte_at s (i + 1)))
+
+-- A corner that was read.
+pub corner-is : (P : List Vertex) (i : ℕ) (v : Vertex) → i < length P → v ≡ get_or P i v → v ≡ vertex_at P i
+unfolding vertex_at
+corner-is P i v h e = e ∙ get_or_default P i v origin h
+
+-- The corners of which each was read from the outline are the outline's.
+pub corners-all : (s : List ℕ) (cs : List Vertex) (n : ℕ) → n ≡ length s / 2 → n ≤ length cs
+    → ((i : ℕ) → i < n → get_or cs i origin ≡ vertex_in s (i * 2)) → take (length s / 2) cs ≡ outline_in s
+unfolding outline_in
+corners-all s cs n e h f =
+    ext_get_or origin (take (length s / 2) cs) (vertices (length s / 2) s)
+    (omega (arith, length-take (length s / 2) cs, length-vertices (length s / 2) s))
+    (λ i l.
+    let m : i < length s / 2 = omega (arith, l, length-take (length s / 2) cs) in
+    get_or-take (length s / 2) cs i origin m ∙ f i (omega arith) ∙ sym (vertex-at (length s / 2) s i m))
 
 -- The corners after and before corner i, by the number of corners.
 pub following-of : (P : List Vertex) (i : ℕ) → following P i ≡ next_of (length P) i
@@ -24,35 +45,3 @@ following-of P i = rw add-one
 pub previous-of : (P : List Vertex) (i : ℕ) → previous P i ≡ previous_of (length P) i
 unfolding previous previous_of
 previous-of P i = refl
-
-previous-lt : (n i : ℕ) → i < n → previous_of n i < n
-unfolding previous_of
-previous-lt n i h = go (eqb i 0)
-  where
-    go : (b : Bool) → cond b (n - 1) (i - 1) < n
-    go true = omega arith
-    go false = omega arith
-
-module _ (s : List ℕ) (n : ℕ) where
-  pub part_length : length (part_from s n) ≡ n
-  part_length = length-map (below n) (vertex_from s) ∙ length-below n
-
-  -- Corner i, the one after it, and the one before it.
-  pub corner-get : (i : ℕ) → i < n → get_or (part_from s n) i origin ≡ vertex_from s i
-  corner-get i h = ap (λ P. get_or P i origin) (sym (part-corners s n)) ∙ corner s n i h
-
-  pub corner-at : (i : ℕ) → i < n → vertex_at (part_from s n) i ≡ vertex_from s i
-  unfolding vertex_at
-  corner-at i h = corner-get i h
-
-  pub next_at : (i : ℕ) → following (part_from s n) i ≡ next_of n i
-  next_at i = following-of (part_from s n) i ∙ ap (λ m. next_of m i) part_length
-
-  pub previous-at : (i : ℕ) → previous (part_from s n) i ≡ previous_of n i
-  previous-at i = previous-of (part_from s n) i ∙ ap (λ m. previous_of m i) part_length
-
-  pub next_corner : (i : ℕ) → i < n → vertex_at (part_from s n) (following (part_from s n) i) ≡ vertex_from s (next_of n i)
-  next_corner i h = ap (vertex_at (part_from s n)) (next_at i) ∙ corner-at (next_of n i) (next_lt s n i h)
-
-  pub previous-corner : (i : ℕ) → i < n → vertex_at (part_from s n) (previous (part_from s n) i) ≡ vertex_from s (previous_of n i)
-  previous-corner i h = ap (vertex_at (part_from s n)) (previous-at i) ∙ corner-at (previous_of n i) (previous-lt n i h)

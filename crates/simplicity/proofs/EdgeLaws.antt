@@ -1,15 +1,16 @@
--- The refusal by the corner numbers of a part: each test is the definition's.
+-- The refusal by the corner numbers: each test is the definition's.
 use mathlib.Core.Bool.{Bool, not, ◌&&◌, ◌||◌, and_assoc, or_assoc}
 use mathlib.Core.List.{List}
 use mathlib.Core.Path.{◌≡◌, sym, ap, ◌∙◌}
 use Prim.Native.Nat.{ℕ, ◌≤◌, ◌<◌}
-use native.Mathlib.Omega.{arith}
 use borrow.Author.Tests.{eq-eqb, eqb-true}
 use lib.Dec.{eqb, lit<}
 use lib.IntN.{ℤ, pos, ◌+ℤ◌, ◌-ℤ◌, ◌*ℤ◌}
+use lib.ListN.{length}
 use lib.Signed.{le_z, lt_z}
-use mir.Syntax.{w64}
-use mir.Val.{SFits, of_z}
+use mir.Syntax.{w8, w64}
+use mir.Val.{SFits, to_z, of_z}
+use mir.ValLaws.{to_z-of_z}
 use Rattle.integers.proofs.Machine.{same_bits}
 use Rattle.model.specs.Content.{Vertex}
 use Rattle.model.specs.Geometry.{cross, along_edge, vertex_at}
@@ -21,43 +22,50 @@ use Rattle.outlines.specs.Numbered.{others}
 use Rattle.outlines.proofs.Rule.{zero_is, is_zero_lem}
 use Rattle.outlines.proofs.Places.{same_bool}
 use Rattle.outlines.proofs.EdgePlaces.{strikes, edge_at, edges_at}
-use Rattle.records.specs.Parts.{vertex_from, part_from, next_of}
-use Rattle.simplicity.specs.Corners.{coordinate_from, less_from, apart_from, previous_of, neighbours, strikes_from, edge_meets_from}
-use Rattle.simplicity.proofs.CornerLaws.{part_length, corner-at, next_at, previous-at, next_corner, previous-corner}
+use Rattle.simplicity.specs.Corners.{neighbours, strikes_in, edge_meets_in}
+use Rattle.simplicity.proofs.CornerLaws.{following-of, previous-of}
 
 -- ---- Two edges
 
+-- A coordinate as a call hands it on.
+abbrev lent : ℤ → ℤ
+lent z = to_z w8 (of_z w8 z)
+
+pub less_read : (p u t : ℤ) (r : Bool) → SFits w8 p → SFits w8 u → SFits w8 t → r ≡ (lt_z (lent p) (lent u) && lt_z (lent p) (lent t))
+    → r ≡ (lt_z p u && lt_z p t)
+less_read p u t r fp fu ft e =
+    e ∙ (λ i. lt_z (to_z-of_z w8 p fp i) (to_z-of_z w8 u fu i) && lt_z (to_z-of_z w8 p fp i) (to_z-of_z w8 t ft i))
+
 -- Both ends of an edge are less than both ends of the other.
-pub less_than_lem : (s : List ℕ) (a b u t axis : ℕ) → (less_from s a u t axis && less_from s b u t axis)
-    ≡ less_than (coordinate_from s a axis) (coordinate_from s b axis) (coordinate_from s u axis) (coordinate_from s t axis)
-unfolding less_from less_than
-less_than_lem s a b u t axis = sym (and_assoc (less_from s a u t axis) (lt_z (coordinate_from s b axis) (coordinate_from s u axis)) (lt_z (coordinate_from s b axis) (coordinate_from s t axis)))
+pub less_than_lem : (a b u t : ℤ) → ((lt_z a u && lt_z a t) && (lt_z b u && lt_z b t)) ≡ less_than a b u t
+unfolding less_than
+less_than_lem a b u t = sym (and_assoc (lt_z a u && lt_z a t) (lt_z b u) (lt_z b t))
+
+module _ (a b u t : ℤ) (fa : SFits w8 a) (fb : SFits w8 b) (fu : SFits w8 u) (ft : SFits w8 t) where
+  pub apart-read : (w x y z : ℤ) (r : Bool)
+      → r ≡ (less_than (lent a) (lent b) (lent u) (lent t) || less_than (lent u) (lent t) (lent a) (lent b)) → a ≡ w → b ≡ x → u ≡ y → t ≡ z
+      → r ≡ (less_than w x y z || less_than y z w x)
+  apart-read w x y z r e ew ex ey ez =
+      let back : (v v' : ℤ) → SFits w8 v → v ≡ v' → lent v ≡ v' = λ (v v' : ℤ) (f : SFits w8 v) (q : v ≡ v'). to_z-of_z w8 v f ∙ q in
+      let A = back a w fa ew in
+      let B = back b x fb ex in
+      let U = back u y fu ey in
+      let T = back t z ft ez in
+      e ∙ (λ i. less_than (A i) (B i) (U i) (T i) || less_than (U i) (T i) (A i) (B i))
 
 -- The two tests along an axis are one function of the code.
 six : (a b c d e f : Bool) → (((a || b) || (c || d)) || (e || f)) ≡ (a || b || c || d || e || f)
 six a b c d e f = ap (λ x. x || (e || f)) (sym (or_assoc (a || b) c d)) ∙ sym (or_assoc (a || b || c || d) e f)
 
 -- They meet, from the four tests of them.
-module _ (s : List ℕ) (a b u t : ℕ) where
-  abbrev A : Vertex
-  A = vertex_from s a
-
-  abbrev B : Vertex
-  B = vertex_from s b
-
-  abbrev U : Vertex
-  U = vertex_from s u
-
-  abbrev T : Vertex
-  T = vertex_from s t
-
-  pub meet-is : (p q x y : Bool) → p ≡ same_side A B U T → q ≡ same_side U T A B → x ≡ apart_from s a b u t 1 → y ≡ apart_from s a b u t 2
-      → not (p || q || x || y) ≡ meet A B U T
-  unfolding meet apart_from
-  meet-is p q x y ep eq ex ey =
-      ap not ((λ i. ep i || eq i || ex i || ey i)
-      ∙ six (same_side A B U T) (same_side U T A B) (less_than A.x B.x U.x T.x) (less_than U.x T.x A.x B.x)
-      (less_than A.y B.y U.y T.y) (less_than U.y T.y A.y B.y))
+pub meet-is : (a b u t : Vertex) (p q x y : Bool) → p ≡ same_side a b u t → q ≡ same_side u t a b
+    → x ≡ (less_than a.x b.x u.x t.x || less_than u.x t.x a.x b.x) → y ≡ (less_than a.y b.y u.y t.y || less_than u.y t.y a.y b.y)
+    → not (p || q || x || y) ≡ meet a b u t
+unfolding meet
+meet-is a b u t p q x y ep eq ex ey =
+    ap not ((λ i. ep i || eq i || ex i || ey i)
+    ∙ six (same_side a b u t) (same_side u t a b) (less_than a.x b.x u.x t.x) (less_than u.x t.x a.x b.x) (less_than a.y b.y u.y t.y)
+    (less_than u.y t.y a.y b.y))
 
 -- A number is 0 exactly if its 64 bits are: what `== 0` says.
 pub zero_bits : (z : ℤ) → SFits w64 z → eqb (of_z w64 z) 0 ≡ is_zero z
@@ -78,25 +86,22 @@ doubles_is p c s line z ax ay bx by l e a b d f = rw (l, e, a, b, d, f)
 any-below-same : (p q : ℕ → Bool) (n : ℕ) → ((i : ℕ) → i < n → p i ≡ q i) → any p (below n) ≡ any q (below n)
 any-below-same p q n h = sym (any-map (λ b. b) p (below n)) ∙ ap (any (λ b. b)) (map-below-same p q n h) ∙ any-map (λ b. b) q (below n)
 
-module _ (s : List ℕ) (n : ℕ) where
-  abbrev P : List Vertex
-  P = part_from s n
+module _ (P : List Vertex) where
+  -- Edge j strikes edge i, and edge i meets another, by the numbers of their corners.
+  strikes_same : (i j : ℕ) → strikes P i j ≡ strikes_in P i j
+  unfolding strikes_in neighbours
+  strikes_same i j =
+      λ k. not (eqb j i || eqb j (previous-of P i k) || eqb j (following-of P i k))
+      && meet (vertex_at P i) (vertex_at P (following-of P i k)) (vertex_at P j) (vertex_at P (following-of P j k))
 
-  -- Edge j strikes edge i, and edge i meets another, by the outline and by the part.
-  strikes_same : (i j : ℕ) → i < n → j < n → strikes P i j ≡ strikes_from s n i j
-  unfolding strikes_from neighbours
-  strikes_same i j h l k =
-      not (eqb j i || eqb j (previous-at s n i k) || eqb j (next_at s n i k))
-      && meet (corner-at s n i h k) (next_corner s n i h k) (corner-at s n j l k) (next_corner s n j l k)
-
-  edge_same : (i : ℕ) → 3 ≤ n → i < n → edge_meets (vertex_at P i) (others P i) ≡ edge_meets_from s n i
-  unfolding edge_meets_from
+  edge_same : (i : ℕ) → 3 ≤ length P → i < length P → edge_meets (vertex_at P i) (others P i) ≡ edge_meets_in P i
+  unfolding edge_meets_in
   edge_same i three h =
-      edge_at P i (omega (arith, part_length s n)) (omega (arith, part_length s n))
-      ∙ (λ k. doubles_back (previous-corner s n i h k) (corner-at s n i h k) (next_corner s n i h k) || any (strikes P i) (below (part_length s n k)))
-      ∙ ap (λ b. doubles_back (vertex_from s (previous_of n i)) (vertex_from s i) (vertex_from s (next_of n i)) || b) (any-below-same (strikes P i) (strikes_from s n i) n (λ j l. strikes_same i j h l))
+      edge_at P i h three
+      ∙ (λ k. doubles_back (vertex_at P (previous-of P i k)) (vertex_at P i) (vertex_at P (following-of P i k))
+      || any-below-same (strikes P i) (strikes_in P i) (length P) (λ j l. strikes_same i j) k)
 
   -- Some two edges meet elsewhere than in a corner they share.
-  pub edges_same : 3 ≤ n → any (edge_meets_from s n) (below n) ≡ edges_meet (part_from s n)
-  edges_same three = sym (edges_at P ∙ ap (λ m. any (λ i. edge_meets (vertex_at P i) (others P i)) (below m)) (part_length s n)
-      ∙ any-below-same (λ i. edge_meets (vertex_at P i) (others P i)) (edge_meets_from s n) n (λ i h. edge_same i three h))
+  pub edges_same : 3 ≤ length P → any (edge_meets_in P) (below (length P)) ≡ edges_meet P
+  edges_same three =
+      sym (edges_at P ∙ any-below-same (λ i. edge_meets (vertex_at P i) (others P i)) (edge_meets_in P) (length P) (λ i h. edge_same i three h))

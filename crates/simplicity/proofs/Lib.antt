@@ -1,5 +1,4 @@
--- The outline in the form of a part, its corners by their numbers, and cause 14 from tests of them.
-pub mod PartLaws
+-- The corners of an outline by their numbers, and cause 14 from tests of them.
 pub mod CornerLaws
 pub mod AreaLaws
 pub mod EdgeLaws

@@ -1,34 +1,31 @@
 // The doubled area of an outline, positive if its corners go round anticlockwise.
-ghost use Rattle.std.specs.Prelude.{◌≡◌, ◌≤◌, ◌<◌, length};
+ghost use Rattle.std.specs.Prelude.{◌≡◌, ◌≤◌, length, nat_abs};
 ghost use Rattle.outlines.specs.Outline.{det, doubled_area};
-ghost use Rattle.records.specs.Parts.{vertex_from, part_from};
 
-use crate::corners::coordinate;
+use records::corners::Corner;
 use records::parts::next;
 
-// What an edge from corner p to corner q adds.
-fn determinant(part: &[u8], p: usize, q: usize) -> i64
-    requires { (16 < length part.now) × ((p < 8) × (q < 8)) }
-    ensures { result ≡ det (vertex_from part.now p) (vertex_from part.now q) }
+// What an edge from corner p to corner q adds: at most 2 ^ 15, as the coordinates are those of bytes.
+fn determinant(p: Corner, q: Corner) -> i64
+    ensures value { result ≡ det p q }
+    ensures small { nat_abs result ≤ 32768 }
 {
     integers::cross(
-        coordinate(part, p, 1),
-        coordinate(part, p, 2),
-        coordinate(part, q, 1),
-        coordinate(part, q, 2),
+        i16::from(p.x),
+        i16::from(p.y),
+        i16::from(q.x),
+        i16::from(q.y),
     )
 }
 
-// The sum over the edges of n corners.
-pub fn doubled_area(part: &[u8], n: usize) -> i64
-    requires { (16 < length part.now) × (n ≤ 8) }
-    ensures { result ≡ doubled_area (part_from part.now n) }
+// The sum over the edges.
+pub fn doubled_area(corners: &[Corner]) -> i64
+    requires { length corners.now ≤ 8 }
+    ensures { result ≡ doubled_area corners.now }
 {
     let mut area = 0;
-    let mut k = 0;
-    while k < n {
-        area = area + determinant(part, k, next(k, n));
-        k += 1;
+    for k in 0..corners.len() {
+        area += determinant(corners[k], corners[next(k, corners.len())]);
     }
     area
 }

@@ -1,6 +1,9 @@
-// The corners of an outline by their numbers. The outline stands in the form of a part (`part`), which has room for eight.
-ghost use Rattle.std.specs.Prelude.{◌≡◌, ◌≤◌, ◌<◌, length};
-ghost use Rattle.simplicity.specs.Corners.{previous_of, coordinate_from};
+// The corners of an outline, and their numbers.
+ghost use Rattle.std.specs.Prelude.{◌≡◌, ◌≤◌, ◌<◌, ◌/◌, length, take};
+ghost use Rattle.outlines.specs.Outline.{outline_in};
+ghost use Rattle.simplicity.specs.Corners.{previous_of};
+
+use records::corners::Corner;
 
 // The corner before corner i of n: the last one before the first.
 pub fn previous(i: usize, n: usize) -> usize
@@ -10,10 +13,14 @@ pub fn previous(i: usize, n: usize) -> usize
     if i == 0 { n - 1 } else { i - 1 }
 }
 
-// A coordinate of corner i: x where `axis` is 1, y where it is 2.
-pub fn coordinate(part: &[u8], i: usize, axis: usize) -> i16
-    requires { (16 < length part.now) × ((i < 8) × (axis ≤ 2)) }
-    ensures { result ≡ coordinate_from part.now i axis }
+// The corners in the bytes of an outline, in front; there is room for eight.
+pub fn corners_in(outline: &[u8]) -> [Corner; 8]
+    requires { length outline.now ≤ 17 }
+    ensures { take (length outline.now / 2) result ≡ outline_in outline.now }
 {
-    integers::signed_byte(part, i * 2 + axis)
+    let mut corners = [Corner { x: 0, y: 0 }; 8];
+    for k in 0..outline.len() / 2 {
+        corners[k] = Corner::read(outline, k * 2);
+    }
+    corners
 }

@@ -1,71 +1,64 @@
 // Do two edges of an outline meet anywhere but at the corner that neighbours share? Edge i goes from corner i to the one after it.
-ghost use Rattle.std.specs.Prelude.{◌≡◌, ◌≤◌, ◌<◌, length};
+ghost use Rattle.std.specs.Prelude.{◌≡◌, ◌≤◌, ◌<◌, ◌||◌, ◌&&◌, length};
+ghost use Rattle.std.specs.Int.Signed.{lt_z};
 ghost use Rattle.model.specs.Geometry.{cross};
-ghost use Rattle.outlines.specs.Outline.{is_zero, same_side, meet, doubles_back, edges_meet};
-ghost use Rattle.records.specs.Parts.{vertex_from, part_from};
-ghost use Rattle.simplicity.specs.Corners.{less_from, apart_from, neighbours, strikes_from, edge_meets_from};
+ghost use Rattle.outlines.specs.Outline.{is_zero, less_than, same_side, meet, doubles_back, edges_meet};
+ghost use Rattle.simplicity.specs.Corners.{neighbours, strikes_in, edge_meets_in};
 
-use crate::corners::{coordinate, previous};
-use records::parts::{difference, next, strictly_left, turn};
+use crate::corners::previous;
+use records::corners::{Corner, difference, strictly_left, turn};
+use records::parts::next;
 
 // Corners u and t lie strictly on one side of the line through corners a and b.
-fn same_side(part: &[u8], a: usize, b: usize, u: usize, t: usize) -> bool
-    requires { (16 < length part.now) × ((a < 8) × (b < 8) × (u < 8) × (t < 8)) }
-    ensures { result ≡ same_side (vertex_from part.now a) (vertex_from part.now b) (vertex_from part.now u) (vertex_from part.now t) }
+fn same_side(a: Corner, b: Corner, u: Corner, t: Corner) -> bool
+    ensures { result ≡ same_side a b u t }
 {
-    (strictly_left(part, a, b, u) & strictly_left(part, a, b, t))
-        | (strictly_left(part, b, a, u) & strictly_left(part, b, a, t))
+    (strictly_left(a, b, u) & strictly_left(a, b, t))
+        | (strictly_left(b, a, u) & strictly_left(b, a, t))
 }
 
-// A coordinate of corner p is less than those of corners u and t: x where `axis` is 1, y where it is 2.
-fn less(part: &[u8], p: usize, u: usize, t: usize, axis: usize) -> bool
-    requires { (16 < length part.now) × ((p < 8) × (u < 8) × (t < 8) × (axis ≤ 2)) }
-    ensures { result ≡ less_from part.now p u t axis }
+// The coordinate of one corner is less than those of two others.
+fn less(p: i8, u: i8, t: i8) -> bool
+    ensures { result ≡ (lt_z p u && lt_z p t) }
 {
-    let least = coordinate(part, p, axis);
-    (least < coordinate(part, u, axis)) & (least < coordinate(part, t, axis))
+    (p < u) & (p < t)
 }
 
-// A line across the axis has the edge from a to b before it and the edge from u to t behind it, or the other way round.
-fn apart(part: &[u8], a: usize, b: usize, u: usize, t: usize, axis: usize) -> bool
-    requires { (16 < length part.now) × ((a < 8) × (b < 8) × (u < 8) × (t < 8)) × (axis ≤ 2) }
-    ensures { result ≡ apart_from part.now a b u t axis }
+// A line across the axis of these coordinates has the edge from a to b before it and the edge from u to t behind it, or the other way round.
+fn apart(a: i8, b: i8, u: i8, t: i8) -> bool
+    ensures { result ≡ (less_than a b u t || less_than u t a b) }
 {
-    (less(part, a, u, t, axis) & less(part, b, u, t, axis))
-        | (less(part, u, a, b, axis) & less(part, t, a, b, axis))
+    (less(a, u, t) & less(b, u, t)) | (less(u, a, b) & less(t, a, b))
 }
 
 // The edges from a to b and from u to t have a point in common, ends included.
-fn meets(part: &[u8], a: usize, b: usize, u: usize, t: usize) -> bool
-    requires { (16 < length part.now) × ((a < 8) × (b < 8) × (u < 8) × (t < 8)) }
-    ensures { result ≡ meet (vertex_from part.now a) (vertex_from part.now b) (vertex_from part.now u) (vertex_from part.now t) }
+fn meets(a: Corner, b: Corner, u: Corner, t: Corner) -> bool
+    ensures { result ≡ meet a b u t }
 {
-    !(same_side(part, a, b, u, t)
-        | same_side(part, u, t, a, b)
-        | apart(part, a, b, u, t, 1)
-        | apart(part, a, b, u, t, 2))
+    !(same_side(a, b, u, t)
+        | same_side(u, t, a, b)
+        | apart(a.x, b.x, u.x, t.x)
+        | apart(a.y, b.y, u.y, t.y))
 }
 
 // Corners p, c and s lie in one line.
-pub fn in_line(part: &[u8], p: usize, c: usize, s: usize) -> bool
-    requires { (16 < length part.now) × ((p < 8) × (c < 8) × (s < 8)) }
-    ensures { result ≡ is_zero (cross (vertex_from part.now p) (vertex_from part.now c) (vertex_from part.now s)) }
+pub fn in_line(p: Corner, c: Corner, s: Corner) -> bool
+    ensures { result ≡ is_zero (cross p c s) }
 {
-    turn(part, p, c, s) == 0
+    turn(p, c, s) == 0
 }
 
 // The edges from p to c and from c to s lie in one line, on one side of c, or one of them has no length.
-fn doubles_back(part: &[u8], p: usize, c: usize, s: usize) -> bool
-    requires { (16 < length part.now) × ((p < 8) × (c < 8) × (s < 8)) }
-    ensures { result ≡ doubles_back (vertex_from part.now p) (vertex_from part.now c) (vertex_from part.now s) }
+fn doubles_back(p: Corner, c: Corner, s: Corner) -> bool
+    ensures { result ≡ doubles_back p c s }
 {
     let along = integers::dot(
-        difference(part, p, c, 1) as i32,
-        difference(part, p, c, 2) as i32,
-        difference(part, s, c, 1),
-        difference(part, s, c, 2),
+        i32::from(difference(p.x, c.x)),
+        i32::from(difference(p.y, c.y)),
+        difference(s.x, c.x),
+        difference(s.y, c.y),
     );
-    in_line(part, p, c, s) & (0 <= along)
+    in_line(p, c, s) & (0 <= along)
 }
 
 // Edges i and j of n have a corner in common.
@@ -76,38 +69,35 @@ fn share_corner(n: usize, i: usize, j: usize) -> bool
     (j == i) | (j == previous(i, n)) | (j == next(i, n))
 }
 
-// Edges i and j of n have no corner in common, and meet.
-fn strikes(part: &[u8], n: usize, i: usize, j: usize) -> bool
-    requires { (16 < length part.now) × ((n ≤ 8) × (i < n) × (j < n)) }
-    ensures { result ≡ strikes_from part.now n i j }
+// Edges i and j have no corner in common, and meet.
+fn strikes(corners: &[Corner], i: usize, j: usize) -> bool
+    requires { (i < length corners.now) × (j < length corners.now) }
+    ensures { result ≡ strikes_in corners.now i j }
 {
-    !share_corner(n, i, j) & meets(part, i, next(i, n), j, next(j, n))
+    let n = corners.len();
+    !share_corner(n, i, j)
+        & meets(
+            corners[i],
+            corners[next(i, n)],
+            corners[j],
+            corners[next(j, n)],
+        )
 }
 
-// Edge i of n meets another edge elsewhere than in the corner they share.
-fn edge_meets(part: &[u8], n: usize, i: usize) -> bool
-    requires { (16 < length part.now) × ((n ≤ 8) × (i < n)) }
-    ensures { result ≡ edge_meets_from part.now n i }
+// Edge i meets another edge elsewhere than in the corner they share.
+fn edge_meets(corners: &[Corner], i: usize) -> bool
+    requires { i < length corners.now }
+    ensures { result ≡ edge_meets_in corners.now i }
 {
-    let mut struck = false;
-    let mut j = 0;
-    while j < n {
-        struck = struck | strikes(part, n, i, j);
-        j += 1;
-    }
-    doubles_back(part, previous(i, n), i, next(i, n)) | struck
+    let n = corners.len();
+    doubles_back(corners[previous(i, n)], corners[i], corners[next(i, n)])
+        | (0..n).any(|j| strikes(corners, i, j))
 }
 
-// Some edge of n meets another one elsewhere than in the corner they share.
-pub fn edges_meet(part: &[u8], n: usize) -> bool
-    requires { (16 < length part.now) × ((3 ≤ n) × (n ≤ 8)) }
-    ensures { result ≡ edges_meet (part_from part.now n) }
+// Some edge meets another one elsewhere than in the corner they share.
+pub fn edges_meet(corners: &[Corner]) -> bool
+    requires { 3 ≤ length corners.now }
+    ensures { result ≡ edges_meet corners.now }
 {
-    let mut met = false;
-    let mut i = 0;
-    while i < n {
-        met = met | edge_meets(part, n, i);
-        i += 1;
-    }
-    met
+    (0..corners.len()).any(|i| edge_meets(corners, i))
 }

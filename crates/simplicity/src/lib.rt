@@ -4,7 +4,6 @@
 pub mod area;
 pub mod corners;
 pub mod edges;
-pub mod part;
 
 ghost use Rattle.std.specs.Prelude.{◌||◌, ◌≡◌};
 ghost use Rattle.outlines.specs.Outline.{count_unfit, odd_byte, cause14};
@@ -24,9 +23,9 @@ pub fn unfit(outline: &[u8]) -> bool
     if miscounted(outline) {
         return true;
     }
-    let n = outline.len() / 2;
-    let part = part::as_part(outline);
-    !records::parts::in_range(&part, n)
-        | (area::doubled_area(&part, n) <= 0)
-        | edges::edges_meet(&part, n)
+    let all = corners::corners_in(outline);
+    let corners = &all[..outline.len() / 2];
+    !corners.iter().all(|corner| corner.in_range())
+        | (area::doubled_area(corners) <= 0)
+        | edges::edges_meet(corners)
 }

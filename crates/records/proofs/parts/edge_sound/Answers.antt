@@ -1,17 +1,12 @@
-use mathlib.Core.Bool.{◌||◌}
-use mathlib.Core.Path.{ap₂}
+use Rattle.std.proofs.Common.{rules, refl, ◌∙◌}
 use native.Mathlib.Omega.{arith}
+use Rattle.std.proofs.lemmas.Iterator.{YieldsList-from_range}
+use Rattle.model.proofs.Ranges.{all_below}
 use Rattle.records.specs.Parts.{corner_sound, edge_sound_from}
-use Rattle.records.proofs.Loops.{all_none, all-next, all_end}
 use Rattle.records.proofs.parts.edge_sound.Goals as goal
 
-pub loop-k-init : goal.loop-k-init
-loop-k-init c = (omega arith, all_none _)
-
-pub loop-k-preserved : goal.loop-k-preserved
-unfolding corner_sound
-loop-k-preserved c = (omega arith, all-next (corner_sound c.args.part.now c.args.p c.args.q) c.loop-k.k _ _ c.loop-k.invariant.1 (ap₂ ◌||◌ c.spared.ensures c.strictly_left.ensures))
-
 pub returns : goal.returns
-unfolding edge_sound_from
-returns c = all_end (corner_sound c.args.part.now c.args.p c.args.q) c.loop-k.k c.args.n _ (omega arith) c.loop-k.invariant.1
+unfolding corner_sound edge_sound_from
+returns c =
+    all_below (corner_sound c.args.part.now c.args.p c.args.q) c.args.n _ _ c.all.ensures.ran (YieldsList-from_range 0 _ _ refl (omega arith)) (λ x b q k. search rules)
+    ∙ refl
