@@ -1,29 +1,28 @@
 -- The corner that goes next, by the numbers of the corners.
-use Rattle.std.specs.Prelude.{Bool, true, false, not, cond, ◌||◌, List, ℕ, ◌*◌, ◌+◌, eqb, ltb, length}
-use Rattle.std.proofs.Math.Option.{Option, none, some}
-use Rattle.model.specs.Content.{Vertex, Part}
+use Rattle.std.specs.Prelude.{Bool, not, ◌||◌, List, ℕ, eqb, ℤ, Option, None, Some}
+use Rattle.std.proofs.Math.Option as Math
+use Rattle.model.specs.Content.{Vertex}
 use Rattle.model.specs.Geometry.{vertex_at}
+use Rattle.model.specs.Services.{coordinate}
 use Rattle.outlines.specs.Outline.{Place, in_line, holds, is_ear}
 use Rattle.outlines.specs.Numbered.{others, place_at}
-use Rattle.records.specs.Parts.{vertex_from}
 
 -- Corner k does not stand in the way of cutting off the triangle p, c, s: it is one of its own, or lies outside.
-unfoldable pub is_spared : List ℕ → ℕ → ℕ → ℕ → ℕ → Bool
-is_spared part p c s k = eqb k c || eqb k p || eqb k s || not (holds (vertex_from part p) (vertex_from part c) (vertex_from part s) (vertex_from part k))
+unfoldable pub is_spared : List Vertex → ℕ → ℕ → ℕ → ℕ → Bool
+is_spared P p c s k = eqb k c || eqb k p || eqb k s || not (holds (vertex_at P p) (vertex_at P c) (vertex_at P s) (vertex_at P k))
 
--- Whether a corner goes: it is in line with its neighbours, or, where ears are looked for, an ear.
-abbrev pub goes : Bool → Vertex → List Vertex → Bool
-goes false c R = in_line c R
-goes true c R = is_ear c R
+-- Corner i is in line with its neighbours, or an ear.
+abbrev pub in_line_at : List Vertex → ℕ → Bool
+in_line_at P i = in_line (vertex_at P i) (others P i)
 
--- Whether corner i goes.
-abbrev pub goes_at : Bool → Part → ℕ → Bool
-goes_at ears P i = goes ears (vertex_at P i) (others P i)
+abbrev pub is_ear_at : List Vertex → ℕ → Bool
+is_ear_at P i = is_ear (vertex_at P i) (others P i)
 
--- Corner i in its place; nothing where there is no corner of that number.
-abbrev pub found : Part → ℕ → Option Place
-found P i = cond (ltb i (length P)) (some (place_at P i)) none
+-- The corner of the number that was found, in its place.
+abbrev pub found : List Vertex → Option ℕ → Math.Option Place
+found P None = Math.none
+found P (Some i) = Math.some (place_at P i)
 
--- Where byte k of the rest stands among the corners of the whole, when corner i is left out.
-unfoldable pub source_of : ℕ → ℕ → ℕ
-source_of i k = cond (ltb k (i * 2)) k (k + 2)
+-- A coordinate as a number of two bytes.
+abbrev pub coordinate_number : ℤ → ℕ
+coordinate_number z = coordinate z

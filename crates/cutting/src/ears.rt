@@ -1,82 +1,64 @@
 // Which corner goes next: document 02, "A corner in line with its neighbours is dropped first, the lowest numbered if several. Otherwise the
-// lowest-numbered left turn is cut off whose triangle, border included, holds no other remaining corner." The corners that remain stand in a part.
-ghost use Rattle.std.specs.Prelude.{true, false, [], ◌≡◌, ◌≤◌, ◌<◌, length};
-ghost use Rattle.outlines.specs.Outline.{holds, first_where};
-ghost use Rattle.records.specs.Parts.{vertex_from, part_from};
-ghost use Rattle.cutting.specs.Choice.{is_spared, goes, goes_at, found};
+// lowest-numbered left turn is cut off whose triangle, border included, holds no other remaining corner." The corners are those that remain.
+ghost use Rattle.std.specs.Prelude.{[], IfSome, ◌≡◌, ◌≤◌, ◌<◌, length};
+ghost use Rattle.outlines.specs.Outline.{holds, in_line, is_ear, first_where};
+ghost use Rattle.cutting.specs.Choice.{is_spared, in_line_at, is_ear_at, found};
 
-use records::parts::{next, strictly_left, turn};
+use records::corners::{Corner, strictly_left, turn};
+use records::parts::next;
 use simplicity::corners::previous;
 use simplicity::edges;
 
 // Corner i is in line with its neighbours.
-fn is_in_line(part: &[u8], n: usize, i: usize) -> bool
-    requires { ((16 < length part.now) × (3 ≤ n) × (n ≤ 8)) × (i < n) }
-    ensures { result ≡ goes_at false (part_from part.now n) i }
+fn is_in_line(corners: &[Corner], i: usize) -> bool
+    requires { (2 ≤ length corners.now) × (i < length corners.now) }
+    ensures { result ≡ in_line_at corners.now i }
 {
-    edges::in_line(part, previous(i, n), i, next(i, n))
+    let n = corners.len();
+    edges::in_line(corners[previous(i, n)], corners[i], corners[next(i, n)])
 }
 
-// The triangle of corners p, c and s, which turns left, holds corner k. Its border belongs to it.
-fn holds_corner(part: &[u8], p: usize, c: usize, s: usize, k: usize) -> bool
-    requires { (16 < length part.now) × ((p < 8) × (c < 8) × (s < 8) × (k < 8)) }
-    ensures { result ≡ holds (vertex_from part.now p) (vertex_from part.now c) (vertex_from part.now s) (vertex_from part.now k) }
+// The triangle of corners p, c and s, which turns left, holds corner v. Its border belongs to it.
+fn holds(p: Corner, c: Corner, s: Corner, v: Corner) -> bool
+    ensures { result ≡ holds p c s v }
 {
-    (0 <= turn(part, p, c, k)) & (0 <= turn(part, c, s, k)) & (0 <= turn(part, s, p, k))
+    (0 <= turn(p, c, v)) & (0 <= turn(c, s, v)) & (0 <= turn(s, p, v))
 }
 
-// Corner k does not stand in the way of cutting off the triangle: it is one of its own, or lies outside.
-fn is_spared(part: &[u8], p: usize, c: usize, s: usize, k: usize) -> bool
-    requires { (16 < length part.now) × ((p < 8) × (c < 8) × (s < 8) × (k < 8)) }
-    ensures { result ≡ is_spared part.now p c s k }
+// Corner k does not stand in the way of cutting off the triangle of corners p, c and s: it is one of them, or lies outside.
+fn is_spared(corners: &[Corner], p: usize, c: usize, s: usize, k: usize) -> bool
+    requires { ((p < length corners.now) × (c < length corners.now)) × ((s < length corners.now) × (k < length corners.now)) }
+    ensures { result ≡ is_spared corners.now p c s k }
 {
-    (k == c) | (k == p) | (k == s) | !holds_corner(part, p, c, s, k)
+    (k == c) | (k == p) | (k == s) | !holds(corners[p], corners[c], corners[s], corners[k])
 }
 
 // The turn at corner i is left, and its triangle holds no other corner.
-fn is_ear(part: &[u8], n: usize, i: usize) -> bool
-    requires { ((16 < length part.now) × (3 ≤ n) × (n ≤ 8)) × (i < n) }
-    ensures { result ≡ goes_at true (part_from part.now n) i }
+fn is_ear(corners: &[Corner], i: usize) -> bool
+    requires { (3 ≤ length corners.now) × (i < length corners.now) }
+    ensures { result ≡ is_ear_at corners.now i }
 {
+    let n = corners.len();
     let p = previous(i, n);
     let s = next(i, n);
-    let mut empty = true;
-    let mut k = 0;
-    while k < n {
-        empty = empty & is_spared(part, p, i, s, k);
-        k += 1;
-    }
-    strictly_left(part, p, i, s) & empty
+    strictly_left(corners[p], corners[i], corners[s])
+        & (0..n).all(|k| is_spared(corners, p, i, s, k))
 }
 
-// What is looked for.
-pub const IN_LINE: bool = false;
-
-pub const EARS: bool = true;
-
-// Corner i goes: it is in line, or, where ears are looked for, an ear.
-fn goes_at(part: &[u8], n: usize, ears: bool, i: usize) -> bool
-    requires { ((16 < length part.now) × (3 ≤ n) × (n ≤ 8)) × (i < n) }
-    ensures { result ≡ goes_at ears (part_from part.now n) i }
+// The lowest-numbered corner in line with its neighbours.
+pub fn first_in_line(corners: &[Corner]) -> Option<usize>
+    requires { 2 ≤ length corners.now }
+    ensures value { first_where in_line [] corners.now ≡ found corners.now result }
+    ensures within { IfSome result (λ i. i < length corners.now) }
 {
-    if ears {
-        is_ear(part, n, i)
-    } else {
-        is_in_line(part, n, i)
-    }
+    (0..corners.len()).find(|i| is_in_line(corners, *i))
 }
 
-// The lowest-numbered corner that goes, or n where none does.
-pub fn first(part: &[u8], n: usize, ears: bool) -> usize
-    requires { (16 < length part.now) × (3 ≤ n) × (n ≤ 8) }
-    ensures { (result ≤ n) × (first_where (goes ears) [] (part_from part.now n) ≡ found (part_from part.now n) result) }
+// The lowest-numbered ear.
+pub fn first_ear(corners: &[Corner]) -> Option<usize>
+    requires { 3 ≤ length corners.now }
+    ensures value { first_where is_ear [] corners.now ≡ found corners.now result }
+    ensures within { IfSome result (λ i. i < length corners.now) }
 {
-    let mut i = 0;
-    while i < n {
-        if goes_at(part, n, ears, i) {
-            return i;
-        }
-        i += 1;
-    }
-    n
+    (0..corners.len()).find(|i| is_ear(corners, *i))
 }

@@ -4,8 +4,8 @@
 ghost use Rattle.std.specs.Prelude.{◌≡◌};
 ghost use Rattle.outlines.specs.Service as Service;
 
-use model::Written;
-use simplicity::part::as_part;
+use model::Refusal;
+use simplicity::corners::corners_in;
 
 mod ears;
 mod rest;
@@ -13,17 +13,17 @@ mod triangles;
 
 // The cut service. An unfit outline is refused before the answer is looked at, and the answer has room for six triangles however few there are. A
 // refusal changes no byte of it.
-pub fn cut(outline: &[u8], answer: &mut [u8]) -> Written
+pub fn cut(outline: &[u8], answer: &mut [u8]) -> Result<u16, Refusal>
     ensures value { result ≡ (Service.cut outline.now answer.old).answer }
     ensures answer_after { answer.new ≡ (Service.cut outline.now answer.old).buffer }
 {
     if simplicity::unfit(outline) {
-        return Written::Refused(14);
+        return Err(Refusal::Outline);
     }
     if answer.len() / 2 < 36 {
-        return Written::Refused(9);
+        return Err(Refusal::Answer);
     }
-    let part = as_part(outline);
-    let count = triangles::cut_off(&part, outline.len() / 2, answer, 0);
-    Written::Count(count as u16)
+    let corners = corners_in(outline);
+    let count = triangles::cut_off(&corners[..outline.len() / 2], answer, 0);
+    Ok(count as u16)
 }

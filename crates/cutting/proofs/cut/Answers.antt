@@ -1,6 +1,7 @@
 use mathlib.Core.Bool.{Bool, false}
 use mathlib.Core.List.{List}
-use mathlib.Core.Path.{◌≡◌, ◌∙◌, sym}
+use mathlib.Core.Path.{◌≡◌, ◌∙◌, sym, ap}
+use Rattle.simplicity.proofs.RefusalLaws.{outline_length}
 use Prim.Native.Nat.{ℕ, ◌/◌, ◌≤◌}
 use native.Mathlib.Omega.{arith}
 use lib.ListN.{length}
@@ -24,28 +25,29 @@ returns-then-answer-lt36 c =
     let r = short-told c.args.outline.now c.args.answer.now f.0 (omega (arith, c.if-answer-lt36.true)) in
     record { value = r.0; answer_after = r.1 }
 
-pub as_part-part-requires : goal.as_part-part-requires
-as_part-part-requires c =
-    few_bytes c.args.outline.now (fit_corners c.args.outline.now _ c.unfit.ensures c.if-unfit.false).0
+pub corners_in-corners-requires : goal.corners_in-corners-requires
+corners_in-corners-requires c =
+    omega (arith, few_bytes c.args.outline.now (fit_corners c.args.outline.now _ c.unfit.ensures c.if-unfit.false).0)
+
+pub shared_whole_as_front-cut_off : goal.shared_whole_as_front-cut_off
+shared_whole_as_front-cut_off c =
+    ((few-corners c.args.outline.now (fit_corners c.args.outline.now _ c.unfit.ensures c.if-unfit.false).0).1, omega arith)
 
 pub cut_off-count-requires : goal.cut_off-count-requires
 cut_off-count-requires c =
     let f = fit_corners c.args.outline.now _ c.unfit.ensures c.if-unfit.false in
+    let size = ap length c.corners_in-corners.ensures ∙ outline_length c.args.outline.now in
     record {
       in_bounds = (omega (arith, f.1), omega (arith, f.1, c.if-answer-lt36.false));
-      cut_to_the_end = is_cut c.args.outline.now c.args.answer.now f.0 _ c.as_part-part.ensures;
+      cut_to_the_end = is_cut c.args.outline.now c.args.answer.now f.0 _ c.corners_in-corners.ensures;
     }
-
-pub overflow_cast-result : goal.overflow_cast-result
-overflow_cast-result c =
-    let f = fit_corners c.args.outline.now _ c.unfit.ensures c.if-unfit.false in
-    record { fits = omega (arith, c.cut_off-count.ensures.value.1, f.1) }
 
 pub returns : goal.returns
 returns c =
+    let size = ap length c.corners_in-corners.ensures ∙ outline_length c.args.outline.now in
     let f = fit_corners c.args.outline.now _ c.unfit.ensures c.if-unfit.false in
     let r =
-    cut-told c.args.outline.now c.args.answer.now f.0 _ c.as_part-part.ensures
+    cut-told c.args.outline.now c.args.answer.now f.0 _ c.corners_in-corners.ensures
     (omega (arith, c.if-answer-lt36.false)) _ _ c.cut_off-count.ensures.value.0
     (omega (arith, c.cut_off-count.ensures.value.1, f.1)) c.cut_off-count.ensures.answer_after in
     record { value = r.0; answer_after = r.1 }

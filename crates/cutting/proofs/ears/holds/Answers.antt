@@ -5,7 +5,7 @@ use lib.Signed.{le_z}
 use mir.Syntax.{w64}
 use mir.ValLaws.{to_z-of_z}
 use Rattle.outlines.specs.Outline.{holds}
-use Rattle.cutting.proofs.ears.holds_corner.Goals as goal
+use Rattle.cutting.proofs.ears.holds.Goals as goal
 
 pub returns : goal.returns
 unfolding holds
