@@ -45,8 +45,6 @@ pub fn unfit(job: &[u8], at: usize) -> bool
     ensures { result ≡ board_unfit job.now at }
 {
     let b = read_board(job, at);
-    if field_fits(b.width) & field_fits(b.length) & field_fits(b.step) {
-        return 1024 < multiples(b.length, b.step) * multiples(b.width, b.step);
-    }
-    true
+    let fits = field_fits(b.width) & field_fits(b.length) & field_fits(b.step);
+    !fits || 1024 < multiples(b.length, b.step) * multiples(b.width, b.step)
 }

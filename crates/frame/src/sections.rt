@@ -1,36 +1,38 @@
 // The sections: cause 3 of refusal.
-ghost use Rattle.std.specs.Prelude.{◌≡◌, ◌+◌, ◌≤◌, ◌<◌, min, max, leb, length};
+ghost use Rattle.std.specs.Prelude.{◌≡◌, ◌+◌, ◌≤◌, ◌<◌, max, leb, length};
 ghost use Rattle.model.specs.Format.{section, share_byte, cause3};
 
 use crate::trailer;
-
-fn smaller(a: usize, b: usize) -> usize
-    ensures { result ≡ min a b }
-{
-    if a < b { a } else { b }
-}
 
 // The larger of two numbers.
 pub fn larger(a: usize, b: usize) -> usize
     ensures { result ≡ max a b }
 {
-    if a < b { b } else { a }
+    a.max(b)
 }
 
-// A section of this offset and size ends at the trailer or before it. Both are far below the largest size, so their sum is exact.
-fn in_place(trailer: usize, offset: usize, size: usize) -> bool
-    requires { (offset < 65536) × (size < 65536) }
-    ensures { result ≡ leb (offset + size) trailer }
-{
-    offset + size <= trailer
+// A section: so many bytes from an offset on. Both are far below the largest number, so their sum is exact.
+#[derive(Clone, Copy)]
+struct Section {
+    offset: usize,
+    size: usize,
+    ghost in_two_bytes: { (offset < 65536) × (size < 65536) },
 }
 
-// The m bytes from a on and the n bytes from b on have one in common. An empty section has none.
-fn share_byte(a: usize, m: usize, b: usize, n: usize) -> bool
-    requires { ((a < 65536) × (m < 65536)) × ((b < 65536) × (n < 65536)) }
-    ensures { result ≡ share_byte (section a m) (section b n) }
-{
-    larger(a, b) < smaller(a + m, b + n)
+impl Section {
+    // It ends at the trailer or before it.
+    fn in_place(self, trailer: usize) -> bool
+        ensures { result ≡ leb (self.offset + self.size) trailer }
+    {
+        self.offset + self.size <= trailer
+    }
+
+    // It has a byte in common with another. An empty section has none.
+    fn shares_byte(self, other: Section) -> bool
+        ensures { result ≡ share_byte (section self.offset self.size) (section other.offset other.size) }
+    {
+        self.offset.max(other.offset) < (self.offset + self.size).min(other.offset + other.size)
+    }
 }
 
 // Cause 3: a section reaches past the trailer's offset, or two sections share a byte.
@@ -39,13 +41,18 @@ pub fn misplaced(job: &[u8]) -> bool
     ensures { result ≡ cause3 job.now }
 {
     let t = trailer::read_trailer(job);
-    let board_bytes = 6;
-    let class_bytes = t.class_count * 3;
-    let outside = !in_place(t.at, t.board, board_bytes)
-        | !in_place(t.at, t.classes, class_bytes)
-        | !in_place(t.at, t.kinds, t.kinds_length);
-    outside
-        | share_byte(t.board, board_bytes, t.classes, class_bytes)
-        | share_byte(t.board, board_bytes, t.kinds, t.kinds_length)
-        | share_byte(t.classes, class_bytes, t.kinds, t.kinds_length)
+    let board = Section {
+        offset: t.board,
+        size: 6,
+    };
+    let classes = Section {
+        offset: t.classes,
+        size: t.class_count * 3,
+    };
+    let kinds = Section {
+        offset: t.kinds,
+        size: t.kinds_length,
+    };
+    let outside = !board.in_place(t.at) | !classes.in_place(t.at) | !kinds.in_place(t.at);
+    outside | board.shares_byte(classes) | board.shares_byte(kinds) | classes.shares_byte(kinds)
 }

@@ -32,7 +32,7 @@ pub fn read_trailer(job: &[u8]) -> Trailer
         class_count: fields::byte(job, at + 8),
         kind_count: fields::byte(job, at + 9),
         stated: fields::word(job, at + 10),
-        marked: (fields::byte(job, at + 12) == 0x44) & (fields::byte(job, at + 13) == 0x42),
+        marked: job.ends_with(&[0x44, 0x42]),
         at,
     }
 }
@@ -41,7 +41,7 @@ pub fn read_trailer(job: &[u8]) -> Trailer
 pub fn wrong_size(job: &[u8]) -> bool
     ensures { result ≡ cause1 job.now }
 {
-    (job.len() < 14) | (1024 < job.len())
+    !(14..=1024).contains(&job.len())
 }
 
 // Cause 2: the mark or the stated length is wrong.
@@ -50,5 +50,5 @@ pub fn wrong_mark(job: &[u8]) -> bool
     ensures { result ≡ cause2 job.now }
 {
     let t = read_trailer(job);
-    !t.marked | !(t.stated == job.len())
+    !t.marked | (t.stated != job.len())
 }

@@ -1,4 +1,3 @@
-use borrow.Author.Rules.{rules}
 use Rattle.frame.proofs.board.field_fits.Goals as goal
 
 pub returns : goal.returns

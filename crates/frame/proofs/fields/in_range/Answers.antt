@@ -1,7 +1,7 @@
-use mathlib.Core.Path.{refl}
+use borrow.Author.Rules.{rules}
 use Rattle.model.specs.Lists.{between}
 use Rattle.frame.proofs.fields.in_range.Goals as goal
 
 pub returns : goal.returns
 unfolding between
-returns c = refl
+returns c = search rules

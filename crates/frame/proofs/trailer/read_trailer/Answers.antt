@@ -1,12 +1,10 @@
-use mathlib.Core.Bool.{◌&&◌}
-use mathlib.Core.Path.{refl, ap₂}
-use lib.Dec.{eqb}
-use Rattle.model.specs.Format.{trailer_at, board_at, classes_at, kinds_at, kinds_length, classes_stated, kinds_stated, length_stated, marked}
-use borrow.Author.Rules.{rules}
+use mathlib.Core.Path.{refl, ◌∙◌}
+use Rattle.frame.proofs.TrailerLaws.{marked-is}
+use Rattle.model.specs.Format.{trailer_at, board_at, classes_at, kinds_at, kinds_length, classes_stated, kinds_stated, length_stated}
 use Rattle.frame.proofs.trailer.read_trailer.Goals as goal
 
 pub returns : goal.returns
-unfolding trailer_at board_at classes_at kinds_at kinds_length classes_stated kinds_stated length_stated marked
+unfolding trailer_at board_at classes_at kinds_at kinds_length classes_stated kinds_stated length_stated
 returns c =
     record {
       board = c.word.ensures.0;
@@ -16,7 +14,7 @@ returns c =
       class_count = c.byte.ensures.0;
       kind_count = c.byte-2.ensures.0;
       stated = c.word-5.ensures.0;
-      marked = ap₂ (λ m n. eqb m 0x44 && eqb n 0x42) c.byte-3.ensures.0 c.byte-4.ensures.0;
+      marked = c.ends_with.ensures.value ∙ marked-is c.args.job.now c.requires;
       place = refl;
       board_fits = c.word.ensures.1;
       classes_fit = c.word-2.ensures.1;

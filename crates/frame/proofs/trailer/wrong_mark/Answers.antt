@@ -3,7 +3,6 @@ use mathlib.Core.Path.{ap₂}
 use lib.Dec.{eqb}
 use lib.ListN.{length}
 use Rattle.model.specs.Format.{cause2}
-use borrow.Author.Rules.{rules}
 use Rattle.frame.proofs.trailer.wrong_mark.Goals as goal
 
 pub returns : goal.returns
