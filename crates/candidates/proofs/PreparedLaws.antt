@@ -1,4 +1,5 @@
 -- What a prepared call's view, turned parts and boxes say of the model: placements, extents, conflicts and rows. Assumes nothing.
+use Rattle.job.specs.View.{cut_of, rotations_of}
 use mathlib.Core.Bool.{Bool, true, false, cond, ◌&&◌, and_assoc}
 use mathlib.Core.List.{List, [], ◌∷◌, map}
 use mathlib.Core.Logic.{⊎_elim}
@@ -93,7 +94,7 @@ module _ (s : List ℕ) (v : View) (x : Viewed s v) where
 
   -- The view's numbers of two kinds say whether they share a common cut.
   pub shares_cut : (t u : ℕ) → t < kind_count (content s).kinds → u < kind_count (content s).kinds
-      → same_cut (get_or v.cuts t 0) (get_or v.cuts u 0) ≡ share_cut (content s).classes (kind_at (content s).kinds t) (kind_at (content s).kinds u)
+      → same_cut (cut_of v t) (cut_of v u) ≡ share_cut (content s).classes (kind_at (content s).kinds t) (kind_at (content s).kinds u)
   shares_cut t u ht hu = ap₂ same_cut (kind-in s v x t ht).cut (kind-in s v x u hu).cut ∙ shared-cut (content s).classes (kind_at (content s).kinds t) (kind_at (content s).kinds u)
 
   -- The gap of two kinds in the view is the pair's.
@@ -129,8 +130,8 @@ module _ (s : List ℕ) (v : View) (b : Boxes) (x : Viewed s v) (y : BoxesOf s b
   pub placeable-is : (c r k : ℕ) → placeable v b t c r k ≡ admitted (problem_of s v) (kind_at (content s).kinds t) (placement c r k)
   unfolding placeable admitted
   placeable-is c r k =
-      ap (λ n. ltb c n && ltb r v.rows && test_bit (get_or v.rotations t 0) k && fits_at v (box_at b t k) c r) x.view.columns
-      ∙ ap (λ n. ltb c (columns (content s).sheet) && ltb r n && test_bit (get_or v.rotations t 0) k && fits_at v (box_at b t k) c r) x.view.rows
+      ap (λ n. ltb c n && ltb r v.rows && test_bit (rotations_of v t) k && fits_at v (box_at b t k) c r) x.view.columns
+      ∙ ap (λ n. ltb c (columns (content s).sheet) && ltb r n && test_bit (rotations_of v t) k && fits_at v (box_at b t k) c r) x.view.rows
       ∙ ap (λ n. ltb c (columns (content s).sheet) && ltb r (rows (content s).sheet) && test_bit n k && fits_at v (box_at b t k) c r) (kind-in s v x t h).rotations
       ∙ ⊎_elim (λ g. far g) (λ g. ap (λ w. ltb c (columns (content s).sheet) && ltb r (rows (content s).sheet) && test_bit (kind_at (content s).kinds t).rotations k && w) (on_board_lem c r k g)) (le_or_lt 4 k)
     where

@@ -1,4 +1,5 @@
 -- An entry that is a candidate of an accepted job: what is known of it, and what the code's tests say of it. Assumes nothing.
+use Rattle.job.specs.View.{rotations_of}
 use mathlib.Core.Bool.{Bool, true, false, ◌&&◌}
 use mathlib.Core.List.{List, [], ◌∷◌}
 use mathlib.Core.Path.{◌≡◌, refl, sym, ap, ◌∙◌}
@@ -72,7 +73,7 @@ natural-bound (negsuc k) n m e = omega arith
 ends-within : (v : View) (b : Boxes) (t c r k : ℕ) → placeable v b t c r k ≡ true → extent_at v b t c k ≤ v.length
 unfolding placeable fits_at within extent_at
 ends-within v b t c r k p =
-    let box = and_right (ltb c v.columns && ltb r v.rows && test_bit (get_or v.rotations t 0) k) _ p in
+    let box = and_right (ltb c v.columns && ltb r v.rows && test_bit (rotations_of v t) k) _ p in
     natural-bound ((box_at b t k).max_x +ℤ pos (c * v.step)) v.length v.margin
     (and_right (le_z (pos v.margin) ((box_at b t k).min_x +ℤ pos (c * v.step))) _ (and_left _ _ box))
 

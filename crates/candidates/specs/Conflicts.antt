@@ -1,10 +1,10 @@
 -- Two pieces on their dots, and their conflict, as the code computes it. The laws say that it is the model's `conflict`.
-use Rattle.std.specs.Prelude.{Bool, cond, List, map, ℕ, ◌*◌, ◌/◌, ◌%◌, ◌≤◌, ◌<◌, max, ℤ, pos, ◌-ℤ◌, get_or}
+use Rattle.std.specs.Prelude.{Bool, cond, List, map, ℕ, ◌*◌, ◌/◌, ◌%◌, ◌≤◌, ◌<◌, max, ℤ, pos, ◌-ℤ◌}
 use Rattle.model.specs.Geometry.{pieces_conflict}
 use Rattle.model.specs.Grid.{Placement, placement}
 use Rattle.polygons.specs.Flat.{shifted}
 use Rattle.job.specs.Gaps.{same_cut}
-use Rattle.job.specs.View.{Viewed}
+use Rattle.job.specs.View.{Viewed, gap_of, cut_of}
 use Rattle.job.specs.declared.View.{View}
 use Rattle.shapes.specs.Boxes.{BoxesOf}
 use Rattle.geometry.specs.Pieces.{parts_in}
@@ -50,4 +50,4 @@ gap_between g h shared = cond shared 0 (max g h)
 
 -- The gap of a pair of kinds, by a view.
 abbrev pub view_gap : View → ℕ → ℕ → ℕ
-view_gap v t u = gap_between (get_or v.gaps t 0) (get_or v.gaps u 0) (same_cut (get_or v.cuts t 0) (get_or v.cuts u 0))
+view_gap v t u = gap_between (gap_of v t) (gap_of v u) (same_cut (cut_of v t) (cut_of v u))

@@ -5,6 +5,7 @@ use Rattle.std.specs.Int.Signed.{le_z}
 use Rattle.words.specs.Bits.{test_bit}
 use Rattle.model.specs.Candidate.{natural}
 use Rattle.polygons.specs.declared.extents.Extents.{Extents}
+use Rattle.job.specs.View.{rotations_of, gap_of}
 use Rattle.job.specs.declared.View.{View}
 use Rattle.shapes.specs.Boxes.{box_at}
 use Rattle.shapes.specs.declared.boxes.Boxes.{Boxes}
@@ -19,8 +20,8 @@ pub record Bounded (v : View) : Type 0 where
   pub margin : v.margin ≤ 63
   pub across : (c : ℕ) → c < v.columns → c * v.step ≤ v.length
   pub up : (r : ℕ) → r < v.rows → r * v.step ≤ v.width
-  pub rotations : (t : ℕ) → t < v.kinds → get_or v.rotations t 0 < 16
-  pub gaps : (t : ℕ) → t < v.kinds → get_or v.gaps t 0 ≤ 63
+  pub rotations : (t : ℕ) → t < v.kinds → rotations_of v t < 16
+  pub gaps : (t : ℕ) → t < v.kinds → gap_of v t ≤ 63
 
 -- What lies from low to high stays, moved by this much, between the margin and the limit less the margin.
 unfoldable pub within : ℤ → ℤ → ℕ → ℕ → ℕ → Bool
@@ -34,7 +35,7 @@ fits_at v e c r =
 
 -- "A candidate of a type is a column, a row and an allowed turn with every turned, moved corner" on the board, clear of the margin.
 unfoldable pub placeable : View → Boxes → ℕ → ℕ → ℕ → ℕ → Bool
-placeable v b t c r k = ltb c v.columns && ltb r v.rows && test_bit (get_or v.rotations t 0) k && fits_at v (box_at b t k) c r
+placeable v b t c r k = ltb c v.columns && ltb r v.rows && test_bit (rotations_of v t) k && fits_at v (box_at b t k) c r
 
 -- The same of a candidate number.
 unfoldable pub offered : View → Boxes → ℕ → ℕ → Bool

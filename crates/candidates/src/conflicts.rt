@@ -1,6 +1,7 @@
 // Conflict of two pieces, each on a dot and at a rotation.
-ghost use Rattle.std.specs.Prelude.{◌≡◌, ◌*◌, ◌≤◌, ◌<◌, pos, ◌-ℤ◌, get_or};
+ghost use Rattle.std.specs.Prelude.{◌≡◌, ◌*◌, ◌≤◌, ◌<◌, pos, ◌-ℤ◌};
 ghost use Rattle.job.specs.Gaps.{same_cut};
+ghost use Rattle.job.specs.View.{cut_of};
 ghost use Rattle.shapes.specs.Pieces.{Turnable};
 ghost use Rattle.candidates.specs.Placements.{Bounded};
 ghost use Rattle.candidates.specs.Conflicts.{Near, placed_of, conflict_between, gap_between, view_gap};
@@ -63,13 +64,15 @@ pub fn conflict_between(
 }
 
 // Two kinds share a common cut: the best-ranked class of both is the same, and it is marked.
+#[tactic(auto, unfolding(job::specs::Gaps::same_cut))]
 pub fn share_cut(view: View, kind: usize, other: usize) -> bool
     requires { (kind < 8) × (other < 8) }
-    ensures { result ≡ same_cut (get_or view.cuts kind 0) (get_or view.cuts other 0) }
+    ensures { result ≡ same_cut (cut_of view kind) (cut_of view other) }
 {
-    let cuts = view.cuts;
-    let cut = cuts[kind];
-    (cut != 0) & (cut == cuts[other])
+    match (view.kind[kind].cut, view.kind[other].cut) {
+        (Some(first), Some(second)) => first == second,
+        _ => false,
+    }
 }
 
 // The gap of a pair of kinds, from the gaps of both: none where they share a common cut, and otherwise the larger of the two.
@@ -89,8 +92,8 @@ pub fn pair_gap(view: View, kind: usize, other: usize) -> u16
     ensures { result ≡ view_gap view kind other }
 {
     gap_between(
-        view.gaps[kind],
-        view.gaps[other],
+        view.kind[kind].gap,
+        view.kind[other].gap,
         share_cut(view, kind, other),
     )
 }

@@ -46,7 +46,7 @@ pub fn is_placement(view: View, boxes: Boxes, kind: usize, place: Placed) -> boo
         return false;
     }
     if (place.rotation >= 4)
-        | !words::bits::test_bit(view.rotations[kind] as u64, place.rotation as u64)
+        | !words::bits::test_bit(view.kind[kind].rotations as u64, place.rotation as u64)
     {
         return false;
     }

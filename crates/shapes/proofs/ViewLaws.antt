@@ -7,7 +7,7 @@ use Rattle.model.specs.Content.{Part, kind_at, kind_count}
 use Rattle.model.specs.Format.{byte_at, vertices, content}
 use Rattle.model.proofs.Accepted.{accepted-kinds}
 use Rattle.model.proofs.AcceptedKinds.{kind-ranges}
-use Rattle.job.specs.View.{PartAt, KindIn, Viewed}
+use Rattle.job.specs.View.{PartAt, KindIn, Viewed, part_at_of}
 use Rattle.job.specs.declared.View.{View}
 
 -- a part that is read with the number of vertices that its first byte states
@@ -25,7 +25,7 @@ module _ (s : List ℕ) (v : View) (x : Viewed s v) where
     pub some-part : 1 ≤ length (kind_at (content s).kinds t).parts
     some-part = (kind-ranges s x.accepted t h).parts_least
 
-    pub part_in_lem : (i : ℕ) → i < length (kind_at (content s).kinds t).parts → PartAt s (get_or v.part_at (t * 6 + i) 0) (get_or (kind_at (content s).kinds t).parts i [])
+    pub part_in_lem : (i : ℕ) → i < length (kind_at (content s).kinds t).parts → PartAt s (part_at_of v t i) (get_or (kind_at (content s).kinds t).parts i [])
     part_in_lem i l = kind-in.part i l
 
     pub part-short : (i : ℕ) → i < length (kind_at (content s).kinds t).parts → length (get_or (kind_at (content s).kinds t).parts i []) ≤ 8

@@ -7,23 +7,21 @@ ghost use Rattle.shapes.specs.Pieces.{PieceOf, turned_to};
 
 use frame::fields::byte;
 use geometry::pieces::Piece;
-use job::View;
+use job::{Kind, View};
 
 // The piece of a kind, as it stands unturned.
 pub fn piece_of(job: &[u8], view: View, kind: usize) -> Piece
     requires { Viewed job.now view × (kind < kind_count (content job.now).kinds) }
     ensures { PieceOf job.now kind result }
 {
-    let counts = view.parts;
-    let places = view.part_at;
-    let n = counts[kind];
+    let Kind { parts, part_at, .. } = view.kind[kind];
     let mut sizes = [0usize; 6];
-    for i in 0..n {
-        sizes[i] = byte(job, places[kind * 6 + i]);
+    for i in 0..parts {
+        sizes[i] = byte(job, part_at[i]);
     }
     Piece {
         first: kind * 120,
-        count: n,
+        count: parts,
         sizes,
     }
 }

@@ -10,7 +10,7 @@ ghost use Rattle.shapes.specs.Turned.{vertex_in, with_part, with_box, with_slot,
 
 use crate::quarter_turns::put_rotated;
 use frame::fields::byte;
-use job::View;
+use job::{Kind, View};
 use polygons::extents::{Extents, bounds};
 
 // The vertex whose bytes begin at `from`, turned k quarter turns, into the table at `to`.
@@ -76,11 +76,9 @@ fn turn_kind(job: &[u8], view: View, kind: usize, turned: &mut [i16])
     requires { (Viewed job.now view × (kind < kind_count (content job.now).kinds)) × (length turned.old ≡ 4096) }
     ensures { KindTurned job.now kind turned.old turned.new }
 {
-    let counts = view.parts;
-    let places = view.part_at;
-    let n = counts[kind];
-    for i in 0..n {
-        let at = places[kind * 6 + i];
+    let Kind { parts, part_at, .. } = view.kind[kind];
+    for i in 0..parts {
+        let at = part_at[i];
         turn_part(job, at + 1, byte(job, at), turned, kind * 6 + i);
     }
 }

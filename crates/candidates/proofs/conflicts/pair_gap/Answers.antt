@@ -1,4 +1,5 @@
 -- `candidates::conflicts::pair_gap` meets its contract. Assumes nothing.
+use Rattle.job.specs.View.{gap_of}
 use mathlib.Core.Path.{ap, ◌∙◌}
 use native.Mathlib.Omega.{arith}
 use lib.ListN.{get_or}
@@ -13,4 +14,4 @@ pub gap_between-requires : goal.gap_between-requires
 gap_between-requires c = (c.requires.0.gaps c.args.kind c.requires.1.0, c.requires.0.gaps c.args.other c.requires.1.1)
 
 pub returns : goal.returns
-returns c = c.gap_between.ensures ∙ ap (gap_between (get_or c.args.view.gaps c.args.kind 0) (get_or c.args.view.gaps c.args.other 0)) c.share_cut.ensures
+returns c = c.gap_between.ensures ∙ ap (gap_between (gap_of c.args.view c.args.kind) (gap_of c.args.view c.args.other)) c.share_cut.ensures

@@ -1,4 +1,5 @@
 -- `candidates::placements::is_placement` meets its contract. Assumes nothing.
+use Rattle.job.specs.View.{rotations_of}
 use mathlib.Core.Bool.{true}
 use mathlib.Core.Path.{◌≡◌, ap, ◌∙◌}
 use Prim.Native.Nat.{◌<◌}
@@ -22,12 +23,12 @@ pub returns-then-place-test_bit : goal.returns-then-place-test_bit
 unfolding placeable
 returns-then-place-test_bit c =
     refused-turn (ltb c.args.place.column c.args.view.columns) (ltb c.args.place.row c.args.view.rows) _
-    (fits_at c.args.view (box_at c.args.boxes c.args.kind c.args.place.rotation) c.args.place.column c.args.place.row) (turn-refused (get_or c.args.view.rotations c.args.kind 0) c.args.place.rotation _ (c.requires.0.rotations _ c.requires.1) c.test_bit.ensures c.if-place-test_bit.true)
+    (fits_at c.args.view (box_at c.args.boxes c.args.kind c.args.place.rotation) c.args.place.column c.args.place.row) (turn-refused (rotations_of c.args.view c.args.kind) c.args.place.rotation _ (c.requires.0.rotations _ c.requires.1) c.test_bit.ensures c.if-place-test_bit.true)
 
 pub box_at-requires : goal.box_at-requires
 box_at-requires c =
     let turn : (c.args.place.rotation < 4)
-    × (test_bit (get_or c.args.view.rotations c.args.kind 0) c.args.place.rotation ≡ true) = turn-allowed (get_or c.args.view.rotations c.args.kind 0) c.args.place.rotation _ (c.requires.0.rotations _ c.requires.1) c.test_bit.ensures c.if-place-test_bit.false in
+    × (test_bit (rotations_of c.args.view c.args.kind) c.args.place.rotation ≡ true) = turn-allowed (rotations_of c.args.view c.args.kind) c.args.place.rotation _ (c.requires.0.rotations _ c.requires.1) c.test_bit.ensures c.if-place-test_bit.false in
     (omega (arith, c.requires.0.kinds, c.requires.1), (turn).0)
 
 pub stays_on_board-requires : goal.stays_on_board-requires
@@ -40,7 +41,7 @@ unfolding placeable
 returns c =
     let dots : (c.args.place.column < c.args.view.columns) × (c.args.place.row < c.args.view.rows) = on_dots c.args.place.column c.args.view.columns c.args.place.row c.args.view.rows c.if-place-view.false in
     let turn : (c.args.place.rotation < 4)
-    × (test_bit (get_or c.args.view.rotations c.args.kind 0) c.args.place.rotation ≡ true) = turn-allowed (get_or c.args.view.rotations c.args.kind 0) c.args.place.rotation _ (c.requires.0.rotations _ c.requires.1) c.test_bit.ensures c.if-place-test_bit.false in
+    × (test_bit (rotations_of c.args.view c.args.kind) c.args.place.rotation ≡ true) = turn-allowed (rotations_of c.args.view c.args.kind) c.args.place.rotation _ (c.requires.0.rotations _ c.requires.1) c.test_bit.ensures c.if-place-test_bit.false in
     let on = dots in
     allowed _ _ _ _ _ (lt-ltb _ _ on.0) (lt-ltb _ _ on.1) (turn).1
     (c.stays_on_board.ensures ∙ ap (λ (b : Extents). fits_at c.args.view b c.args.place.column c.args.place.row) c.box_at.ensures)

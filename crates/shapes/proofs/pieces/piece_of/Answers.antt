@@ -5,11 +5,14 @@ use Rattle.shapes.proofs.PieceLaws.{piece_is}
 use Rattle.shapes.proofs.ViewLaws.{few-kinds, kind-in}
 use Rattle.shapes.proofs.pieces.piece_of.Goals as goal
 
-pub offset_bounds-counts-kind : goal.offset_bounds-counts-kind
-offset_bounds-counts-kind c = omega (arith, few-kinds c.args.job.now c.args.view c.requires.0)
+pub offset_bounds-view-kind : goal.offset_bounds-view-kind
+offset_bounds-view-kind c = omega (arith, few-kinds c.args.job.now c.args.view c.requires.0)
 
-pub bounds-counts-kind : goal.bounds-counts-kind
-bounds-counts-kind c = omega (arith, few-kinds c.args.job.now c.args.view c.requires.0)
+pub bounds-view-kind : goal.bounds-view-kind
+bounds-view-kind c = omega (arith, few-kinds c.args.job.now c.args.view c.requires.0)
+
+pub bounds-view-kind-2 : goal.bounds-view-kind-2
+bounds-view-kind-2 c = omega (arith, few-kinds c.args.job.now c.args.view c.requires.0)
 
 pub loop-i-init : goal.loop-i-init
 loop-i-init c =

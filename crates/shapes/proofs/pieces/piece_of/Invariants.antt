@@ -8,6 +8,6 @@ use Rattle.model.specs.Format.{content}
 use Rattle.shapes.proofs.pieces.piece_of.Given as goal
 
 abbrev pub invariant-loop-i : goal.invariant-loop-i
-invariant-loop-i l = ((l.kind < 8) × (l.n ≤ 6))
-    × (l.n ≡ length (kind_at (content l.job).kinds l.kind).parts) × (length l.sizes ≡ 6)
+invariant-loop-i l = ((l.kind < 8) × (l.parts ≤ 6))
+    × (l.parts ≡ length (kind_at (content l.job).kinds l.kind).parts) × (length l.sizes ≡ 6)
     × ((j : ℕ) → j < l.i → get_or l.sizes j 0 ≡ length (get_or (kind_at (content l.job).kinds l.kind).parts j []))

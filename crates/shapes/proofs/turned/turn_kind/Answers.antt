@@ -1,4 +1,5 @@
 use mathlib.Core.List.{[]}
+use Rattle.job.specs.View.{part_at_of}
 use Prim.Native.Nat.{◌+◌, ◌*◌}
 use native.Mathlib.Omega.{arith}
 use borrow.Author.Rules.{rules}
@@ -10,11 +11,14 @@ use Rattle.shapes.proofs.TurnLaws.{kind-none, kind-more}
 use Rattle.shapes.proofs.ViewLaws.{few-kinds, kind-in, part_in_lem, part-short, part-read-at}
 use Rattle.shapes.proofs.turned.turn_kind.Goals as goal
 
-pub offset_bounds-counts-kind : goal.offset_bounds-counts-kind
-offset_bounds-counts-kind c = omega (arith, few-kinds c.args.job.now c.args.view c.requires.0.0)
+pub offset_bounds-view-kind : goal.offset_bounds-view-kind
+offset_bounds-view-kind c = omega (arith, few-kinds c.args.job.now c.args.view c.requires.0.0)
 
-pub bounds-counts-kind : goal.bounds-counts-kind
-bounds-counts-kind c = omega (arith, few-kinds c.args.job.now c.args.view c.requires.0.0)
+pub bounds-view-kind : goal.bounds-view-kind
+bounds-view-kind c = omega (arith, few-kinds c.args.job.now c.args.view c.requires.0.0)
+
+pub bounds-view-kind-2 : goal.bounds-view-kind-2
+bounds-view-kind-2 c = omega (arith, few-kinds c.args.job.now c.args.view c.requires.0.0)
 
 pub loop-i-init : goal.loop-i-init
 loop-i-init c =
@@ -28,7 +32,7 @@ loop-i-init c =
 pub loop-i-preserved : goal.loop-i-preserved
 loop-i-preserved c =
     let here : PartAt c.args.job.now
-    (get_or c.args.view.part_at (c.args.kind * 6 + c.loop-i.i) 0)
+    (part_at_of c.args.view c.args.kind c.loop-i.i)
     (get_or (kind_at (content c.args.job.now).kinds c.args.kind).parts c.loop-i.i []) =
     part_in_lem c.args.job.now c.args.view c.requires.0.0 c.args.kind c.requires.0.1 c.loop-i.i (omega arith) in (
       omega arith,

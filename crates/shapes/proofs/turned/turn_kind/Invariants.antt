@@ -8,6 +8,6 @@ use Rattle.shapes.proofs.TurnLaws.{KindTurnedTo}
 use Rattle.shapes.proofs.turned.turn_kind.Given as goal
 
 abbrev pub invariant-loop-i : goal.invariant-loop-i
-invariant-loop-i l = ((l.kind < 8) × (l.n ≤ 6))
-    × (l.n ≡ length (kind_at (content l.job).kinds l.kind).parts) × (length l.turned ≡ 4096)
+invariant-loop-i l = ((l.kind < 8) × (l.parts ≤ 6))
+    × (l.parts ≡ length (kind_at (content l.job).kinds l.kind).parts) × (length l.turned ≡ 4096)
     × KindTurnedTo l.job l.kind l.initial.turned l.turned l.i
