@@ -26,6 +26,7 @@ use Rattle.model.proofs.Lists.{not_both}
 use Rattle.geometry.specs.declared.pieces.Piece.{Piece}
 use Rattle.shapes.specs.Pieces.{turned_to}
 use Rattle.nofit.specs.Filling.{dot_of, conflict_at_dot, blocked_at_dot, blocked_turned, blocked_bit, TurnSet, FirstWord, WordSet, Written, allowed}
+use Rattle.nofit.specs.declared.patterns.BoxedPiece.{BoxedPiece}
 use Rattle.nofit.specs.declared.patterns.Dot.{Dot}
 use Rattle.nofit.specs.declared.patterns.Pattern.{Pattern}
 
@@ -125,13 +126,15 @@ blocked-turned table s p r q word k i e h =
     ap (λ (o : Piece). blocked_turned table s p o (word * 64 + i)) e ∙ ap (λ m. blocked_turned table s p (turned_to r m) (word * 64 + i)) t
 
 -- the bits of the first word
-pub blocked-first : (table : List ℤ) (s : Pattern) (p r : Piece) (i : ℕ) → i < 64 → (s.below ≡ 0) ⊎ (64 ≤ s.below) → blocked_bit table s p r (0 * 64 + i) ≡ ltb 0 s.below
+pub blocked-first : (table : List ℤ) (s : Pattern) (p r : Piece) (i : ℕ) → i < 64 → (0 < s.below → 64 ≤ s.below) → blocked_bit table s p r (0 * 64 + i) ≡ ltb 0 s.below
 unfolding blocked_bit blocked_turned
-blocked-first table s p r i h (inl e) =
-    rw (le-ltb (0 * 64 + i) s.below (omega arith), lt-leb 64 (0 * 64 + i) (omega arith), le-ltb 0 s.below (omega arith))
-blocked-first table s p r i h (inr e) = rw (lt-ltb (0 * 64 + i) s.below (omega arith), lt-ltb 0 s.below (omega arith))
+blocked-first table s p r i h far = go (le_or_lt s.below 0)
+  where
+    go : (s.below ≤ 0) ⊎ (0 < s.below) → blocked_bit table s p r (0 * 64 + i) ≡ ltb 0 s.below
+    go (inl e) = rw (le-ltb (0 * 64 + i) s.below (omega arith), lt-leb 64 (0 * 64 + i) (omega arith), le-ltb 0 s.below (omega arith))
+    go (inr e) = let l = far e in rw (lt-ltb (0 * 64 + i) s.below (omega arith), lt-ltb 0 s.below (omega arith))
 
-pub first-set : (table : List ℤ) (s : Pattern) (p r : Piece) (word v : ℕ) → word ≡ 0 → (s.below ≡ 0) ⊎ (64 ≤ s.below) → FirstWord s.below v
+pub first-set : (table : List ℤ) (s : Pattern) (p r : Piece) (word v : ℕ) → word ≡ 0 → (0 < s.below → 64 ≤ s.below) → FirstWord s.below v
     → WordSet (allowed s.mask) (λ i. blocked_bit table s p r (word * 64 + i)) v
 first-set table s p r word v e h f i l a = f i l ∙ sym (blocked-first table s p r i l h) ∙ ap (λ n. blocked_bit table s p r (n * 64 + i)) (sym e)
 
@@ -168,6 +171,14 @@ turn-next k n b old w v on hk t e g =
 -- the same bits, said otherwise
 pub turn-as : (k n : ℕ) (b c : ℕ → Bool) (old new : ℕ) → ((i : ℕ) → i % 4 ≡ k → b i ≡ c i) → TurnSet k n b old new → TurnSet k n c old new
 turn-as k n b c old new e t = record { same = λ i h q. t.same i h q ∙ e i q; other = t.other }
+
+-- the bits of a rotation of the other piece, in what the two pieces face
+pub turned-set : (table : List ℤ) (s : Pattern) (p r : Piece) (word k old new : ℕ) (table' : List ℤ) (s' : Pattern) (b : BoxedPiece) (o : Piece) (p' : BoxedPiece)
+    → table' ≡ table → s' ≡ s → p' ≡ b → b.piece ≡ p → o ≡ turned_to r k
+    → TurnSet k 16 (λ i. blocked_turned table' s' p'.piece o (word * 64 + i)) old new → TurnSet k 16 (λ i. blocked_bit table s p r (word * 64 + i)) old new
+turned-set table s p r word k old new table' s' b o p' e f g h q t =
+    turn-as k 16 _ _ old new
+    (λ i d. (λ j. blocked_turned (e j) (f j) ((ap (λ (x : BoxedPiece). x.piece) g ∙ h) j) o (word * 64 + i)) ∙ blocked-turned table s p r o word k i q d) t
 
 -- ---- the rotations of a word, one after the other
 

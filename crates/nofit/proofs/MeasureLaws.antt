@@ -3,25 +3,28 @@ use mathlib.Core.Bool.{Bool, true, false, ◌||◌}
 use mathlib.Core.List.{List, [], ◌∷◌, map}
 use mathlib.Core.Logic.{⊎_elim}
 use mathlib.Core.Path.{◌≡◌, refl, sym, ap, ap₂, subst, ◌∙◌}
-use Prim.Native.Nat.{ℕ, zero, suc, ◌+◌, ◌-◌, ◌*◌, ◌/◌, ◌%◌, ◌^◌, ◌≤◌, ◌<◌}
-use native.Mathlib.Nat.{not-suc-le-zero, zero-mul, one-mul, le_trans, lt_of_le_of_lt, le_of_eq, max-le, add-mul, mul_assoc, mul_comm, div-add-mod', mod-lt, mul-le-mul, mul-le-mul_right, div-mul-le_self}
+use Prim.Native.Nat.{ℕ, min, max, ◌+◌, ◌-◌, ◌*◌, ◌/◌, ◌%◌, ◌^◌, ◌≤◌, ◌<◌}
+use native.Mathlib.Nat.{le_trans, lt_of_le_of_lt, le_of_eq, max-le, add-mul, mul_assoc, mul_comm, mul-le-mul, mul-le-mul_right, div-mul-le_self}
 use native.Mathlib.Omega.{arith}
 use borrow.Author.Count.{below_more}
-use lib.Dec.{T, lit≤, lit<}
+use lib.Dec.{lit≤, lit<}
 use lib.IntN.{ℤ, pos, negsuc, nat_abs, ◌+ℤ◌, ◌-ℤ◌}
 use lib.ListN.{get_or}
-use lib.Signed.{le_z, lt_z, non_neg, ◌≤ℤ◌, ≤ℤ_refl}
+use lib.Signed.{le_z, ◌≤ℤ◌, ≤ℤ_refl}
 use mir.Syntax.{w16, w64}
-use mir.Val.{Fits, SFits, to_z, of_z}
+use mir.Val.{SFits, to_z, of_z}
 use mir.ValLaws.{to_z_pos}
+use Rattle.std.specs.Int.{div_ceil, int_max}
+use Rattle.std.proofs.lemmas.Grind.{div_ceil_times}
 use Rattle.integers.proofs.Solver.{#, ◌⊞◌, ◌⊟◌, ◌≲◌}
 use Rattle.integers.proofs.Certificates.{order, ◌⊢◌by◌, hyp, ◌⊕◌}
 use Rattle.integers.proofs.Extrema.{max_upper_left, max_upper_right, min_lower-left, min_lower-right}
 use Rattle.integers.proofs.Machine.{cast_gives, op_fits, op_gives}
-use Rattle.integers.proofs.Order.{≤ℤ-trans, <ℤ-≤ℤ, lt_z_true, le_le_z, pos-≤ℤ}
+use Rattle.integers.proofs.Order.{≤ℤ-trans, le_le_z, pos-≤ℤ}
 use Rattle.integers.proofs.Sizes.{bounded, size_of, fits-64}
 use Rattle.words.specs.Bits.{test_bit}
 use Rattle.model.specs.Content.{kind_at, kind_count}
+use Rattle.model.specs.Candidate.{natural}
 use Rattle.model.specs.Format.{content}
 use Rattle.model.specs.Gap.{pair_gap}
 use Rattle.model.specs.Geometry.{rotated}
@@ -41,7 +44,7 @@ use Rattle.shapes.specs.declared.boxes.Boxes.{Boxes}
 use Rattle.convexity.proofs.Soundness.{rotated-parts, accepted-parts}
 use Rattle.geometry.proofs.BoxesApart.{boxes-apart}
 use Rattle.shapes.proofs.ViewLaws.{kind-in}
-use Rattle.candidates.proofs.PlacementLaws.{end-nonneg}
+use Rattle.candidates.proofs.PlacementLaws.{end_is}
 use Rattle.candidates.proofs.PreparedLaws.{sheet-range}
 use Rattle.nofit.specs.Measures.{Within, Around, NoLarger, Spaced}
 use Rattle.nofit.specs.Patterns.{offset_conflict, Reaching, MeasuresOf}
@@ -74,6 +77,12 @@ module _ (gaps : List ℕ) (n r : ℕ) (before : NoLarger gaps n r) where
   no_larger_next k l h = below_more _ n (λ t g. le_trans (before t g) h) l
 
 -- ---- the span of two pieces
+
+-- the larger of a number and 0
+natural_near : (z : ℤ) → nat_abs z ≤ 66000 → (z ≤ℤ pos (natural z)) × (natural z ≤ 66000)
+unfolding natural
+natural_near (pos n) h = (≤ℤ_refl (pos n), h)
+natural_near (negsuc n) h = (record { le = tt }, omega arith)
 
 module _ (low high : ℤ) (gap : ℕ) (fl : SFits w16 low) (fh : SFits w16 high) (h : gap ≤ 63) where
   size : nat_abs ((high -ℤ low) +ℤ pos gap) ≤ 66000
@@ -111,52 +120,23 @@ module _ (low high : ℤ) (gap : ℕ) (fl : SFits w16 low) (fh : SFits w16 high)
   pub span_value : span_read ≡ (high -ℤ low) +ℤ pos gap
   span_value = op_gives difference gap-read ◌+ℤ◌ sum_fits
 
-  -- below 0, and not
-  pub span_none : lt_z span_read (pos 0) ≡ true → (((high -ℤ low) +ℤ pos gap) ≤ℤ pos 0) × (0 ≤ 66000)
-  span_none e = (subst (λ z. z ≤ℤ pos 0) span_value (<ℤ-≤ℤ (lt_z_true span_read (pos 0) e)), lit≤ tt)
+  -- the larger of it and 0
+  pub span_natural : (r : ℤ) → SFits w64 r → r ≡ int_max span_read (pos 0) → to_z w64 (of_z w64 r) ≡ pos (natural ((high -ℤ low) +ℤ pos gap))
+  span_natural r f e = end_is r span_read f e span_value
 
-  pub span_some : lt_z span_read (pos 0) ≡ false → T (non_neg span_read) × Fits w64 (nat_abs span_read)
-  span_some e = (end-nonneg span_read e, record { fits = lt_of_le_of_lt (subst (λ z. nat_abs z ≤ 66000) (sym span_value) size) (lit< tt) })
-
-  pub span_number : lt_z span_read (pos 0) ≡ false → (((high -ℤ low) +ℤ pos gap) ≤ℤ pos (nat_abs span_read)) × (nat_abs span_read ≤ 66000)
-  span_number e = (subst (λ z. z ≤ℤ pos (nat_abs span_read)) span_value (at_most span_read), subst (λ z. nat_abs z ≤ 66000) (sym span_value) size)
-    where
-      at_most : (z : ℤ) → z ≤ℤ pos (nat_abs z)
-      at_most (pos n) = ≤ℤ_refl (pos n)
-      at_most (negsuc n) = record { le = tt }
+  pub span_most : (((high -ℤ low) +ℤ pos gap) ≤ℤ pos (natural ((high -ℤ low) +ℤ pos gap))) × (natural ((high -ℤ low) +ℤ pos gap) ≤ 66000)
+  span_most = natural_near ((high -ℤ low) +ℤ pos gap) size
 
 -- ---- so many columns
 
--- the quotient, rounded up, times the step is at least the span
-over : (span step : ℕ) → 1 ≤ step → span ≤ (span + step - 1) / step * step
-over span step h =
-    let m : ℕ = span + step - 1 in
-    let e : m / step * step + m % step ≡ m = div-add-mod' m step in
-    let l : m % step < step = mod-lt m h in
-    omega arith
-
--- a product that is not 0 has a factor that is not 0
-some-factor : (r step span : ℕ) → 1 ≤ span → span ≤ r * step → 1 ≤ r
-some-factor zero step span h l = let e : 0 * step ≡ 0 = zero-mul step in absurd (not-suc-le-zero (le_trans h (subst (λ n. span ≤ n) e l)))
-some-factor (suc r) step span h l = omega arith
-
--- One column is enough for a span of at most a step.
-pub columns-one : (span step columns : ℕ) → span ≤ step → 1 ≤ columns → Spaced span step columns 1
-columns-one span step columns h k =
-    record { some = omega arith; most = k; clear = λ d l g. le_trans (subst (λ n. span ≤ n) (sym (one-mul step)) h) (mul-le-mul_right step l) }
-
--- So many columns as the quotient says, or more, are a span apart.
-pub columns-clear : (span step columns r : ℕ) → 1 ≤ step → step < span → (span + step - 1) / step ≤ r → r ≤ columns → Spaced span step columns r
-columns-clear span step columns r h l q most =
-    let apart : span ≤ r * step = le_trans (over span step h) (mul-le-mul_right step q) in
-    record { some = some-factor r step span (omega arith) apart; most = most; clear = λ d k g. le_trans apart (mul-le-mul_right step k) }
-
--- All columns are more than any two of the board's are apart.
-pub columns-all : (span step columns : ℕ) → 1 ≤ columns → Spaced span step columns columns
-columns-all span step columns h = record { some = h; most = omega arith; clear = λ d k g. absurd (never d k g) }
-  where
-    never : (d : ℕ) → columns ≤ d → d < columns → ⊥
-    never d k g = omega arith
+-- So many columns as the quotient says, rounded up, are a span apart; and all columns are more than any two of the board's are apart.
+pub columns-spaced : (span step columns r : ℕ) → 1 ≤ step → 1 ≤ columns → r ≡ max 1 (min (div_ceil span step) columns) → Spaced span step columns r
+columns-spaced span step columns r h k e =
+    record {
+      some = omega arith;
+      most = omega arith;
+      clear = λ d l g. le_trans (div_ceil_times span step h).0 (mul-le-mul_right step (omega arith));
+    }
 
 -- ---- pieces so many columns apart
 

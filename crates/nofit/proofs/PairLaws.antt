@@ -10,6 +10,7 @@ use borrow.Author.Tests.{le-leb, lt-leb, lt-ltb, le-ltb}
 use lib.Dec.{leb, ltb, eqb}
 use lib.IntN.{ℤ}
 use lib.ListN.{length, get_or}
+use mir.Val.{bool_byte}
 use Rattle.words.specs.Bits.{test_bit, bits_where}
 use Rattle.words.specs.Number.{with_number}
 use Rattle.words.specs.Sets.{member}
@@ -30,9 +31,10 @@ use Rattle.shapes.specs.Pieces.{PieceOf, turned_to}
 use Rattle.shapes.specs.declared.boxes.Boxes.{Boxes}
 use Rattle.shapes.proofs.PieceLaws.{parts-turned, piece_turnable}
 use Rattle.shapes.proofs.ViewLaws.{few-kinds, kind-in}
+use Rattle.candidates.specs.Conflicts.{Prepared}
 use Rattle.candidates.proofs.PreparedLaws.{gap_is}
 use Rattle.nofit.specs.Patterns.{offset_conflict, from_middle, blocked, above_string, below_string, string_start, StringsOf, ParitiesOf, MeasuresOf}
-use Rattle.nofit.specs.Filling.{dot_of, conflict_at_dot, blocked_turned, blocked_bit, Ready, Boxed, BoxesIn, Written, allowed, PairOf, bound_of, pattern_of, Small, Fillable, parity_bits, ParitiesTo}
+use Rattle.nofit.specs.Filling.{dot_of, conflict_at_dot, blocked_turned, blocked_bit, Ready, Boxed, BoxesIn, Written, allowed, PairOf, under_of, bound_of, pattern_of, Small, parity_bits, ParitiesTo}
 use Rattle.nofit.specs.declared.places.Nofit.{Nofit}
 use Rattle.nofit.specs.declared.patterns.Pair.{Pair}
 use Rattle.nofit.specs.declared.patterns.Pattern.{Pattern}
@@ -107,7 +109,7 @@ module _ (w : Nofit) (i : ℕ) (h : i < w.kinds * (w.kinds + 1) * 4) where
   place-below = mod-lt (i / 4) (omega arith)
 
   pub pair_above : i / 4 / (w.kinds + 1) < i / 4 % (w.kinds + 1)
-      → PairOf w i (record { kind = i / 4 / (w.kinds + 1); turn = i % 4; other = i / 4 % (w.kinds + 1) - 1; down = 0 })
+      → PairOf w i (record { kind = i / 4 / (w.kinds + 1); turn = i % 4; other = i / 4 % (w.kinds + 1) - 1; under = false })
   unfolding above_string
   pair_above l =
       let e : i / 4 % (w.kinds + 1) - 1 + 1 ≡ i / 4 % (w.kinds + 1) = omega arith in
@@ -119,17 +121,18 @@ module _ (w : Nofit) (i : ℕ) (h : i < w.kinds * (w.kinds + 1) * 4) where
       }
 
   pub pair_below : i / 4 % (w.kinds + 1) ≤ i / 4 / (w.kinds + 1)
-      → PairOf w i (record { kind = i / 4 % (w.kinds + 1); turn = i % 4; other = i / 4 / (w.kinds + 1); down = 1 })
+      → PairOf w i (record { kind = i / 4 % (w.kinds + 1); turn = i % 4; other = i / 4 / (w.kinds + 1); under = true })
   unfolding below_string
   pair_below l =
       record { ordered = l; exists = line-exists; turn = omega arith; which = inr (refl, ap (λ n. n * 4 + i % 4) cell_again ∙ omega arith) }
 
-pub pair_down : (w : Nofit) (i : ℕ) (x : Pair) → PairOf w i x → x.down ≤ 1
-pair_down w i x p = ⊎_elim (λ e. omega (arith, e.0)) (λ e. omega (arith, e.0)) p.which
+pub one_under : (b : Bool) → bool_byte b ≤ 1
+one_under true = omega arith
+one_under false = omega arith
 
 pub pair_small : (s : List ℕ) (w : Nofit) (i : ℕ) (x : Pair) → MeasuresOf s w → PairOf w i x → Small w x
 pair_small s w i x m p =
-    record { reach = reach_near s w m; rows = rows_few s w m; down = pair_down w i x p; turn = p.turn; bits = dots-under s w m x.down (pair_down w i x p) }
+    record { reach = reach_near s w m; rows = rows_few s w m; turn = p.turn; bits = dots-under s w m (under_of x) (one_under x.under) }
 
 -- ---- the pattern of a pair
 
@@ -138,14 +141,14 @@ bound-says : (b : Bool) (z n : ℕ) → ltb z (cond b (n + 1) 0) ≡ (b && leb z
 bound-says true z n = ⊎_elim (λ l. lt-ltb z (n + 1) (omega arith) ∙ sym (le-leb z n l)) (λ l. le-ltb z (n + 1) (omega arith) ∙ sym (lt-leb z n l)) (le_or_lt z n)
 bound-says false z n = le-ltb z 0 (omega arith)
 
-bound-far : (b : Bool) (n : ℕ) → 64 ≤ n → (cond b n 0 ≡ 0) ⊎ (64 ≤ cond b n 0)
-bound-far true n h = inr h
-bound-far false n h = inl refl
+bound-far : (b : Bool) (n : ℕ) → 64 ≤ n → 0 < cond b n 0 → 64 ≤ cond b n 0
+bound-far true n h l = h
+bound-far false n h l = absurd (omega arith)
 
-module _ (s : List ℕ) (v : View) (table : List ℤ) (b : Boxes) (w : Nofit) (room : ℕ) (f : Fillable s v table b w room) (i : ℕ) (x : Pair) (o : PairOf w i x)
+module _ (s : List ℕ) (v : View) (table : List ℤ) (b : Boxes) (f : Prepared s v table b) (w : Nofit) (m : MeasuresOf s w) (i : ℕ) (x : Pair) (o : PairOf w i x)
     (p r : Piece) (hp : PieceOf s x.kind p) (hr : PieceOf s x.other r) where
   pub other-exists : x.other < kind_count (content s).kinds
-  other-exists = omega (arith, o.exists, f.measures.kinds)
+  other-exists = omega (arith, o.exists, m.kinds)
 
   pub kind-exists : x.kind < kind_count (content s).kinds
   kind-exists = omega (arith, o.ordered, other-exists)
@@ -159,7 +162,6 @@ module _ (s : List ℕ) (v : View) (table : List ℤ) (b : Boxes) (w : Nofit) (r
   pub pattern_ready : Ready (pattern_of v w x)
   unfolding bound_of
   pattern_ready =
-      let m = f.measures in
       let g = f.viewed.view.step in
       record {
         some = some-rows s w m;
@@ -167,8 +169,8 @@ module _ (s : List ℕ) (v : View) (table : List ℤ) (b : Boxes) (w : Nofit) (r
         near = reach_near s w m;
         across = rw g m.across;
         up = rw g m.up;
-        lifted = omega (arith, mul-le-mul_right {m = x.down} {n = 1} w.rows (pair_down w i x o));
-        bound = bound-far (eqb x.kind x.other) (64 + (w.reach + x.down) * w.rows * 4 + x.turn + 1) (omega arith);
+        lifted = omega (arith, mul-le-mul_right {m = under_of x} {n = 1} w.rows (one_under x.under));
+        bound = bound-far (eqb x.kind x.other) (64 + (w.reach + under_of x) * w.rows * 4 + x.turn + 1) (omega arith);
       }
 
   pub box-placed : Boxed table (turned_to p x.turn) (box_at b x.kind x.turn)
@@ -189,20 +191,20 @@ module _ (s : List ℕ) (v : View) (table : List ℤ) (b : Boxes) (w : Nofit) (r
   -- The bits of the pattern are those of the string.
   conflict-is : (k n : ℕ) → k < 4
       → conflict_at_dot table (pattern_of v w x) (turned_to p x.turn) (turned_to r k) (dot_of w.rows n)
-      ≡ offset_conflict (content s) x.kind x.turn x.other k (from_middle (content s).sheet.g w.reach (n / w.rows)) (from_middle (content s).sheet.g (x.down * w.rows) (n % w.rows))
+      ≡ offset_conflict (content s) x.kind x.turn x.other k (from_middle (content s).sheet.g w.reach (n / w.rows)) (from_middle (content s).sheet.g (under_of x * w.rows) (n % w.rows))
   unfolding conflict_at_dot offset_conflict
   conflict-is k n h = rw (placed-parts, other-parts k h, f.viewed.view.step, gap_is s v f.viewed x.kind x.other kind-exists other-exists)
 
-  pub blocked-is : (z : ℕ) → blocked_bit table (pattern_of v w x) (turned_to p x.turn) r z ≡ blocked (content s) w x.kind x.turn x.other x.down z
+  pub blocked-is : (z : ℕ) → blocked_bit table (pattern_of v w x) (turned_to p x.turn) r z ≡ blocked (content s) w x.kind x.turn x.other (under_of x) z
   unfolding blocked_bit blocked_turned blocked bound_of
   blocked-is z =
       ap₂ (λ a c. a || (leb 64 z && ltb ((z - 64) / 4 / w.rows) (w.reach * 2 + 1) && c))
-      (bound-says (eqb x.kind x.other) z (64 + (w.reach + x.down) * w.rows * 4 + x.turn))
+      (bound-says (eqb x.kind x.other) z (64 + (w.reach + under_of x) * w.rows * 4 + x.turn))
       (conflict-is (z % 4) ((z - 64) / 4) (omega arith))
 
   -- The string as it is asked for.
   pub pattern_written : (at n : ℕ) (old new : List ℕ) → Written at n (allowed (get_or v.rotations x.other 0)) (blocked_bit table (pattern_of v w x) (turned_to p x.turn) r) old new
-      → Written at n (allowed (kind_at (content s).kinds x.other).rotations) (blocked (content s) w x.kind x.turn x.other x.down) old new
+      → Written at n (allowed (kind_at (content s).kinds x.other).rotations) (blocked (content s) w x.kind x.turn x.other (under_of x)) old new
   pattern_written at n old new t =
       record {
         inside = λ z h a. t.inside z h (ap (λ mask. test_bit mask (z % 4)) (kind-in s v f.viewed x.other other-exists).rotations ∙ a) ∙ blocked-is z;
@@ -218,7 +220,7 @@ module _ (s : List ℕ) (v : View) (table : List ℤ) (b : Boxes) (w : Nofit) (r
     box_of_lem = subst (λ (q : Piece). Boxed table q (box_at b x.kind x.turn)) (sym g) box-placed
 
     pub written_of : (at n : ℕ) (old new : List ℕ) → Written at n (allowed c.mask) (blocked_bit table c q r) old new
-        → Written at n (allowed (kind_at (content s).kinds x.other).rotations) (blocked (content s) w x.kind x.turn x.other x.down) old new
+        → Written at n (allowed (kind_at (content s).kinds x.other).rotations) (blocked (content s) w x.kind x.turn x.other (under_of x)) old new
     written_of at n old new t =
         pattern_written at n old new
         (subst (λ (q : Piece). Written at n (allowed (get_or v.rotations x.other 0)) (blocked_bit table (pattern_of v w x) q r) old new) g
@@ -244,20 +246,20 @@ earlier w n i z h l =
 
 module _ (j : Job) (w : Nofit) (e : w.kinds ≡ kind_count j.kinds) (i : ℕ) (x : Pair) (o : PairOf w i x) (old new : List ℕ)
     (before : StringsOf j w i old) (kept : (m : ℕ) → m < string_start w i → member new m ≡ member old m)
-    (here : Right j w i new x.kind x.turn x.other x.down) where
+    (here : Right j w i new x.kind x.turn x.other (under_of x)) where
   above-here : (t q u : ℕ) → t ≤ u → u < w.kinds → q < 4 → above_string w t q u ≡ i → Right j w i new t q u 0
   unfolding above_string below_string
   above-here t q u h l hq g = go o.which
     where
-      go : ((x.down ≡ 0) × (above_string w x.kind x.turn x.other ≡ i)) ⊎ ((x.down ≡ 1) × (below_string w x.kind x.turn x.other ≡ i)) → Right j w i new t q u 0
+      go : ((x.under ≡ false) × (above_string w x.kind x.turn x.other ≡ i)) ⊎ ((x.under ≡ true) × (below_string w x.kind x.turn x.other ≡ i)) → Right j w i new t q u 0
       go (inl a) =
           let d = a.1 ∙ sym g in
           let ho : x.other + 1 < w.kinds + 1 = omega (arith, o.exists) in
           let hu : u + 1 < w.kinds + 1 = omega arith in
           let place : x.other + 1 ≡ u + 1 = same_place w x.kind (x.other + 1) x.turn t (u + 1) q o.turn hq ho hu d in
-          right-again j w i new t q u 0 x.kind x.turn x.other x.down
+          right-again j w i new t q u 0 x.kind x.turn x.other (under_of x)
           (same_line w x.kind (x.other + 1) x.turn t (u + 1) q o.turn hq ho hu d)
-          (same_turn w x.kind (x.other + 1) x.turn t (u + 1) q o.turn hq ho hu d) (omega arith) a.0 here
+          (same_turn w x.kind (x.other + 1) x.turn t (u + 1) q o.turn hq ho hu d) (omega arith) (ap bool_byte a.0) here
       go (inr a) =
           let d = a.1 ∙ sym g in
           let ho : x.kind < w.kinds + 1 = omega (arith, o.exists, o.ordered) in
@@ -270,7 +272,7 @@ module _ (j : Job) (w : Nofit) (e : w.kinds ≡ kind_count j.kinds) (i : ℕ) (x
   unfolding above_string below_string
   below-here t q u h l hq g = go o.which
     where
-      go : ((x.down ≡ 0) × (above_string w x.kind x.turn x.other ≡ i)) ⊎ ((x.down ≡ 1) × (below_string w x.kind x.turn x.other ≡ i)) → Right j w i new t q u 1
+      go : ((x.under ≡ false) × (above_string w x.kind x.turn x.other ≡ i)) ⊎ ((x.under ≡ true) × (below_string w x.kind x.turn x.other ≡ i)) → Right j w i new t q u 1
       go (inl a) =
           let d = a.1 ∙ sym g in
           let ho : x.other + 1 < w.kinds + 1 = omega (arith, o.exists) in
@@ -282,10 +284,10 @@ module _ (j : Job) (w : Nofit) (e : w.kinds ≡ kind_count j.kinds) (i : ℕ) (x
           let d = a.1 ∙ sym g in
           let ho : x.kind < w.kinds + 1 = omega (arith, o.exists, o.ordered) in
           let ht : t < w.kinds + 1 = omega arith in
-          right-again j w i new t q u 1 x.kind x.turn x.other x.down
+          right-again j w i new t q u 1 x.kind x.turn x.other (under_of x)
           (same_place w x.other x.kind x.turn u t q o.turn hq ho ht d)
           (same_turn w x.other x.kind x.turn u t q o.turn hq ho ht d)
-          (same_line w x.other x.kind x.turn u t q o.turn hq ho ht d) a.0 here
+          (same_line w x.other x.kind x.turn u t q o.turn hq ho ht d) (ap bool_byte a.0) here
 
   -- The strings before i are right, and so is string i: all before i + 1 are.
   pub strings-more : StringsOf j w (i + 1) new
@@ -310,7 +312,7 @@ module _ (j : Job) (w : Nofit) (e : w.kinds ≡ kind_count j.kinds) (i : ℕ) (x
 module _ (j : Job) (w : Nofit) (e : w.kinds ≡ kind_count j.kinds) (i : ℕ) (x : Pair) (o : PairOf w i x) (old : List ℕ) (before : StringsOf j w i old) where
   -- String i is filled.
   pub string-filled : (new : List ℕ)
-      → Written (w.first + i * w.size) w.size (allowed (kind_at j.kinds x.other).rotations) (blocked j w x.kind x.turn x.other x.down) old new
+      → Written (w.first + i * w.size) w.size (allowed (kind_at j.kinds x.other).rotations) (blocked j w x.kind x.turn x.other (under_of x)) old new
       → StringsOf j w (i + 1) new
   unfolding string_start
   string-filled new f = strings-more j w e i x o old new before (λ m h. f.outside m (inl h)) (λ a z h b. f.inside z h b)

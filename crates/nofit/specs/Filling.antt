@@ -1,6 +1,7 @@
 -- Filling the table of no-fit strings: what a string is made of, its bits by the pieces as they stand in the table of turned parts, and a run of
 -- words written whole.
-use Rattle.std.specs.Prelude.{Bool, true, cond, ◌&&◌, ◌||◌, List, map, ◌⊎◌, ◌≡◌, ℕ, ◌+◌, ◌-◌, ◌*◌, ◌/◌, ◌%◌, ◌≤◌, ◌<◌, leb, ltb, eqb, ℤ, get_or}
+use Rattle.std.specs.Prelude.{Bool, true, false, cond, ◌&&◌, ◌||◌, List, map, ◌⊎◌, ◌≡◌, ℕ, ◌+◌, ◌-◌, ◌*◌, ◌/◌, ◌%◌, ◌≤◌, ◌<◌, leb, ltb, eqb, ℤ, get_or}
+use mir.Val.{bool_byte}
 use Rattle.words.specs.Bits.{test_bit}
 use Rattle.words.specs.Sets.{member}
 use Rattle.model.specs.Geometry.{pieces_conflict}
@@ -10,13 +11,12 @@ use Rattle.polygons.specs.Flat.{shifted}
 use Rattle.polygons.specs.declared.extents.Extents.{Extents}
 use Rattle.geometry.specs.Pieces.{Standing, parts_in}
 use Rattle.geometry.specs.declared.pieces.Piece.{Piece}
-use Rattle.job.specs.View.{Viewed}
 use Rattle.job.specs.declared.View.{View}
-use Rattle.shapes.specs.Boxes.{box_at, BoxesOf}
+use Rattle.shapes.specs.Boxes.{box_at}
 use Rattle.shapes.specs.Pieces.{turned_to, Turnable}
-use Rattle.shapes.specs.Turned.{TurnedOf}
 use Rattle.shapes.specs.declared.boxes.Boxes.{Boxes}
 use Rattle.candidates.specs.Conflicts.{view_gap}
+use Rattle.candidates.specs.declared.prepared.PreparedJob.{PreparedJob}
 use Rattle.nofit.specs.Patterns.{from_middle, above_string, below_string, MeasuresOf}
 use Rattle.nofit.specs.declared.places.Nofit.{Nofit}
 use Rattle.nofit.specs.declared.patterns.Dot.{Dot}
@@ -57,7 +57,7 @@ pub record Ready (s : Pattern) : Type 0 where
   pub across : s.reach * s.step ≤ 2000
   pub up : s.rows * s.step ≤ 2000
   pub lifted : s.lift ≤ s.rows
-  pub bound : (s.below ≡ 0) ⊎ (64 ≤ s.below)
+  pub bound : 0 < s.below → 64 ≤ s.below
 
 -- The piece stands in the table, and e is its box.
 pub record Boxed (table : List ℤ) (p : Piece) (e : Extents) : Type 0 where
@@ -96,16 +96,20 @@ allowed mask z = test_bit mask (z % 4)
 
 -- ---- strings
 
+-- How many times as many rows as the board has the string's rows begin under the placed one's.
+abbrev pub under_of : Pair → ℕ
+under_of x = bool_byte x.under
+
 -- String i is that of this pair: of a kind and its rotation and a kind that is not before it, for the rows at or above the placed one's or for those under it.
 pub record PairOf (w : Nofit) (i : ℕ) (x : Pair) : Type 0 where
   pub ordered : x.kind ≤ x.other
   pub exists : x.other < w.kinds
   pub turn : x.turn < 4
-  pub which : ((x.down ≡ 0) × (above_string w x.kind x.turn x.other ≡ i)) ⊎ ((x.down ≡ 1) × (below_string w x.kind x.turn x.other ≡ i))
+  pub which : ((x.under ≡ false) × (above_string w x.kind x.turn x.other ≡ i)) ⊎ ((x.under ≡ true) × (below_string w x.kind x.turn x.other ≡ i))
 
 -- The number below which all of a string is blocked: in the string of a kind with itself that behind the placed piece's.
 unfoldable pub bound_of : Nofit → Pair → ℕ
-bound_of w x = cond (eqb x.kind x.other) (64 + (w.reach + x.down) * w.rows * 4 + x.turn + 1) 0
+bound_of w x = cond (eqb x.kind x.other) (64 + (w.reach + under_of x) * w.rows * 4 + x.turn + 1) 0
 
 -- The pattern of a pair.
 abbrev pub pattern_of : View → Nofit → Pair → Pattern
@@ -114,7 +118,7 @@ pattern_of v w x =
       step = v.step;
       rows = w.rows;
       reach = w.reach;
-      lift = x.down * w.rows;
+      lift = under_of x * w.rows;
       below = bound_of w x;
       mask = get_or v.rotations x.other 0;
       gap = view_gap v x.kind x.other;
@@ -124,16 +128,12 @@ pattern_of v w x =
 pub record Small (w : Nofit) (x : Pair) : Type 0 where
   pub reach : w.reach ≤ 4000
   pub rows : w.rows ≤ 4000
-  pub down : x.down ≤ 1
   pub turn : x.turn < 4
-  pub bits : (w.reach + x.down) * w.rows ≤ 4000
+  pub bits : (w.reach + under_of x) * w.rows ≤ 4000
 
 -- What the table is filled from, and room for it.
-pub record Fillable (s : List ℕ) (v : View) (table : List ℤ) (b : Boxes) (w : Nofit) (room : ℕ) : Type 0 where
-  pub viewed : Viewed s v
-  pub turned : TurnedOf s table
-  pub boxes : BoxesOf s b
-  pub measures : MeasuresOf s w
+pub record Fillable (p : PreparedJob) (w : Nofit) (room : ℕ) : Type 0 where
+  pub measures : MeasuresOf p.job.now w
   pub fits : (w.first + w.held * w.size + 1) * 8 ≤ room
 
 -- ---- parities

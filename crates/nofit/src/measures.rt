@@ -24,16 +24,11 @@ fn common_box(view: View, boxes: Boxes) -> Extents
     requires { Bounded view }
     ensures { Around view.rotations boxes.of (view.kinds * 4) result }
 {
-    let masks = view.rotations;
-    let of = boxes.of;
-    let n = view.kinds * 4;
-    let mut e = box_at(boxes, 0, lowest_turn(masks[0]));
-    let mut i: usize = 0;
-    while i < n {
-        if words::bits::test_bit(masks[i / 4] as u64, (i % 4) as u64) {
-            e = join(e, of[i]);
+    let mut e = box_at(boxes, 0, lowest_turn(view.rotations[0]));
+    for i in 0..view.kinds * 4 {
+        if words::bits::test_bit(view.rotations[i / 4] as u64, (i % 4) as u64) {
+            e = join(e, boxes.of[i]);
         }
-        i += 1;
     }
     e
 }
@@ -43,16 +38,9 @@ fn largest_gap(view: View) -> usize
     requires { Bounded view }
     ensures { (result ≤ 63) × NoLarger view.gaps view.kinds result }
 {
-    let gaps = view.gaps;
-    let n = view.kinds;
-    let mut r: usize = 0;
-    let mut t: usize = 0;
-    while t < n {
-        let gap = gaps[t];
-        if r < gap {
-            r = gap;
-        }
-        t += 1;
+    let mut r = 0;
+    for t in 0..view.kinds {
+        r = r.max(view.gaps[t]);
     }
     r
 }
@@ -63,10 +51,7 @@ fn span_of(low: i16, high: i16, gap: usize) -> usize
     ensures { (((high -ℤ low) +ℤ pos gap) ≤ℤ pos result) × (result ≤ 66000) }
 {
     let x = (high as i64) - (low as i64) + (gap as i64);
-    if x < 0 {
-        return 0;
-    }
-    x as usize
+    x.max(0) as usize
 }
 
 // So many columns of a board are a span apart, at least one and at most all of them.
@@ -74,14 +59,7 @@ fn columns_over(span: usize, step: usize, columns: usize) -> usize
     requires { (span ≤ 66000) × ((1 ≤ step) × ((step ≤ 1000) × (1 ≤ columns))) }
     ensures { Spaced span step columns result }
 {
-    if span <= step {
-        return 1;
-    }
-    let n = (span + step - 1) / step;
-    if n > columns {
-        return columns;
-    }
-    n
+    span.div_ceil(step).clamp(1, columns)
 }
 
 // How many columns apart two pieces have to stand so that none of the job's pieces, at any rotations that they may have, are in conflict.
@@ -99,7 +77,7 @@ fn parity_words(rows: usize, columns: usize) -> usize
     requires { (1 ≤ columns) × (columns * rows ≤ 1024) }
     ensures { (rows * 4 + (columns * rows + 15) / 16 * 64 ≤ result * 64) × (result ≤ 200) }
 {
-    (rows * 4 + 63) / 64 + (columns * rows + 15) / 16
+    (rows * 4).div_ceil(64) + (columns * rows).div_ceil(16)
 }
 
 // So many words has a string: the columns of both sides and the placed piece's own, a word before them and one behind them.
@@ -107,7 +85,7 @@ fn string_words(rows: usize, reach: usize) -> usize
     requires { ((1 ≤ reach) × (1 ≤ rows)) × (reach * rows ≤ 1024) }
     ensures { ((reach * 2 + 1) * rows * 4 + 128 ≤ result * 64) × (result ≤ 200) }
 {
-    ((reach * 2 + 1) * rows * 4 + 63) / 64 + 2
+    ((reach * 2 + 1) * rows * 4).div_ceil(64) + 2
 }
 
 // So many strings are held: all of them, or as many as there is room for.
@@ -115,12 +93,7 @@ fn strings_held(kinds: usize, size: usize, room: usize) -> usize
     requires { (kinds ≤ 8) × (1 ≤ size) }
     ensures { (result ≤ kinds * (kinds + 1) * 4) × (result * size ≤ room) }
 {
-    let all = kinds * (kinds + 1) * 4;
-    let most = room / size;
-    if most < all {
-        return most;
-    }
-    all
+    (kinds * (kinds + 1) * 4).min(room / size)
 }
 
 // The measures of the table for this job, whose strings take at most so many words.

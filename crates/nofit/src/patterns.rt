@@ -5,14 +5,17 @@ ghost use Rattle.model.specs.Content.{kind_at};
 ghost use Rattle.model.specs.Format.{content};
 ghost use Rattle.job.specs.View.{Viewed};
 ghost use Rattle.shapes.specs.Boxes.{BoxesOf};
+ghost use Rattle.shapes.specs.Pieces.{turned_to};
 ghost use Rattle.shapes.specs.Turned.{TurnedOf};
+ghost use Rattle.candidates.specs.Facts.{facts};
 ghost use Rattle.candidates.specs.Placements.{Bounded};
 ghost use Rattle.nofit.specs.Patterns.{from_middle, blocked, StringsOf, ParitiesOf, MeasuresOf, NofitOf};
 ghost use Rattle.nofit.specs.Filling.{dot_of, conflict_at_dot, blocked_at_dot, blocked_turned, blocked_bit, Ready, Boxed, BoxesIn, TurnSet, FirstWord, WordSet, Written, allowed};
-ghost use Rattle.nofit.specs.Filling.{PairOf, bound_of, pattern_of, Small, Fillable, parity_bits, ParitiesTo};
+ghost use Rattle.nofit.specs.Filling.{PairOf, under_of, bound_of, pattern_of, Small, Fillable, parity_bits, ParitiesTo};
 
 use crate::places::Nofit;
 use candidates::conflicts::pair_gap;
+use candidates::prepared::PreparedJob;
 use geometry::pairs::boxes_apart;
 use geometry::pieces::{Piece, pieces_conflict};
 use job::View;
@@ -41,13 +44,43 @@ pub struct Pattern {
     pub gap: u16,
 }
 
-// Whose string it is: the placed kind and its rotation, the other kind, and 1 for the rows under the placed piece's, 0 for its row and those above.
+// Whose string it is: the placed kind and its rotation, the other kind, and whether it is for the rows under the placed piece's, or for its row and
+// those above.
 #[derive(Clone, Copy)]
 pub struct Pair {
     pub kind: usize,
     pub turn: usize,
     pub other: usize,
-    pub down: usize,
+    pub under: bool,
+}
+
+// A piece as it stands in the table of turned parts, and its box.
+#[derive(Clone, Copy)]
+pub struct BoxedPiece {
+    pub piece: Piece,
+    pub extents: Extents,
+}
+
+// The placed piece of a string and the other one, which is turned so, in the table of turned parts.
+#[derive(Clone, Copy)]
+pub struct Facing<'a> {
+    pub turned: &'a [i16],
+    pub pattern: Pattern,
+    pub placed: BoxedPiece,
+    pub other: BoxedPiece,
+    pub ghost ready: { Ready pattern × (Boxed turned.now placed.piece placed.extents × Boxed turned.now other.piece other.extents) } by { Prim.hlevel facts },
+}
+
+// What a string is filled from: the table of turned parts, the placed piece in it, and the other kind with its piece as it stands unturned and the boxes.
+#[derive(Clone, Copy)]
+pub struct Source<'a> {
+    pub turned: &'a [i16],
+    pub pattern: Pattern,
+    pub placed: BoxedPiece,
+    pub kind: usize,
+    pub other: Piece,
+    pub boxes: Boxes,
+    pub ghost ready: { Ready pattern × (Boxed turned.now placed.piece placed.extents × BoxesIn turned.now other kind boxes) } by { Prim.hlevel facts },
 }
 
 // How far place n lies from the middle one.
@@ -56,52 +89,6 @@ fn away(step: usize, middle: usize, n: usize) -> i16
     ensures { result ≡ from_middle step middle n }
 {
     ((n * step) as i16) - ((middle * step) as i16)
-}
-
-// Whether the pieces, as they stand turned, are in conflict at the offset of a dot. Boxes that are apart decide most dots.
-fn conflict_at(
-    turned: &[i16],
-    s: Pattern,
-    p: Piece,
-    r: Piece,
-    e: Extents,
-    f: Extents,
-    d: Dot,
-) -> bool
-    requires ready { Ready s × (Boxed turned.now p e × Boxed turned.now r f) }
-    requires column_bound { (d.column < s.reach * 2 + 1) × (d.row < s.rows) }
-    ensures { result ≡ conflict_at_dot turned.now s p r d }
-{
-    let dx = away(s.step, s.reach, d.column);
-    let dy = away(s.step, s.lift, d.row);
-    if boxes_apart(e, f, dx, dy, s.gap) {
-        return false;
-    }
-    pieces_conflict(turned, p, r, dx, dy, s.gap)
-}
-
-// Whether bit z of a string is set, which belongs to the dot d and to the other piece as it stands turned.
-fn is_blocked(
-    turned: &[i16],
-    s: Pattern,
-    p: Piece,
-    r: Piece,
-    e: Extents,
-    f: Extents,
-    z: usize,
-    d: Dot,
-) -> bool
-    requires ready { Ready s × (Boxed turned.now p e × Boxed turned.now r f) }
-    requires row_lt_rows { d.row < s.rows }
-    ensures { result ≡ blocked_at_dot turned.now s p r z d }
-{
-    if z < s.below {
-        return true;
-    }
-    if d.column < s.reach * 2 + 1 {
-        return conflict_at(turned, s, p, r, e, f, d);
-    }
-    false
 }
 
 // Dot n of a string.
@@ -133,103 +120,101 @@ fn next_dot(rows: usize, d: Dot, n: usize) -> Dot
     }
 }
 
-// The bits of one rotation k of the other piece, which stands turned so, in a word behind the first one. The bits of the other rotations stay as they are in w.
-fn turn_word(
-    turned: &[i16],
-    s: Pattern,
-    p: Piece,
-    r: Piece,
-    e: Extents,
-    f: Extents,
-    k: usize,
-    word: usize,
-    w: u64,
-) -> u64
-    requires ready { (Ready s × (k < 4)) × (Boxed turned.now p e × Boxed turned.now r f) }
-    requires word_bounds { (1 ≤ word) × (word ≤ 200) }
-    ensures { TurnSet k 16 (λ i. blocked_turned turned.now s p r (word * 64 + i)) w result }
-{
-    let first = (word - 1) * 16;
-    let mut v = w;
-    let mut d = dot_of(s.rows, first);
-    let mut n: usize = 0;
-    while n < 16 {
-        let i = n * 4 + k;
-        let on = is_blocked(turned, s, p, r, e, f, word * 64 + i, d);
-        v = bits::assign_bit(v, i as u64, on);
-        d = next_dot(s.rows, d, first + n);
-        n += 1;
+impl<'a> Facing<'a> {
+    // Whether the pieces are in conflict at the offset of a dot. Boxes that are apart decide most dots.
+    fn conflicts_at(&self, d: Dot) -> bool
+        requires { (d.column < self.now.pattern.reach * 2 + 1) × (d.row < self.now.pattern.rows) }
+        ensures { result ≡ conflict_at_dot self.now.turned.now self.now.pattern self.now.placed.piece self.now.other.piece d }
+    {
+        let s = self.pattern;
+        let placed = self.placed;
+        let other = self.other;
+        let dx = away(s.step, s.reach, d.column);
+        let dy = away(s.step, s.lift, d.row);
+        if boxes_apart(placed.extents, other.extents, dx, dy, s.gap) {
+            return false;
+        }
+        pieces_conflict(self.turned, placed.piece, other.piece, dx, dy, s.gap)
     }
-    v
+
+    // Whether bit z of the string is set, which belongs to the dot d and to the other piece as it stands turned.
+    fn blocks(&self, z: usize, d: Dot) -> bool
+        requires { d.row < self.now.pattern.rows }
+        ensures { result ≡ blocked_at_dot self.now.turned.now self.now.pattern self.now.placed.piece self.now.other.piece z d }
+    {
+        z < self.pattern.below || (d.column < self.pattern.reach * 2 + 1 && self.conflicts_at(d))
+    }
+
+    // The bits of the other piece's rotation k in a word behind the first one. The bits of the other rotations stay as they are in w.
+    fn turn_word(&self, k: usize, word: usize, w: u64) -> u64
+        requires rotation { k < 4 }
+        requires word_bounds { (1 ≤ word) × (word ≤ 200) }
+        ensures { TurnSet k 16 (λ i. blocked_turned self.now.turned.now self.now.pattern self.now.placed.piece self.now.other.piece (word * 64 + i)) w result }
+    {
+        let rows = self.pattern.rows;
+        let first = (word - 1) * 16;
+        let mut v = w;
+        let mut d = dot_of(rows, first);
+        for n in 0..16 {
+            let i = n * 4 + k;
+            v = bits::assign_bit(v, i as u64, self.blocks(word * 64 + i, d));
+            d = next_dot(rows, d, first + n);
+        }
+        v
+    }
 }
 
 // The first word of a string, which stands before its first dot.
 fn first_word(below: usize) -> u64
     ensures { FirstWord below result }
 {
-    if below > 0 { 0xffff_ffff_ffff_ffff } else { 0 }
+    if below > 0 { u64::MAX } else { 0 }
 }
 
-// Word number `word` of a string. Rotations that kind u, whose piece is r, may not have cost no test.
-fn string_word(
-    turned: &[i16],
-    s: Pattern,
-    p: Piece,
-    r: Piece,
-    e: Extents,
-    boxes: Boxes,
-    u: usize,
-    word: usize,
-) -> u64
-    requires { (Ready s × (word ≤ 200)) × (Boxed turned.now p e × BoxesIn turned.now r u boxes) }
-    ensures { WordSet (allowed s.mask) (λ i. blocked_bit turned.now s p r (word * 64 + i)) result }
-{
-    if word == 0 {
-        return first_word(s.below);
-    }
-    let mut v = 0;
-    let mut k: usize = 0;
-    while k < 4 {
-        if bits::test_bit(s.mask, k as u64) {
-            v = turn_word(
-                turned,
-                s,
-                p,
-                turned_to(r, k),
-                e,
-                box_at(boxes, u, k),
-                k,
-                word,
-                v,
-            );
+impl<'a> Source<'a> {
+    // The other piece at rotation k, and the placed one.
+    fn facing(&self, k: usize) -> Facing<'a>
+        requires { k < 4 }
+        ensures at { (result.turned.now ≡ self.now.turned.now) × ((result.pattern ≡ self.now.pattern) × (result.placed ≡ self.now.placed)) }
+        ensures other { result.other.piece ≡ turned_to self.now.other k }
+    {
+        Facing {
+            turned: self.turned,
+            pattern: self.pattern,
+            placed: self.placed,
+            other: BoxedPiece {
+                piece: turned_to(self.other, k),
+                extents: box_at(self.boxes, self.kind, k),
+            },
         }
-        k += 1;
     }
-    v
-}
 
-// A string of `size` words, from word `at` on.
-fn fill_string(
-    turned: &[i16],
-    s: Pattern,
-    p: Piece,
-    r: Piece,
-    e: Extents,
-    boxes: Boxes,
-    u: usize,
-    at: usize,
-    size: usize,
-    bits: &mut [u8],
-)
-    requires ready { (Ready s × ((size ≤ 200) × (at ≤ 100000))) × (Boxed turned.now p e × BoxesIn turned.now r u boxes) }
-    requires size_in_bounds { (at + size) * 8 ≤ length bits.old }
-    ensures { Written at size (allowed s.mask) (blocked_bit turned.now s p r) bits.old bits.new }
-{
-    let mut k: usize = 0;
-    while k < size {
-        let v = string_word(turned, s, p, r, e, boxes, u, k);
-        numbers::put_u64(bits, (at + k) * 8, v);
-        k += 1;
+    // Word number `word` of the string. Rotations that the other kind may not have cost no test.
+    fn word(&self, word: usize) -> u64
+        requires { word ≤ 200 }
+        ensures { WordSet (allowed self.now.pattern.mask) (λ i. blocked_bit self.now.turned.now self.now.pattern self.now.placed.piece self.now.other (word * 64 + i)) result }
+    {
+        if word == 0 {
+            return first_word(self.pattern.below);
+        }
+        let mut v = 0;
+        for k in 0..4 {
+            if bits::test_bit(self.pattern.mask, k as u64) {
+                v = self.facing(k).turn_word(k, word, v);
+            }
+        }
+        v
+    }
+
+    // The string of `size` words, from word `at` on.
+    fn fill(&self, at: usize, size: usize, bits: &mut [u8])
+        requires sizes { (size ≤ 200) × (at ≤ 100000) }
+        requires size_in_bounds { (at + size) * 8 ≤ length bits.old }
+        ensures { Written at size (allowed self.now.pattern.mask) (blocked_bit self.now.turned.now self.now.pattern self.now.placed.piece self.now.other) bits.old bits.new }
+    {
+        for k in 0..size {
+            numbers::put_u64(bits, (at + k) * 8, self.word(k));
+        }
     }
 }
 
@@ -239,7 +224,7 @@ fn bound_of(nofit: Nofit, x: Pair) -> usize
     ensures { result ≡ bound_of nofit x }
 {
     if x.kind == x.other {
-        return 64 + (nofit.reach + x.down) * nofit.rows * 4 + x.turn + 1;
+        return 64 + (nofit.reach + usize::from(x.under)) * nofit.rows * 4 + x.turn + 1;
     }
     0
 }
@@ -250,15 +235,13 @@ fn pattern_of(view: View, nofit: Nofit, x: Pair) -> Pattern
     requires small { Small nofit x }
     ensures { result ≡ pattern_of view nofit x }
 {
-    let masks = view.rotations;
-    let other = x.other;
     Pattern {
         step: view.step,
         rows: nofit.rows,
         reach: nofit.reach,
-        lift: x.down * nofit.rows,
+        lift: usize::from(x.under) * nofit.rows,
         below: bound_of(nofit, x),
-        mask: masks[other] as u64,
+        mask: view.rotations[x.other] as u64,
         gap: pair_gap(view, x.kind, x.other),
     }
 }
@@ -268,45 +251,44 @@ fn pair_of(nofit: Nofit, i: usize) -> Pair
     requires { (nofit.kinds ≤ 8) × (i < nofit.kinds * (nofit.kinds + 1) * 4) }
     ensures { PairOf nofit i result }
 {
+    let turn = i % 4;
     let line = i / 4 / (nofit.kinds + 1);
     let place = i / 4 % (nofit.kinds + 1);
     if line < place {
         return Pair {
             kind: line,
-            turn: i % 4,
+            turn,
             other: place - 1,
-            down: 0,
+            under: false,
         };
     }
     Pair {
         kind: place,
-        turn: i % 4,
+        turn,
         other: line,
-        down: 1,
+        under: true,
     }
 }
 
 // String i, that of the pair x.
-fn fill_pair(
-    job: &[u8],
-    view: View,
-    turned: &[i16],
-    boxes: Boxes,
-    nofit: Nofit,
-    x: Pair,
-    i: usize,
-    bits: &mut [u8],
-)
-    requires fillable { Fillable job.now view turned.now boxes nofit (length bits.old) }
+fn fill_pair(prepared: &PreparedJob, nofit: Nofit, x: Pair, i: usize, bits: &mut [u8])
+    requires fillable { Fillable prepared.now nofit (length bits.old) }
     requires pair_of { PairOf nofit i x × (i < nofit.held) }
-    ensures { Written (nofit.first + i * nofit.size) nofit.size (allowed (kind_at (content job.now).kinds x.other).rotations) (blocked (content job.now) nofit x.kind x.turn x.other x.down) bits.old bits.new }
+    ensures { Written (nofit.first + i * nofit.size) nofit.size (allowed (kind_at (content prepared.now.job.now).kinds x.other).rotations) (blocked (content prepared.now.job.now) nofit x.kind x.turn x.other (under_of x)) bits.old bits.new }
 {
-    let p = turned_to(piece_of(job, view, x.kind), x.turn);
-    let r = piece_of(job, view, x.other);
-    let s = pattern_of(view, nofit, x);
-    let e = box_at(boxes, x.kind, x.turn);
-    let at = nofit.first + i * nofit.size;
-    fill_string(turned, s, p, r, e, boxes, x.other, at, nofit.size, bits);
+    let view = prepared.view;
+    let source = Source {
+        turned: prepared.turned,
+        pattern: pattern_of(view, nofit, x),
+        placed: BoxedPiece {
+            piece: turned_to(piece_of(prepared.job, view, x.kind), x.turn),
+            extents: box_at(prepared.boxes, x.kind, x.turn),
+        },
+        kind: x.other,
+        other: piece_of(prepared.job, view, x.other),
+        boxes: prepared.boxes,
+    };
+    source.fill(nofit.first + i * nofit.size, nofit.size, bits);
 }
 
 // Whether kind t may be turned q quarter turns.
@@ -314,39 +296,19 @@ fn is_turned(view: View, t: usize, q: usize) -> bool
     requires { Bounded view × ((t < view.kinds) × (q < 4)) }
     ensures { result ≡ test_bit (get_or view.rotations t 0) q }
 {
-    let masks = view.rotations;
-    bits::test_bit(masks[t] as u64, q as u64)
+    bits::test_bit(view.rotations[t] as u64, q as u64)
 }
 
 // String i, if the placed kind may be turned so. The strings before it and the parities stay as they are.
-fn fill_next(
-    job: &[u8],
-    view: View,
-    turned: &[i16],
-    boxes: Boxes,
-    nofit: Nofit,
-    i: usize,
-    bits: &mut [u8],
-)
-    requires fillable { Fillable job.now view turned.now boxes nofit (length bits.old) × (i < nofit.held) }
-    requires parities_of { ParitiesOf nofit bits.old × StringsOf (content job.now) nofit i bits.old }
-    ensures { ParitiesOf nofit bits.new × StringsOf (content job.now) nofit (i + 1) bits.new }
+fn fill_next(prepared: &PreparedJob, nofit: Nofit, i: usize, bits: &mut [u8])
+    requires fillable { Fillable prepared.now nofit (length bits.old) × (i < nofit.held) }
+    requires parities_of { ParitiesOf nofit bits.old × StringsOf (content prepared.now.job.now) nofit i bits.old }
+    ensures { ParitiesOf nofit bits.new × StringsOf (content prepared.now.job.now) nofit (i + 1) bits.new }
 {
     let x = pair_of(nofit, i);
-    if is_turned(view, x.kind, x.turn) {
-        fill_pair(job, view, turned, boxes, nofit, x, i, bits);
+    if is_turned(prepared.view, x.kind, x.turn) {
+        fill_pair(prepared, nofit, x, i, bits);
     }
-}
-
-// The dot of bit i + 1, where d is the dot of bit i and four bits belong to each dot from `first` on.
-fn dot_behind(rows: usize, d: Dot, first: usize, i: usize) -> Dot
-    requires { ((1 ≤ rows) × (first ≤ 10000)) × ((i < 64) × (d ≡ dot_of rows (first + i / 4))) }
-    ensures { result ≡ dot_of rows (first + (i + 1) / 4) }
-{
-    if i % 4 == 3 {
-        return next_dot(rows, d, first + i / 4);
-    }
-    d
 }
 
 // Word k of the parities.
@@ -354,16 +316,7 @@ fn parity_word(rows: usize, k: usize) -> u64
     requires { (1 ≤ rows) × (k ≤ 200) }
     ensures { result ≡ bits_where 64 (parity_bits rows k) }
 {
-    let first = k * 16;
-    let mut r = 0;
-    let mut d = dot_of(rows, first);
-    let mut i: usize = 0;
-    while i < 64 {
-        r = bits::assign_bit(r, i as u64, bits::test_bit(d.column as u64, 0));
-        d = dot_behind(rows, d, first, i);
-        i += 1;
-    }
-    r
+    bits::word_of(|i| bits::test_bit(((k * 64 + i) / 4 / rows) as u64, 0))
 }
 
 // The parities of the columns, in the first words.
@@ -371,11 +324,8 @@ fn fill_parities(rows: usize, first: usize, bits: &mut [u8])
     requires { ((1 ≤ rows) × (first ≤ 200)) × (first * 8 ≤ length bits.old) }
     ensures { ParitiesTo rows first bits.new }
 {
-    let mut k: usize = 0;
-    while k < first {
-        let v = parity_word(rows, k);
-        numbers::put_u64(bits, k * 8, v);
-        k += 1;
+    for k in 0..first {
+        numbers::put_u64(bits, k * 8, parity_word(rows, k));
     }
 }
 
@@ -392,10 +342,14 @@ pub fn make_nofit(
     requires measures_of { MeasuresOf job.now nofit × ((nofit.first + nofit.held * nofit.size + 1) * 8 ≤ length bits.old) }
     ensures { NofitOf job.now nofit bits.new }
 {
+    let prepared = PreparedJob {
+        job,
+        view,
+        turned,
+        boxes,
+    };
     fill_parities(nofit.rows, nofit.first, bits);
-    let mut i: usize = 0;
-    while i < nofit.held {
-        fill_next(job, view, turned, boxes, nofit, i, bits);
-        i += 1;
+    for i in 0..nofit.held {
+        fill_next(&prepared, nofit, i, bits);
     }
 }

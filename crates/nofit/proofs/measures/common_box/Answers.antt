@@ -8,22 +8,19 @@ use Rattle.nofit.proofs.measures.common_box.Goals as goal
 use Rattle.nofit.proofs.measures.common_box.Goals.{then-test_bit, else-test_bit}
 
 pub loop-i-init : goal.loop-i-init
-loop-i-init c = (omega arith, below_none _)
+loop-i-init c = below_none _
 
 pub loop-i-preserved : goal.loop-i-preserved
 loop-i-preserved c =
     let masks = c.args.view.rotations in
     let of = c.args.boxes.of in
-    let i = c.loop-i.i in (
-      omega arith,
-      elim c.if-test_bit.branch [
-        | then-test_bit w ↦ around_next masks of i c.loop-i.e c.loop-i.invariant.1 c.if-test_bit.e (w.e-is ∙ w.join-e.ensures)
-        | else-test_bit w ↦
-            subst (Around masks of (i + 1)) (sym w.e-is)
-            (around_skip masks of i c.loop-i.e c.loop-i.invariant.1 _ (i % 4 % 64) c.test_bit.ensures (omega arith)
-            w.if-test_bit.false)
-      ],
-    )
+    let i = c.loop-i.i in
+    elim c.if-test_bit.branch [
+      | then-test_bit w ↦ around_next masks of i c.loop-i.e c.loop-i.invariant c.if-test_bit.e (w.e-is ∙ w.join-e.ensures)
+      | else-test_bit w ↦
+          subst (Around masks of (i + 1)) (sym w.e-is)
+          (around_skip masks of i c.loop-i.e c.loop-i.invariant _ (i % 4 % 64) c.test_bit.ensures (omega arith) w.if-test_bit.false)
+    ]
 
 pub returns : goal.returns
-returns c = λ i l t. c.loop-i.invariant.1 i (omega arith) t
+returns c = λ i l t. c.loop-i.invariant i (omega arith) t

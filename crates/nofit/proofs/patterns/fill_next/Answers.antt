@@ -13,18 +13,20 @@ use Rattle.nofit.proofs.patterns.fill_next.Goals as goal
 
 pub pair_of-x-requires : goal.pair_of-x-requires
 pair_of-x-requires c =
+    let p = c.args.prepared.now in
     let f = c.requires.fillable.0 in
-    ((held-few c.args.job.now c.args.view f.viewed c.args.nofit f.measures).0, omega (arith, c.requires.fillable.1, f.measures.few))
+    ((held-few p.job.now p.view p.prepared.viewed c.args.nofit f.measures).0, omega (arith, c.requires.fillable.1, f.measures.few))
 
 pub is_turned-requires : goal.is_turned-requires
 is_turned-requires c =
-    let f = c.requires.fillable.0 in
+    let p = c.args.prepared.now in
+    let x = p.prepared.viewed in
     let o = c.pair_of-x.ensures in
-    (bounded c.args.job.now c.args.view f.viewed, (omega (arith, o.ordered, o.exists, f.measures.kinds, f.viewed.view.kinds), o.turn))
+    (bounded p.job.now p.view x, (omega (arith, o.ordered, o.exists, c.requires.fillable.0.measures.kinds, x.view.kinds), o.turn))
 
 pub returns-then-is_turned : goal.returns-then-is_turned
 returns-then-is_turned c =
-    let s = c.args.job.now in
+    let s = c.args.prepared.now.job.now in
     let w = c.args.nofit in
     let i = c.args.i in
     let bits = c.args.bits.now in (
@@ -34,14 +36,14 @@ returns-then-is_turned c =
 
 pub returns-else-is_turned : goal.returns-else-is_turned
 returns-else-is_turned c =
-    let s = c.args.job.now in
+    let s = c.args.prepared.now.job.now in
     let w = c.args.nofit in
     let i = c.args.i in
     let f = c.requires.fillable.0 in
     let x = c.pair_of-x.result in
     let o = c.pair_of-x.ensures in
     let k : x.kind < kind_count (content s).kinds = omega (arith, o.ordered, o.exists, f.measures.kinds) in
-    let m = (kind-in s c.args.view f.viewed x.kind k).rotations in (
+    let m = (kind-in s c.args.prepared.now.view c.args.prepared.now.prepared.viewed x.kind k).rotations in (
       c.requires.parities_of.0,
       string-skipped (content s) w f.measures.kinds i x o c.args.bits.now c.requires.parities_of.1
           (λ h. not_both h (ap (λ mask. test_bit mask x.turn) (sym m) ∙ sym c.is_turned.ensures ∙ c.if-is_turned.false)),
