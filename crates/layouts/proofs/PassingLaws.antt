@@ -1,4 +1,5 @@
 -- What the code tests of a layout is what the model says: order, copies, and the service's answers. Assumes nothing.
+use Rattle.job.specs.View.{demand_of}
 use mathlib.Core.Bool.{Bool, true, false, not, ◌&&◌}
 use mathlib.Core.List.{List, map}
 use mathlib.Core.Path.{◌≡◌, refl, sym, ap, ap₂, ◌∙◌}
@@ -6,7 +7,7 @@ use Prim.Native.Nat.{ℕ, zero, suc, ◌+◌, ◌*◌, ◌-◌, ◌/◌, ◌≤�
 use native.Mathlib.Omega.{arith}
 use borrow.Author.Tests.{ltb-false, eq-eqb, ne_eqb}
 use lib.Dec.{eqb}
-use lib.ListN.{length, get_or}
+use lib.ListN.{length}
 use Rattle.std.specs.List.{list_all, range_with_len}
 use Rattle.words.specs.Number.{count}
 use Rattle.model.specs.Content.{Kind, kind_count, piece_count}
@@ -82,10 +83,10 @@ few-pieces s e = go (kinds_got s) (or_right (not (between 1 8 (kinds_stated s)))
     go (got ks m) u = ltb-false _ _ (or_right (not (eqb m (kinds_length s))) _ (or_left _ _ u))
 
 -- The copies of each kind of the view are those that the job demands.
-pub demand-is : (s : List ℕ) (v : View) → Viewed s v → (es : Layout) → all (λ t. eqb (copies t es) (get_or v.demands t 0)) (below v.kinds) ≡ demand_met (problem_of s v) es
+pub demand-is : (s : List ℕ) (v : View) → Viewed s v → (es : Layout) → all (λ t. eqb (copies t es) (demand_of v t)) (below v.kinds) ≡ demand_met (problem_of s v) es
 unfolding demand_met
 demand-is s v x es =
-    ap (λ m. all (λ t. eqb (copies t es) (get_or v.demands t 0)) (below m)) x.view.kinds
+    ap (λ m. all (λ t. eqb (copies t es) (demand_of v t)) (below m)) x.view.kinds
     ∙ all-below-same _ _ (kind_count (content s).kinds) (λ t l. ap (eqb (copies t es)) (kind-in s v x t l).demand)
 
 -- a test that is made only if the one before it holds

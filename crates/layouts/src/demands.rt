@@ -19,7 +19,7 @@ impl<'a> Handed<'a> {
     pub fn demand_met(&self) -> bool
         ensures { result ≡ demand_met (problem_for self.now) (layout_for self.now) }
     {
-        let demands = self.prepared.view.demands;
-        (0..self.prepared.view.kinds).all(|t| self.copies_of(t) == demands[t])
+        (0..self.prepared.view.kinds).all(|t| self.copies_of(t)
+            == self.prepared.view.kind[t].demand)
     }
 }

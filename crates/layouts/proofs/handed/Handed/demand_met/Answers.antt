@@ -1,8 +1,8 @@
 use mathlib.Core.Path.{refl, ◌∙◌}
+use Rattle.job.specs.View.{demand_of}
 use native.Mathlib.Omega.{arith}
 use borrow.Author.Rules.{rules}
 use lib.Dec.{eqb}
-use lib.ListN.{get_or}
 use Rattle.std.proofs.Common.{tests}
 use Rattle.std.proofs.lemmas.Iterator.{YieldsList-from_range}
 use Rattle.model.specs.Layout.{copies}
@@ -15,6 +15,6 @@ pub returns : goal.returns
 returns c =
     let h = c.args.self.now in
     let j = h.prepared.now in
-    all_below (λ t. eqb (copies t (layout_for h)) (get_or j.view.demands t 0)) j.view.kinds _ _ c.all.ensures.ran
+    all_below (λ t. eqb (copies t (layout_for h)) (demand_of j.view t)) j.view.kinds _ _ c.all.ensures.ran
     (YieldsList-from_range 0 _ _ refl (omega arith)) (λ x b q k. search (rules, tests))
     ∙ demand-is j.job.now j.view j.prepared.viewed (layout_for h)
