@@ -19,7 +19,7 @@ impl<'a> Handed<'a> {
     pub fn demand_met(&self) -> bool
         ensures { result ≡ demand_met (problem_for self.now) (layout_for self.now) }
     {
-        (0..self.prepared.view.kinds).all(|t| self.copies_of(t)
-            == self.prepared.view.kind[t].demand)
+        let view = &self.prepared.view;
+        (0..view.kinds).all(|t| self.copies_of(t) == view.kind[t].demand)
     }
 }
