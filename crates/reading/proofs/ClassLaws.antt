@@ -5,7 +5,7 @@ use mathlib.Core.Path.{◌≡◌, refl, sym, ap, ap₂, ◌∙◌}
 use Prim.Native.Nat.{ℕ, ◌+◌, ◌*◌}
 use native.Mathlib.Nat.{add-zero}
 use native.Mathlib.Omega.{arith}
-use lib.ListN.{length, get_or}
+use lib.ListN.{length, get_or, take}
 use mir.Val.{bool_byte}
 use Rattle.model.specs.Content.{SpacingClass}
 use Rattle.model.specs.Format.{byte_at, marks_cut, gap_meant, class_from, by_rising_id}
@@ -16,7 +16,7 @@ use Rattle.records.specs.Classes.{classes_from}
 use Rattle.records.specs.Rising.{classes_at_first, ByRisingId}
 use Rattle.reading.specs.Write.{gap_numbers, classes_numbers}
 use Rattle.writing.specs.Numbers.{with_numbers_at, as_number, bytes_from}
-use Rattle.records.proofs.RisingLaws.{length-first}
+use Rattle.records.proofs.RisingLaws.{length-first, first-taken}
 use Rattle.writing.proofs.NumberLaws.{numbers_none, numbers_then, length-row, numbers_length}
 
 -- ---- Gap and mark
@@ -67,6 +67,8 @@ module _ (s places : List ℕ) where
       numbers_then at (at + k * 4) (numbers_to k) (class_numbers (class_from s (get_or places k 0))) a u v (omega arith) eu ev
       ∙ ap (λ r. with_numbers_at at r a) (sym (concat-below-more (λ i. class_from s (get_or places i 0)) class_numbers k))
 
-  pub classes-all : (at o n k : ℕ) (a u : List ℕ) → k ≡ n → ByRisingId s o n places → u ≡ with_numbers_at at (numbers_to k) a
+  pub classes-all : (all : List ℕ) (at o n k : ℕ) (a u : List ℕ) → k ≡ n → places ≡ take n all → ByRisingId s o n all → u ≡ with_numbers_at at (numbers_to k) a
       → u ≡ with_numbers_at at (classes_numbers (by_rising_id (classes_from s o n))) a
-  classes-all at o n k a u e r eu = eu ∙ ap (λ m. with_numbers_at at (numbers_to m) a) e ∙ ap (λ cs. with_numbers_at at (classes_numbers cs) a) r.classes
+  classes-all all at o n k a u e t r eu =
+      eu ∙ ap (λ m. with_numbers_at at (numbers_to m) a) e ∙ ap (λ ps. with_numbers_at at (classes_numbers (classes_at_first s ps n)) a) t
+      ∙ ap (λ cs. with_numbers_at at (classes_numbers cs) a) (first-taken s all n ∙ r.classes)

@@ -7,12 +7,15 @@ use native.Mathlib.Omega.{arith}
 use borrow.Author.Tests.{lt-ltb, le-ltb, eq-eqb, ne_eqb}
 use lib.ListN.{length, length-append, take, drop}
 use Rattle.words.specs.Number.{count}
+use Rattle.std.specs.Prelude.{Ok, Err}
 use Rattle.model.specs.Content.{kind_count, piece_count}
 use Rattle.model.specs.Format.{word_at, board_at, board_of, classes_at, classes_stated, by_rising_id, kinds_at, kinds_length, kinds_stated, kind_bytes, kinds_got, read_kind, content, refusal}
 use Rattle.model.specs.Lists.{concat, below, rising}
 use Rattle.model.specs.Services.{write_outcome, numbers_in, with_numbers, kind_numbers, content_numbers, read_content}
 use Rattle.model.specs.Services as Services
-use Rattle.model.specs.declared.Written.TheVariants as W
+use Rattle.model.specs.Refusal.{number, numbered}
+use Rattle.model.specs.declared.Refusal.{Refusal}
+use Rattle.model.specs.declared.Refusal.TheVariants as R
 use Rattle.model.proofs.Readers.{many-sum, many-least}
 use Rattle.model.proofs.Records.{kind-read}
 use Rattle.model.proofs.Saving.Kept.{classes-count}
@@ -23,7 +26,8 @@ use Rattle.job.proofs.CauseLaws.{classes-are}
 use Rattle.reading.proofs.ListingLaws.{kind-each}
 use Rattle.records.proofs.RecordLaws.{values_from}
 use Rattle.reading.proofs.ClassLaws.{length-classes}
-use Rattle.job.proofs.ViewLaws.{six_none, kinds-in, got-list, kind-count, length-list, list_reads}
+use Rattle.model.proofs.Numbered.{numbered_number}
+use Rattle.job.proofs.ViewLaws.{some_number, six_none, kinds-in, got-list, kind-count, length-list, list_reads}
 use Rattle.reading.proofs.WriteLaws.{records_length}
 use Rattle.writing.proofs.NumberLaws.{numbers_then, numbers_all}
 
@@ -110,12 +114,12 @@ module _ (s : List ℕ) (e : refusal s ≡ 0) where
       let b = back_length in
       ap length content-is ∙ length-append (front_numbers (content s)) (back_numbers (content s)) ∙ (omega arith)
 
-  pub content-few : (out : List ℕ) → length out / 2 < length (content_numbers (content s)) → read_content (content s) out ≡ write_outcome (W.Refused 9) out
+  pub content-few : (out : List ℕ) → length out / 2 < length (content_numbers (content s)) → read_content (content s) out ≡ write_outcome (Err R.Answer) out
   unfolding read_content numbers_in count
   content-few out h = rw (lt-ltb _ _ h)
 
   pub content-fits : (out : List ℕ) → length (content_numbers (content s)) ≤ length out / 2
-      → read_content (content s) out ≡ write_outcome (W.Count (length (content_numbers (content s)))) (with_numbers (content_numbers (content s)) out)
+      → read_content (content s) out ≡ write_outcome (Ok (length (content_numbers (content s)))) (with_numbers (content_numbers (content s)) out)
   unfolding read_content numbers_in count
   content-fits out h = rw (le-ltb _ _ h)
 
@@ -128,9 +132,10 @@ module _ (s : List ℕ) (e : refusal s ≡ 0) where
       ∙ ap (λ r. with_numbers_at 0 r a) (sym content-is) ∙ numbers_all (content_numbers (content s)) a h
 
 module _ (s out : List ℕ) where
-  pub read-refused : (refusal s ≡ 0 → ⊥) → Services.read s out ≡ write_outcome (W.Refused (refusal s)) out
+  pub read-refused : (r : Refusal) → number r ≡ refusal s → Services.read s out ≡ write_outcome (Err r) out
   unfolding Services.read
-  read-refused h = rw (ne_eqb (refusal s) 0 h, Services.read)
+  read-refused r e =
+      rw (ne_eqb (refusal s) 0 (λ z. some_number r (e ∙ z)), Services.read) (ap (λ q. write_outcome (Err q) out) (ap numbered (sym e) ∙ numbered_number r))
 
   pub read-accepted : refusal s ≡ 0 → Services.read s out ≡ read_content (content s) out
   unfolding Services.read

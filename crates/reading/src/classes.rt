@@ -15,7 +15,7 @@ fn put_gap(byte: usize, answer: &mut [u8], at: usize)
     ensures { answer.new ≡ with_numbers_at at (gap_numbers byte) answer.old }
 {
     writing::put(answer, at, classes::gap_meant(byte));
-    writing::put(answer, at + 1, classes::marks_cut(byte) as usize);
+    writing::put(answer, at + 1, usize::from(classes::marks_cut(byte)));
 }
 
 // The class that begins at byte o: id, rank, gap and mark.
@@ -33,9 +33,7 @@ pub fn put_classes(job: &[u8], from: usize, n: usize, answer: &mut [u8], at: usi
     ensures { answer.new ≡ with_numbers_at at (classes_numbers (by_rising_id (classes_from job.now from n))) answer.old }
 {
     let places = rising::places(job, from, n);
-    let mut k = 0;
-    while k < n {
-        put_class(job, places[k], answer, at + k * 4);
-        k += 1;
+    for (k, place) in places[..n].iter().enumerate() {
+        put_class(job, *place, answer, at + k * 4);
     }
 }

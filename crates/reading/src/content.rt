@@ -8,7 +8,7 @@ ghost use Rattle.writing.specs.Numbers.{with_numbers_at};
 
 use crate::{classes, listing};
 use frame::trailer;
-use model::Written;
+use model::Refusal;
 
 // The board and the classes behind their count.
 pub fn put_front(job: &[u8], answer: &mut [u8])
@@ -35,7 +35,7 @@ pub fn put_back(job: &[u8], pieces: usize, answer: &mut [u8], at: usize)
 }
 
 // Read, of an accepted job. Too small an answer is refused before anything is written.
-pub fn read_content(job: &[u8], pieces: usize, answer: &mut [u8]) -> Written
+pub fn read_content(job: &[u8], pieces: usize, answer: &mut [u8]) -> Result<u16, Refusal>
     requires { (refusal job.now ≡ 0) × (pieces ≡ piece_count (content job.now).kinds) }
     ensures value { result ≡ (read_content (content job.now) answer.old).answer }
     ensures answer_after { answer.new ≡ (read_content (content job.now) answer.old).buffer }
@@ -44,9 +44,9 @@ pub fn read_content(job: &[u8], pieces: usize, answer: &mut [u8]) -> Written
     let at = 4 + t.class_count * 4;
     let count = at + 2 + t.kinds_length;
     if answer.len() / 2 < count {
-        return Written::Refused(9);
+        return Err(Refusal::Answer);
     }
     put_front(job, answer);
     put_back(job, pieces, answer, at);
-    Written::Count(count as u16)
+    Ok(count as u16)
 }

@@ -2,14 +2,14 @@
 use mathlib.Core.Bool.{Bool, true, false, not, cond, ◌||◌}
 use mathlib.Core.List.{List, [], ◌∷◌, ◌++◌, append-nil}
 use mathlib.Core.Logic.{⊎_elim}
-use mathlib.Core.Path.{◌≡◌, refl, sym, ap, ap₂, ◌∙◌}
+use mathlib.Core.Path.{◌≡◌, refl, sym, ap, ap₂, subst, ◌∙◌}
 use Prim.Native.Nat.{ℕ, ◌+◌, ◌*◌, ◌<◌, ◌≤◌}
 use native.Mathlib.Nat.{not-suc-le-zero}
 use native.Mathlib.Omega.{arith}
 use borrow.Author.Tests.{lt-ltb, le-ltb, ltb-false, not-false}
 use lib.Dec.{ltb}
-use lib.ListN.{length, get_or, set, length-map, length-set}
-use lib.Seq.{get_or-set_same, get_or-set_other}
+use lib.ListN.{length, get_or, set, take, length-map, length-set}
+use lib.Seq.{get_or-take, get_or-set_same, get_or-set_other}
 use Rattle.words.proofs.Cases.{le_or_lt}
 use Rattle.model.specs.Content.{SpacingClass}
 use Rattle.model.specs.Format.{by_rising_id, class_from}
@@ -28,6 +28,14 @@ length_from s o n = length-map (below n) (λ i. class_from s (o + i * 3)) ∙ le
 
 pub length-first : (s places : List ℕ) (k : ℕ) → length (classes_at_first s places k) ≡ k
 length-first s places k = length-map (below k) (λ i. class_from s (get_or places i 0)) ∙ length-below k
+
+-- The first n places alone tell the same.
+pub first-taken : (s places : List ℕ) (n : ℕ) → classes_at_first s (take n places) n ≡ classes_at_first s places n
+first-taken s places n =
+    map-below-same (λ i. class_from s (get_or (take n places) i 0)) (λ i. class_from s (get_or places i 0)) n (λ i h. ap (class_from s) (get_or-take n places i 0 h))
+
+pub inside-taken : (s places : List ℕ) (n : ℕ) → Inside s places n → Inside s (take n places) n
+inside-taken s places n f i h = subst (λ o. o + 3 ≤ length s) (sym (get_or-take n places i 0 h)) (f i h)
 
 -- ---- Classes that give no cause 5
 

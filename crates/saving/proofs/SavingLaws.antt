@@ -9,13 +9,16 @@ use lib.Seq.{sets}
 use Rattle.words.proofs.Lists.{sets_then, sets-front}
 use Rattle.words.specs.Bytes.{AreBytes}
 use Rattle.words.specs.Number.{bytes}
+use Rattle.std.specs.Prelude.{Ok, Err}
 use Rattle.model.specs.Content.{Job, kind_count}
 use Rattle.model.specs.Format.{board_at, classes_at, classes_stated, kinds_at, kinds_length, kinds_stated, class_from, by_rising_id, kind_bytes, content, refusal}
 use Rattle.model.specs.Lists.{concat, below, rising}
 use Rattle.model.specs.Saving.{board_record, class_record, class_list, kind_list, section_bytes, pointer_bytes, trailer_bytes, written}
 use Rattle.model.specs.Services.{write_outcome, with_bytes, save_content}
 use Rattle.model.specs.Services as Services
-use Rattle.model.specs.declared.Written.TheVariants as W
+use Rattle.model.specs.Refusal.{number, numbered}
+use Rattle.model.specs.declared.Refusal.{Refusal}
+use Rattle.model.specs.declared.Refusal.TheVariants as R
 use Rattle.model.proofs.AcceptedKinds.{kind-count}
 use Rattle.model.proofs.Folds.{concat-below-more}
 use Rattle.model.proofs.Saving.Copied.{board-copied, class-copied, kinds-copied}
@@ -23,9 +26,10 @@ use Rattle.model.proofs.Saving.Fields.{board-size, classes-size, written-size}
 use Rattle.model.proofs.Saving.Kept.{classes-count, kinds-size}
 use Rattle.records.specs.Classes.{classes_from}
 use Rattle.records.specs.Rising.{classes_at_first, ByRisingId}
-use Rattle.records.proofs.RisingLaws.{length-first}
+use Rattle.records.proofs.RisingLaws.{length-first, first-taken}
 use Rattle.job.proofs.CauseLaws.{classes-are}
-use Rattle.job.proofs.ViewLaws.{six_none, inside}
+use Rattle.model.proofs.Numbered.{numbered_number}
+use Rattle.job.proofs.ViewLaws.{some_number, six_none, inside}
 
 -- ---- The class list
 
@@ -47,8 +51,10 @@ module _ (s places : List ℕ) (at : ℕ) where
       ∙ ap (λ r. sets a at (list_to k ++ r)) (sym (class-copied s (get_or places k 0) h))
       ∙ ap (sets a at) (sym (concat-below-more (λ i. class_from s (get_or places i 0)) class_record k))
 
-  pub classes-all : (o n k : ℕ) (a u : List ℕ) → k ≡ n → ByRisingId s o n places → u ≡ sets a at (list_to k) → u ≡ sets a at (class_list (by_rising_id (classes_from s o n)))
-  classes-all o n k a u e r eu = eu ∙ ap (λ m. sets a at (list_to m)) e ∙ ap (λ cs. sets a at (class_list cs)) r.classes
+  pub classes-all : (all : List ℕ) (o n k : ℕ) (a u : List ℕ) → k ≡ n → places ≡ take n all → ByRisingId s o n all → u ≡ sets a at (list_to k) → u ≡ sets a at (class_list (by_rising_id (classes_from s o n)))
+  classes-all all o n k a u e t r eu =
+      eu ∙ ap (λ m. sets a at (list_to m)) e ∙ ap (λ ps. sets a at (class_list (classes_at_first s ps n))) t
+      ∙ ap (λ cs. sets a at (class_list cs)) (first-taken s all n ∙ r.classes)
 
 -- ---- The trailer, field by field
 
@@ -129,18 +135,19 @@ module _ (s : List ℕ) (b : AreBytes s) (e : refusal s ≡ 0) where
       (e3 ∙ ap (sets u2 (6 + nc * 3 + size)) (trailer_is nc nk size enc enk es))
       ∙ ap (λ r. sets a 0 (r ++ T)) (append_assoc B C K)
 
-pub save-short : (j : Job) (out : List ℕ) → length out < length (written j) → save_content j out ≡ write_outcome (W.Refused 9) out
+pub save-short : (j : Job) (out : List ℕ) → length out < length (written j) → save_content j out ≡ write_outcome (Err R.Answer) out
 unfolding save_content
 save-short j out h = rw (lt-ltb _ _ h)
 
-pub save-fits : (j : Job) (out : List ℕ) → length (written j) ≤ length out → save_content j out ≡ write_outcome (W.Count (length (written j))) (sets out 0 (written j))
+pub save-fits : (j : Job) (out : List ℕ) → length (written j) ≤ length out → save_content j out ≡ write_outcome (Ok (length (written j))) (sets out 0 (written j))
 unfolding save_content with_bytes
 save-fits j out h = rw (le-ltb _ _ h, sets-front (written j) out h)
 
 module _ (s out : List ℕ) where
-  pub save-refused : (refusal s ≡ 0 → ⊥) → Services.save s out ≡ write_outcome (W.Refused (refusal s)) out
+  pub save-refused : (r : Refusal) → number r ≡ refusal s → Services.save s out ≡ write_outcome (Err r) out
   unfolding Services.save
-  save-refused h = rw (ne_eqb (refusal s) 0 h, Services.save)
+  save-refused r e =
+      rw (ne_eqb (refusal s) 0 (λ z. some_number r (e ∙ z)), Services.save) (ap (λ q. write_outcome (Err q) out) (ap numbered (sym e) ∙ numbered_number r))
 
   pub save-accepted : refusal s ≡ 0 → Services.save s out ≡ save_content (content s) out
   unfolding Services.save

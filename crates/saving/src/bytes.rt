@@ -24,9 +24,5 @@ pub fn copy(job: &[u8], from: usize, n: usize, answer: &mut [u8], at: usize)
     requires { (from + n ≤ length job.now) × (at + n ≤ length answer.old) }
     ensures { answer.new ≡ sets answer.old at (take n (drop from job.now)) }
 {
-    let mut k = 0;
-    while k < n {
-        answer[at + k] = job[from + k];
-        k += 1;
-    }
+    answer[at..at + n].copy_from_slice(&job[from..from + n]);
 }

@@ -14,9 +14,7 @@ pub fn put_classes(job: &[u8], from: usize, n: usize, answer: &mut [u8], at: usi
     ensures { answer.new ≡ sets answer.old at (class_list (by_rising_id (classes_from job.now from n))) }
 {
     let places = rising::places(job, from, n);
-    let mut k = 0;
-    while k < n {
-        bytes::copy(job, places[k], 3, answer, at + k * 3);
-        k += 1;
+    for (k, place) in places[..n].iter().enumerate() {
+        bytes::copy(job, *place, 3, answer, at + k * 3);
     }
 }

@@ -8,7 +8,7 @@ ghost use Rattle.model.specs.Services.{save_content};
 use crate::trailer::put_trailer;
 use crate::{bytes, classes};
 use frame::trailer;
-use model::Written;
+use model::Refusal;
 
 // The job, at the front of an answer that has room for it.
 fn put_job(job: &[u8], answer: &mut [u8])
@@ -23,7 +23,7 @@ fn put_job(job: &[u8], answer: &mut [u8])
 }
 
 // Save, of an accepted job. Too small an answer is refused before anything is written.
-pub fn save_content(job: &[u8], answer: &mut [u8]) -> Written
+pub fn save_content(job: &[u8], answer: &mut [u8]) -> Result<u16, Refusal>
     requires { refusal job.now ≡ 0 }
     ensures value { result ≡ (save_content (content job.now) answer.old).answer }
     ensures answer_after { answer.new ≡ (save_content (content job.now) answer.old).buffer }
@@ -31,8 +31,8 @@ pub fn save_content(job: &[u8], answer: &mut [u8]) -> Written
     let t = trailer::read_trailer(job);
     let count = 6 + t.class_count * 3 + t.kinds_length + 14;
     if answer.len() < count {
-        return Written::Refused(9);
+        return Err(Refusal::Answer);
     }
     put_job(job, answer);
-    Written::Count(count as u16)
+    Ok(count as u16)
 }

@@ -4,7 +4,7 @@
 ghost use Rattle.std.specs.Prelude.{◌≡◌};
 ghost use Rattle.model.specs.Services as Services;
 
-use model::Written;
+use model::Refusal;
 
 mod bytes;
 mod classes;
@@ -12,13 +12,10 @@ mod content;
 mod trailer;
 
 // The save service: the bytes of the job's content, with no skipped bytes and the classes by rising id. A refusal changes no byte of the answer.
-pub fn save(job: &[u8], answer: &mut [u8]) -> Written
+pub fn save(job: &[u8], answer: &mut [u8]) -> Result<u16, Refusal>
     ensures value { result ≡ (Services.save job.now answer.old).answer }
     ensures answer_after { answer.new ≡ (Services.save job.now answer.old).buffer }
 {
-    let refusal = job::open(job).refusal;
-    if refusal != 0 {
-        return Written::Refused(refusal);
-    }
+    job::open(job)?;
     content::save_content(job, answer)
 }

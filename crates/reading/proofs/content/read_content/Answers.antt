@@ -1,10 +1,10 @@
+use Rattle.std.proofs.Common.{Ok}
 use mathlib.Core.Path.{sym, ap, ◌∙◌}
 use Prim.Native.Nat.{◌/◌, ◌<◌, ◌≤◌}
 use native.Mathlib.Omega.{arith}
 use lib.ListN.{length}
 use Rattle.model.specs.Format.{content}
 use Rattle.model.specs.Services.{content_numbers}
-use Rattle.model.specs.declared.Written.TheVariants as W
 use Rattle.reading.proofs.ContentLaws.{kinds-some, content-length, content-few, content-fits, content-written}
 use Rattle.job.proofs.ViewLaws.{six_none, inside}
 use Rattle.reading.proofs.content.read_content.Goals as goal
@@ -27,7 +27,7 @@ returns c =
     let q = content-fits c.args.job.now c.requires.0 c.args.answer.now fit in
     let w = content-written c.args.job.now c.requires.0 _ c.args.answer.now _ _ (omega arith) (omega arith) c.put_front.ensures c.put_back.ensures in
     record {
-      value = ap W.Count (omega arith) ∙ sym (ap (λ o. o.answer) q);
+      value = ap Ok (omega arith) ∙ sym (ap (λ o. o.answer) q);
       answer_after = w ∙ sym (ap (λ o. o.buffer) q);
     }
 

@@ -1,6 +1,4 @@
 use mathlib.Core.Path.{◌≡◌}
-use Prim.Native.Nat.{◌≤◌, ◌-◌}
-use lib.ListN.{length}
 use Rattle.model.specs.Format.{many, read_kind}
 use Rattle.records.specs.Records.{Reads}
 use Rattle.reading.specs.Write.{kinds_numbers}
@@ -8,7 +6,4 @@ use Rattle.writing.specs.Numbers.{with_numbers_at}
 use Rattle.reading.proofs.listing.put_kinds.Given as goal
 
 abbrev pub invariant-loop-t : goal.invariant-loop-t
-invariant-loop-t l = ((l.t ≤ l.n) × (length l.answer ≡ length l.initial.answer)) × (Reads (many read_kind l.t l.list) l.here × (l.answer ≡ with_numbers_at l.at (kinds_numbers l.t l.list) l.initial.answer))
-
-abbrev pub decreases-loop-t : goal.decreases-loop-t
-decreases-loop-t l = l.n - l.t
+invariant-loop-t l = Reads (many read_kind l.t l.list) l.here × (l.answer ≡ with_numbers_at l.at (kinds_numbers l.t l.list) l.initial.answer)
