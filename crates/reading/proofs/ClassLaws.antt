@@ -21,11 +21,11 @@ use Rattle.writing.proofs.NumberLaws.{numbers_none, numbers_then, length-row, nu
 
 -- ---- Gap and mark
 
-pub gap-written : (at b g : ℕ) (t : Bool) (a u v : List ℕ) → g ≡ gap_meant b → t ≡ marks_cut b → u ≡ with_numbers_at at (g ∷ []) a
-    → v ≡ with_numbers_at (at + 1) (bool_byte t ∷ []) u → v ≡ with_numbers_at at (gap_numbers b) a
-gap-written at b g t a u v eg et eu ev =
-    numbers_then at (at + 1) (g ∷ []) (bool_byte t ∷ []) a u v refl eu ev
-    ∙ ap₂ (λ x y. with_numbers_at at (x ∷ y ∷ []) a) eg (mark t ∙ ap (λ t. cond t 1 0) et)
+pub gap-written : (at b g m : ℕ) (t : Bool) (a u v : List ℕ) → g ≡ gap_meant b → m ≡ bool_byte t → t ≡ marks_cut b → u ≡ with_numbers_at at (g ∷ []) a
+    → v ≡ with_numbers_at (at + 1) (m ∷ []) u → v ≡ with_numbers_at at (gap_numbers b) a
+gap-written at b g m t a u v eg em et eu ev =
+    numbers_then at (at + 1) (g ∷ []) (m ∷ []) a u v refl eu ev
+    ∙ ap₂ (λ x y. with_numbers_at at (x ∷ y ∷ []) a) eg (em ∙ mark t ∙ ap (λ t. cond t 1 0) et)
   where
     mark : (t : Bool) → bool_byte t ≡ cond t 1 0
     mark true = refl

@@ -15,7 +15,7 @@ fn put_parts(list: &[u8], from: usize, n: usize, answer: &mut [u8], at: usize) -
     ensures value { result ≡ from + size_of (many read_part n (drop from list.now)) }
 {
     let mut here = from;
-    for i in 0..n {
+    for _ in 0..n {
         let corners = fields::byte(list, here);
         writing::put(answer, at + here, corners);
         writing::put_bytes(list, here + 1, corners * 2, true, answer, at + here + 1);
@@ -30,7 +30,7 @@ pub fn put_kinds(list: &[u8], n: usize, answer: &mut [u8], at: usize)
     ensures { answer.new ≡ with_numbers_at at (kinds_numbers n list.now) answer.old }
 {
     let mut here = 0;
-    for i in 0..n {
+    for _ in 0..n {
         writing::put_bytes(list, here, 4, false, answer, at + here);
         here = put_parts(list, here + 4, fields::byte(list, here + 3), answer, at);
     }

@@ -1,4 +1,4 @@
-use Rattle.std.proofs.Common.{◌≡◌, ◌≤◌, refl, sym, take, length, get_or, length-take-le}
+use Rattle.std.proofs.Common.{◌≡◌, refl, sym, take, length, length-take-le}
 use native.Mathlib.Omega.{arith}
 use Rattle.records.proofs.RisingLaws.{at_most-eight, inside-taken}
 use Rattle.reading.proofs.ClassLaws.{classes-none, classes-more, classes-all}

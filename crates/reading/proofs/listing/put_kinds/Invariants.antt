@@ -5,5 +5,5 @@ use Rattle.reading.specs.Write.{kinds_numbers}
 use Rattle.writing.specs.Numbers.{with_numbers_at}
 use Rattle.reading.proofs.listing.put_kinds.Given as goal
 
-abbrev pub invariant-loop-t : goal.invariant-loop-t
-invariant-loop-t l = Reads (many read_kind l.t l.list) l.here × (l.answer ≡ with_numbers_at l.at (kinds_numbers l.t l.list) l.initial.answer)
+abbrev pub invariant-loop : goal.invariant-loop
+invariant-loop l = Reads (many read_kind l.counter l.list) l.here × (l.answer ≡ with_numbers_at l.at (kinds_numbers l.counter l.list) l.initial.answer)
