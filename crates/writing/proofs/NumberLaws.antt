@@ -1,17 +1,13 @@
 -- Laws of numbers written one after the other.
-use mathlib.Core.Bool.{Bool, true, false, ◌&&◌, false≢true}
 use mathlib.Core.List.{List, [], ◌∷◌, ◌++◌, map, append-nil}
 use mathlib.Core.Path.{◌≡◌, refl, sym, ap, ap₂, ◌∙◌}
-use Prim.Native.Nat.{ℕ, suc, ◌+◌, ◌*◌, ◌-◌, ◌<◌, ◌≤◌}
+use Prim.Native.Nat.{ℕ, ◌+◌, ◌*◌, ◌≤◌}
 use native.Mathlib.Omega.{arith}
-use borrow.Author.Tests.{le-ltb, ltb-true, ltb-false}
-use lib.Dec.{ltb}
-use lib.IntN.{pos, negsuc}
+use lib.IntN.{ℤ, pos, negsuc}
 use lib.ListN.{length, length-map, drop, length-append}
 use lib.Seq.{sets}
-use mir.Val.{sel}
-use Rattle.integers.specs.Byte.{signed}
-use Rattle.integers.proofs.Bytes.{signed_low, signed-to_z}
+use mir.Syntax.{w16}
+use mir.Val.{of_z}
 use Rattle.words.specs.Number.{bytes, bytes_of, with_number, filled}
 use Rattle.words.proofs.Lists.{sets_then, sets-front}
 use Rattle.words.proofs.Place.{with_number-sets}
@@ -21,7 +17,7 @@ use Rattle.model.specs.Lists.{concat, below, rising}
 use Rattle.model.specs.Services.{coordinate, vertex_numbers}
 use Rattle.model.proofs.Folds.{map-below-more}
 use Rattle.model.proofs.Lists.{length-below}
-use Rattle.writing.specs.Numbers.{with_numbers_at, as_number}
+use Rattle.writing.specs.Numbers.{with_numbers_at}
 
 pub numbers_none : (at : ℕ) (s : List ℕ) → with_numbers_at at [] s ≡ s
 unfolding with_numbers_at bytes_of
@@ -44,28 +40,13 @@ numbers_then at at' ns ms s u v e p q =
     let l = length-bytes_of 2 ns in
     sets_then (at * 2) (at' * 2) (bytes_of 2 ns) (bytes_of 2 ms) s u v (omega arith) p q ∙ ap (sets s (at * 2)) (sym (bytes_of-append 2 ns ms))
 
--- ---- A byte as a number
+-- ---- A coordinate as a number
 
-coordinate-low : (b : ℕ) → b < 128 → b ≡ coordinate (signed b)
+-- The bits of a coordinate are its number.
+pub coordinate-bits : (z : ℤ) → of_z w16 z ≡ coordinate z
 unfolding coordinate
-coordinate-low b h = sym (ap coordinate (signed_low b h))
-
-coordinate-high : (b : ℕ) → b < 256 → 128 ≤ b → b + 65280 ≡ coordinate (signed b)
-unfolding coordinate
-coordinate-high b f h =
-    let q : signed b ≡ negsuc (256 - suc b) = signed-to_z b (record { fits = f }) ∙ ap (λ t. sel t (pos b) (negsuc (256 - suc b))) (le-ltb b 128 h) in
-    let e : b + 65280 ≡ 65535 - (256 - suc b) = omega arith in
-    e ∙ sym (ap coordinate q)
-
-pub number-high : (c : Bool) (b : ℕ) → b < 256 → (c && ltb 127 b) ≡ true → b + 65280 ≡ as_number c b
-unfolding as_number
-number-high true b f e = let h = ltb-true 127 b e in coordinate-high b f (omega arith)
-number-high false b f e = absurd (false≢true e)
-
-pub number-low : (c : Bool) (b : ℕ) → (c && ltb 127 b) ≡ false → b ≡ as_number c b
-unfolding as_number
-number-low true b e = let h = ltb-false 127 b e in coordinate-low b (omega arith)
-number-low false b e = refl
+coordinate-bits (pos n) = refl
+coordinate-bits (negsuc n) = omega arith
 
 -- ---- A row of numbers, one after the other
 
@@ -77,15 +58,14 @@ module _ (f : ℕ → ℕ) where
   unfolding below rising
   row-none at a = sym (numbers_none at a)
 
-  pub row_more : (at at' k n : ℕ) (a u v : List ℕ) → at' ≡ at + k → n ≡ f k → u ≡ with_numbers_at at (map f (below k)) a
-      → v ≡ with_numbers_at at' (n ∷ []) u → v ≡ with_numbers_at at (map f (below (k + 1))) a
-  row_more at at' k n a u v e en eu ev =
+  -- One number more: the law of a loop that writes them.
+  pub row_more : (at k n : ℕ) (a u v : List ℕ) → (at + k + 1) * 2 ≤ length u → n ≡ f k → u ≡ with_numbers_at at (map f (below k)) a
+      → v ≡ with_number 2 u ((at + k) * 2) n → v ≡ with_numbers_at at (map f (below (k + 1))) a
+  row_more at k n a u v fits en eu ev =
       let l = length-row k in
-      numbers_then at at' (map f (below k)) (f k ∷ []) a u v (omega arith) eu (ev ∙ ap (λ m. with_numbers_at at' (m ∷ []) u) en)
+      numbers_then at (at + k) (map f (below k)) (f k ∷ []) a u v (omega arith) eu
+      (ev ∙ numbers_one (at + k) n u fits ∙ ap (λ m. with_numbers_at (at + k) (m ∷ []) u) en)
       ∙ ap (λ r. with_numbers_at at r a) (sym (map-below-more f k))
-
-  pub row-end : (at k n : ℕ) (a u : List ℕ) → k ≡ n → u ≡ with_numbers_at at (map f (below k)) a → u ≡ with_numbers_at at (map f (below n)) a
-  row-end at k n a u e eu = eu ∙ ap (λ m. with_numbers_at at (map f (below m)) a) e
 
 -- ---- Numbers of things
 
