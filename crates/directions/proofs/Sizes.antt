@@ -11,9 +11,11 @@ use mir.Syntax.{w16, w32, w64}
 use mir.Val.{SFits, to_z, of_z}
 use mir.ValLaws.{to_z-of_z}
 use Rattle.integers.proofs.Absolute.{nat_abs-+ℤ, nat_abs-negℤ}
-use Rattle.integers.proofs.Machine.{op_fits, op_gives}
-use Rattle.integers.proofs.Sizes.{sized, bounded, size_of, fits-64}
-use Rattle.integers.proofs.Solver.{◌⊞◌, ◌⊟◌, ◌⊠◌}
+use Rattle.integers.proofs.Machine.{op_gives}
+use Rattle.integers.proofs.Sizes.{bounded, size_of, fits-64}
+use Rattle.integers.proofs.Solver.{◌⊞◌, ◌⊠◌}
+use Rattle.model.specs.Content.{Vertex, vertex}
+use Rattle.model.specs.Geometry.{Direction, along}
 use Rattle.directions.specs.Directions.{Small}
 
 -- ---- results that are small
@@ -50,6 +52,11 @@ module _ {u v : ℤ} {k : ℕ} {x y : ℤ} (h : Small u k x) (g : Small v k y) w
   small-difference =
       record { value = λ i. h.value i -ℤ g.value i; size = both (nat_abs (x -ℤ y)) (le_trans (nat_abs-+ℤ x (neg_ℤ y)) (le_of_eq (ap (λ n. nat_abs x + n) (nat_abs-negℤ y)))) }
 
+-- how far a vertex lies along a direction, under its coordinates' other names
+pub small_vertex : (d : Direction) {v : Vertex} {x y : ℤ} {k : ℕ} {r : ℤ} → x ≡ v.x → y ≡ v.y
+    → Small (along d (vertex x y)) k r → Small (along d v) k r
+small_vertex d ex ey = small-as (λ i. along d (vertex (ex i) (ey i)))
+
 -- ---- a × x + b × y
 
 pub dot_small : {a b x y r : ℤ} → SFits w32 a → SFits w32 b → SFits w16 x → SFits w16 y
@@ -70,9 +77,6 @@ read z = to_z w64 (of_z w64 z)
 
 -- a place less a move
 module _ {N M n m : ℤ} (hn : Small N 47 n) (hm : Small M 47 m) where
-  pub less_fits : SFits w64 (read n -ℤ read m)
-  less_fits = op_fits (small-read hn tt) (small-read hm tt) ◌-ℤ◌ (small-fits (small-difference hn hm) tt)
-
   pub less_gives : read (read n -ℤ read m) ≡ N -ℤ M
   less_gives = op_gives (small-read hn tt) (small-read hm tt) ◌-ℤ◌ (small-fits (small-difference hn hm) tt) ∙ (small-difference hn hm).value
 
@@ -80,8 +84,3 @@ module _ {N M n m : ℤ} (hn : Small N 47 n) (hm : Small M 47 m) where
 module _ {k : ℕ} {N n : ℤ} (t : T (leb k 62)) (h : Small N k n) where
   pub said : read n ≡ N
   said = small-read h t ∙ h.value
-
--- ---- differences of coordinates
-
-pub difference_fits : (u w : ℤ) → SFits w16 u → SFits w16 w → SFits w32 (u -ℤ w)
-difference_fits = sized w16 w32 2 (λ u w. u ⊟ w) tt

@@ -1,39 +1,37 @@
-// How far the vertices of a part and a move reach along a direction (a, b).
-ghost use Rattle.std.specs.Prelude.{◌+◌, ◌*◌, ◌≤◌, ◌<◌, length};
+// How far a vertex or a move lies along a direction, and which vertex of a part lies furthest.
+ghost use Rattle.std.specs.Prelude.{◌≤◌, length};
 ghost use Rattle.model.specs.Content.{vertex};
 ghost use Rattle.model.specs.Geometry;
-ghost use Rattle.model.specs.Geometry.{direction, vertex_at};
+ghost use Rattle.model.specs.Geometry.{direction};
 ghost use Rattle.polygons.specs.Flat.{part_of};
 ghost use Rattle.directions.specs.Directions.{Small, Furthest};
 
 use integers::dot;
-use polygons::vertices::coordinate;
+use polygons::vertices::{Vector, vertex};
 
-// How far the move (dx, dy) goes along (a, b).
-pub fn move_along(a: i32, b: i32, dx: i16, dy: i16) -> i64
-    ensures { Small (Geometry.along (direction a b) (vertex dx dy)) 47 result }
-{
-    dot(a, b, dx, dy)
+// A direction: a along x, and b along y.
+#[derive(Clone, Copy)]
+pub struct Direction {
+    pub a: i32,
+    pub b: i32,
 }
 
-// How far vertex k lies along (a, b).
-pub fn vertex_along(p: &[i16], k: usize, a: i32, b: i32) -> i64
-    requires { 2 * k + 1 < length p.now }
-    ensures { Small (Geometry.along (direction a b) (vertex_at (part_of p.now) k)) 47 result }
+// How far v lies along d.
+pub fn along(d: Direction, v: Vector) -> i64
+    ensures { Small (Geometry.along (direction d.a d.b) (vertex v.x v.y)) 47 result }
 {
-    dot(a, b, coordinate(p, k, 0), coordinate(p, k, 1))
+    dot(d.a, d.b, v.x, v.y)
 }
 
-// A vertex of the part that lies furthest along (a, b).
-pub fn furthest(p: &[i16], a: i32, b: i32) -> usize
+// A vertex of the part that lies furthest along d.
+pub fn furthest(p: &[i16], d: Direction) -> usize
     requires { 2 ≤ length p.now }
-    ensures { Furthest (part_of p.now) (direction a b) result }
+    ensures { Furthest (part_of p.now) (direction d.a d.b) result }
 {
-    let n = p.len() / 2;
     let mut best: usize = 0;
-    let mut most = vertex_along(p, 0, a, b);
-    for k in 1..n {
-        let here = vertex_along(p, k, a, b);
+    let mut most = along(d, vertex(p, 0));
+    for k in 1..p.len() / 2 {
+        let here = along(d, vertex(p, k));
         if most < here {
             best = k;
             most = here;

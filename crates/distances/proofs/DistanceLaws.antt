@@ -1,9 +1,9 @@
 -- Distances of corners from edges as they are computed, one after the other; no operation wraps. Assumes nothing.
 use mathlib.Core.Bool.{Bool, true, false, not, cond, ◌&&◌}
 use mathlib.Core.List.{List, [], ◌∷◌, map}
-use mathlib.Core.Path.{◌≡◌, refl, sym, ap, ◌∙◌}
+use mathlib.Core.Path.{◌≡◌, refl, sym, subst, ap, ◌∙◌}
 use Prim.Native.Nat.{ℕ, zero, suc, ◌≤◌, ◌^◌}
-use native.Mathlib.Nat.{le_trans, lt_of_le_of_lt, lt_of_lt_of_le}
+use native.Mathlib.Nat.{lt_of_le_of_lt, lt_of_lt_of_le}
 use native.Mathlib.Omega.{arith}
 use lib.Dec.{lit<, lit≤}
 use lib.IntN.{ℤ, pos, nat_abs, ◌+ℤ◌, ◌-ℤ◌, ◌*ℤ◌}
@@ -22,8 +22,7 @@ use Rattle.model.proofs.Box.{all-and}
 use Rattle.model.proofs.Moves.{along-from, length_from, cross-from}
 use Rattle.model.proofs.Tests.{all_map}
 use Rattle.directions.specs.Directions.{Small}
-use Rattle.directions.proofs.Sizes.{small-as}
-use Rattle.distances.specs.Compact.{corner_clear}
+use Rattle.distances.specs.Compact.{Short, corner_clear}
 
 -- ---- sizes
 
@@ -42,9 +41,6 @@ gap-read {gap} h = to_z_pos w64 gap (lt_of_lt_of_le h.fits (lit≤ tt))
 gap-most : {gap : ℕ} → Fits w16 gap → nat_abs (pos gap) ≤ 65535
 gap-most h = omega (arith, h.fits)
 
-pub square-fits : {gap : ℕ} → Fits w16 gap → SFits w64 (pos gap *ℤ pos gap)
-square-fits {gap} h = fits-64 _ (le_trans (bounded (65535 ∷ []) 1 (λ g. g ⊠ g) (pos gap) (gap-most h)) (lit≤ tt))
-
 -- its square times the squared length of an edge
 pub limit_fits : {gap : ℕ} (a b : ℤ) → Fits w16 gap → SFits w16 a → SFits w16 b → SFits w64 (pos gap *ℤ pos gap *ℤ (a *ℤ a +ℤ b *ℤ b))
 limit_fits {gap} a b h ha hb =
@@ -62,9 +58,9 @@ moved-size u w h k = bounded (4096 ∷ 4096 ∷ []) 2 (λ u w. u ⊞ w) u w h k
 pub moved-fits : (u w : ℤ) → nat_abs u ≤ 4096 → nat_abs w ≤ 4096 → SFits w16 (u +ℤ w)
 moved-fits u w h k = fits_nat_abs w16 _ (lt_of_le_of_lt (moved-size u w h k) (lit< tt))
 
--- how far it lies from another
-pub less_fits : (u w : ℤ) → nat_abs u ≤ 8192 → nat_abs w ≤ 4096 → SFits w16 (u -ℤ w)
-less_fits u w h k = fits_nat_abs w16 _ (lt_of_le_of_lt (bounded (8192 ∷ 4096 ∷ []) 2 (λ u w. u ⊟ w) u w h k) (lit< tt))
+-- numbers under their other names are as small
+pub short_as : {n : ℕ} {u v x y : ℤ} → x ≡ u → y ≡ v → Short n u v → Short n x y
+short_as {n} ex ey h = (subst (λ (z : ℤ). nat_abs z ≤ n) (sym ex) h.0, subst (λ (z : ℤ). nat_abs z ≤ n) (sym ey) h.1)
 
 -- ---- what is computed from the bits of parameters
 
@@ -85,21 +81,6 @@ module _ {u w r s : ℤ} (eu : r ≡ u) (ew : s ≡ w) (hu : nat_abs u ≤ 4096)
 
   pub sum_size : nat_abs (bits (r +ℤ s)) ≤ 8192
   sum_size = rw sum_is (moved-size u w hu hw)
-
--- a place u less a coordinate w, whatever they stand as
-module _ {u w r s : ℤ} (eu : r ≡ u) (ew : s ≡ w) (hu : nat_abs u ≤ 8192) (hw : nat_abs w ≤ 4096) where
-  pub less_held : SFits w16 (r -ℤ s)
-  less_held = op_fits eu ew ◌-ℤ◌ (less_fits u w hu hw)
-
-  pub less_is : bits (r -ℤ s) ≡ u -ℤ w
-  less_is = op_gives eu ew ◌-ℤ◌ (less_fits u w hu hw)
-
-module _ {a b x y r : ℤ} (ha : SFits w16 a) (hb : SFits w16 b) (hx : SFits w16 x) (hy : SFits w16 y) where
-  pub along-of : Small (bits a *ℤ bits x +ℤ bits b *ℤ bits y) 31 r → Small (a *ℤ x +ℤ b *ℤ y) 31 r
-  along-of = small-as (λ i. to_z-of_z w16 a ha i *ℤ to_z-of_z w16 x hx i +ℤ to_z-of_z w16 b hb i *ℤ to_z-of_z w16 y hy i)
-
-  pub aside_of : Small (bits a *ℤ bits y -ℤ bits b *ℤ bits x) 31 r → Small (a *ℤ y -ℤ b *ℤ x) 31 r
-  aside_of = small-as (λ i. to_z-of_z w16 a ha i *ℤ to_z-of_z w16 y hy i -ℤ to_z-of_z w16 b hb i *ℤ to_z-of_z w16 x hx i)
 
 -- ---- one corner and one edge
 

@@ -2,7 +2,7 @@
 use mathlib.Core.Bool.{Bool, true, false, cond, ◌&&◌}
 use mathlib.Core.List.{[], ◌∷◌, map}
 use mathlib.Core.Path.{◌≡◌, refl, sym, ap, ap₂, subst, ◌∙◌}
-use Prim.Native.Nat.{ℕ, zero, suc, ◌≤◌, ◌<◌}
+use Prim.Native.Nat.{ℕ, ◌≤◌, ◌<◌}
 use native.Mathlib.Nat.{lt_of_le_of_lt}
 use native.Mathlib.Omega.{arith}
 use lib.Dec.{lit<}
@@ -16,7 +16,7 @@ use Rattle.integers.proofs.Sizes.{bounded, fits_nat_abs}
 use Rattle.integers.proofs.Certificates.{order, ◌⊢◌by◌, hyp}
 use Rattle.integers.proofs.Order.{le_z_true, le_z_false, lt_z_true, le_lt_z, lt_lt_z}
 use Rattle.integers.proofs.Solver.{ring, #, ◌⊞◌, ◌⊟◌, ◌⊠◌, ⊖◌, ◌≈◌, ◌≲◌}
-use Rattle.model.specs.Content.{Vertex, vertex, Part}
+use Rattle.model.specs.Content.{vertex, Part}
 use Rattle.model.specs.Geometry.{Direction, direction, negated, vertex_at, along, distance_squared, shifted, separated}
 use Rattle.model.specs.Lists.{smallest_z}
 use Rattle.model.proofs.Conflict.{smallest_opposite}
@@ -25,17 +25,10 @@ use Rattle.model.proofs.Moves.{smallest_shifted, vertex_at-map}
 use Rattle.convexity.specs.Parts.{SoundPart, width}
 use Rattle.convexity.proofs.Soundness.{shifted-sound}
 use Rattle.convexity.proofs.Theorems.{width-separated, corners-near}
-use Rattle.polygons.specs.Flat.{coordinate_of}
-use Rattle.distances.specs.Compact.{Short}
 use Rattle.directions.specs.Directions.{Furthest}
 use Rattle.distances.specs.Middles.{told_by, Tells}
 
 -- ---- sizes
-
--- a coordinate of a vertex
-pub coordinate-small : (c n : ℕ) (v : Vertex) → Short n v.x v.y → nat_abs (coordinate_of c v) ≤ n
-coordinate-small zero n v h = h.0
-coordinate-small (suc c) n v h = h.1
 
 -- a number twice,
 pub doubled-size : (d : ℤ) → nat_abs d ≤ 4096 → nat_abs (pos 2 *ℤ d) ≤ 8192

@@ -9,7 +9,7 @@ ghost use Rattle.distances.specs.Compact.{Short, corner_clear};
 use crate::parts::{Corners, Move};
 use directions::edges::next_vertex;
 use integers::{cross, dot};
-use polygons::vertices::coordinate;
+use polygons::vertices::{Vector, vertex};
 
 // The square of a gap.
 pub fn squared(gap: u16) -> i64
@@ -18,65 +18,70 @@ pub fn squared(gap: u16) -> i64
     (gap as i64) * (gap as i64)
 }
 
-// How far (x, y) lies along (a, b), times the length of (a, b).
-pub fn way_along(a: i16, b: i16, x: i16, y: i16) -> i64
-    ensures { Small (a *ℤ x +ℤ b *ℤ y) 31 result }
+// How far w lies along v, times the length of v.
+pub fn way_along(v: Vector, w: Vector) -> i64
+    ensures { Small (v.x *ℤ w.x +ℤ v.y *ℤ w.y) 31 result }
 {
-    dot(a as i32, b as i32, x, y)
+    dot(v.x as i32, v.y as i32, w.x, w.y)
 }
 
-// How far (x, y) lies aside of (a, b), to its left, times the length of (a, b).
-fn way_aside(a: i16, b: i16, x: i16, y: i16) -> i64
-    ensures { Small (a *ℤ y -ℤ b *ℤ x) 31 result }
+// How far w lies aside of v, to its left, times the length of v.
+fn way_aside(v: Vector, w: Vector) -> i64
+    ensures { Small (v.x *ℤ w.y -ℤ v.y *ℤ w.x) 31 result }
 {
-    cross(a, b, x, y)
+    cross(v.x, v.y, w.x, w.y)
 }
 
-// Whether the corner (x, y) is nearer than the gap to the edge from (0, 0) to (a, b). Before the edge its start counts,
+// The way from one corner to another.
+pub fn way_between(from: Vector, to: Vector) -> Vector
+    requires { Short 4096 from.x from.y × Short 8192 to.x to.y }
+    ensures { (result.x ≡ to.x -ℤ from.x) × (result.y ≡ to.y -ℤ from.y) }
+{
+    Vector {
+        x: to.x - from.x,
+        y: to.y - from.y,
+    }
+}
+
+// Whether the corner is nearer than the gap to the edge from (0, 0) to `edge`. Before the edge its start counts,
 // beyond it its end, and beside it the line.
-fn near_edge(a: i16, b: i16, x: i16, y: i16, gap: u16) -> bool
-    ensures { result ≡ near_edge gap origin (vertex a b) (vertex x y) }
+fn near_edge(edge: Vector, corner: Vector, gap: u16) -> bool
+    ensures { result ≡ near_edge gap origin (vertex edge.x edge.y) (vertex corner.x corner.y) }
 {
     let square = squared(gap);
-    let along = way_along(a, b, x, y);
-    let from_start = way_along(x, y, x, y);
+    let along = way_along(edge, corner);
+    let from_start = way_along(corner, corner);
     if along <= 0 {
         return from_start < square;
     }
-    let length = way_along(a, b, a, b);
+    let length = way_along(edge, edge);
     if length <= along {
         // The squared distance from the end.
         return from_start - along - along + length < square;
     }
-    let aside = way_aside(a, b, x, y);
+    let aside = way_aside(edge, corner);
     aside * aside < square * length
 }
 
-// Whether the corner (x, y) is nearer than the gap to the edge of q from vertex k to the next one.
-fn edge_near(x: i16, y: i16, q: Corners, k: usize, gap: u16) -> bool
-    requires { (k < length (part_of q.numbers.now)) × Short 8192 x y }
+// Whether the corner is nearer than the gap to the edge of q from vertex k to the next one.
+fn edge_near(corner: Vector, q: Corners, k: usize, gap: u16) -> bool
+    requires { (k < length (part_of q.numbers.now)) × Short 8192 corner.x corner.y }
     ensures { result ≡
         near_edge gap (vertex_at (part_of q.entry.numbers.now) k)
-        (vertex_at (part_of q.entry.numbers.now) (following (part_of q.entry.numbers.now) k)) (vertex x y) }
+        (vertex_at (part_of q.entry.numbers.now) (following (part_of q.entry.numbers.now) k))
+        (vertex corner.x corner.y) }
 {
-    let m = next_vertex(q.numbers, k);
-    let sx = coordinate(q.numbers, k, 0);
-    let sy = coordinate(q.numbers, k, 1);
-    near_edge(
-        coordinate(q.numbers, m, 0) - sx,
-        coordinate(q.numbers, m, 1) - sy,
-        x - sx,
-        y - sy,
-        gap,
-    )
+    let start = vertex(q.numbers, k);
+    let end = vertex(q.numbers, next_vertex(q.numbers, k));
+    near_edge(way_between(start, end), way_between(start, corner), gap)
 }
 
-// Whether the corner (x, y) is nearer than the gap to no edge of q. The first edge that it is too near ends the test.
-fn corner_clear(x: i16, y: i16, q: Corners, gap: u16) -> bool
-    requires { Short 8192 x y }
-    ensures { result ≡ corner_clear gap (part_of q.entry.numbers.now) (vertex x y) }
+// Whether the corner is nearer than the gap to no edge of q. The first edge that it is too near ends the test.
+fn corner_clear(corner: Vector, q: Corners, gap: u16) -> bool
+    requires { Short 8192 corner.x corner.y }
+    ensures { result ≡ corner_clear gap (part_of q.entry.numbers.now) (vertex corner.x corner.y) }
 {
-    (0..q.count()).all(|k| !edge_near(x, y, q, k, gap))
+    (0..q.count()).all(|k| !edge_near(corner, q, k, gap))
 }
 
 // The same of corner i of p, moved.
@@ -86,12 +91,7 @@ fn moved_clear(p: Corners, i: usize, by: Move, q: Corners, gap: u16) -> bool
         corner_clear gap (part_of q.entry.numbers.now)
         (shifted by.dx by.dy (vertex_at (part_of p.entry.numbers.now) i)) }
 {
-    corner_clear(
-        coordinate(p.numbers, i, 0) + by.dx,
-        coordinate(p.numbers, i, 1) + by.dy,
-        q,
-        gap,
-    )
+    corner_clear(by.moved(vertex(p.numbers, i)), q, gap)
 }
 
 // Whether no corner of p, moved, is nearer than the gap to an edge of q. The first corner that is ends the test.

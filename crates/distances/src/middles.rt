@@ -1,58 +1,56 @@
 // A first look at two parts, along the line through their middles: it tells of most pairs with a gap that they are far
 // enough apart, or that they are not.
-ghost use Rattle.std.specs.Prelude.{map, ◌≡◌, ◌≤◌, ◌<◌, nat_abs, ◌+ℤ◌, ◌-ℤ◌, length};
-ghost use Rattle.model.specs.Geometry.{vertex_at, separated};
-ghost use Rattle.polygons.specs.Flat.{part_of, shifted, coordinate_of};
+ghost use Rattle.std.specs.Prelude.{map, ◌≡◌};
+ghost use Rattle.model.specs.Geometry.{separated};
+ghost use Rattle.polygons.specs.Flat.{part_of, shifted};
+ghost use Rattle.distances.specs.Compact.{Short};
 ghost use Rattle.distances.specs.Middles.{told_by, Tells};
 
-use crate::corners::{squared, way_along};
+use crate::corners::{squared, way_along, way_between};
 use crate::parts::{Move, Part};
-use directions::along::furthest;
-use polygons::vertices::coordinate;
+use directions::along::{Direction, furthest};
+use polygons::vertices::{Vector, vertex};
 
-// Coordinate c of the first vertex and of the one half way round, added: twice that of a point about in the middle of
-// the part. (Only the speed turns on which one it is.)
-fn twice_middle(p: Part, c: usize) -> i16
-    requires { c < 2 }
-    ensures { nat_abs result ≤ 8192 }
+// The first vertex and the one half way round, added: twice a point about in the middle of the part. (Only the speed
+// turns on which one it is.)
+fn twice_middle(p: Part) -> Vector
+    ensures { Short 8192 result.x result.y }
 {
-    coordinate(p.numbers, 0, c) + coordinate(p.numbers, p.numbers.len() / 4, c)
+    let first = vertex(p.numbers, 0);
+    let half = vertex(p.numbers, p.numbers.len() / 4);
+    Vector {
+        x: first.x + half.x,
+        y: first.y + half.y,
+    }
 }
 
-// Coordinate c of the way from the middle of p to that of q, moved by so much; twice as long.
-fn between(p: Part, q: Part, c: usize, moved: i16) -> i16
-    requires { (c < 2) × (nat_abs moved ≤ 4096) }
-    ensures { nat_abs result ≤ 24576 }
+// The way from the middle of p to that of q, moved; twice as long.
+fn between(p: Part, q: Part, by: Move) -> Vector
+    ensures { Short 24576 result.x result.y }
 {
-    twice_middle(q, c) + 2 * moved - twice_middle(p, c)
+    let from = twice_middle(p);
+    let to = twice_middle(q);
+    Vector {
+        x: to.x + 2 * by.dx - from.x,
+        y: to.y + 2 * by.dy - from.y,
+    }
 }
 
-// Coordinate c of the way from vertex i of p to vertex j of q, moved by so much.
-fn apart(p: Part, i: usize, q: Part, j: usize, c: usize, moved: i16) -> i16
-    requires in_bounds { (i < length (part_of p.numbers.now)) × (j < length (part_of q.numbers.now)) }
-    requires short { (c < 2) × (nat_abs moved ≤ 4096) }
-    ensures { result ≡
-        coordinate_of c (vertex_at (part_of q.entry.numbers.now) j) +ℤ moved
-        -ℤ coordinate_of c (vertex_at (part_of p.entry.numbers.now) i) }
-{
-    coordinate(q.numbers, j, c) + moved - coordinate(p.numbers, i, c)
-}
-
-// What (x, y), the way between the two corners that come next to each other along (a, b), tells of two parts: that they
-// are not separated if it is shorter than the gap, that they are if it goes the gap or more along (a, b), and otherwise
-// nothing.
-fn told(a: i16, b: i16, x: i16, y: i16, gap: u16) -> Option<bool>
-    ensures { result ≡ told_by gap a b x y }
+// What `way`, that between the two corners that come next to each other along the line, tells of two parts: that they
+// are not separated if it is shorter than the gap, that they are if it goes the gap or more along the line, and
+// otherwise nothing.
+fn told(line: Vector, way: Vector, gap: u16) -> Option<bool>
+    ensures { result ≡ told_by gap line.x line.y way.x way.y }
 {
     let square = squared(gap);
-    if way_along(x, y, x, y) < square {
+    if way_along(way, way) < square {
         return Some(false);
     }
-    let width = way_along(a, b, x, y);
+    let width = way_along(line, way);
     if width <= 0 {
         return None;
     }
-    if square * way_along(a, b, a, b) <= width * width {
+    if square * way_along(line, line) <= width * width {
         Some(true)
     } else {
         None
@@ -68,15 +66,20 @@ pub fn look(p: Part, q: Part, by: Move, gap: u16) -> Option<bool>
     if gap == 0 {
         return None;
     }
-    let a = between(p, q, 0, by.dx);
-    let b = between(p, q, 1, by.dy);
-    let i = furthest(p.numbers, a as i32, b as i32);
-    let j = furthest(q.numbers, 0 - (a as i32), 0 - (b as i32));
+    let line = between(p, q, by);
+    let ahead = Direction {
+        a: line.x as i32,
+        b: line.y as i32,
+    };
+    let back = Direction {
+        a: 0 - (line.x as i32),
+        b: 0 - (line.y as i32),
+    };
+    let i = furthest(p.numbers, ahead);
+    let j = furthest(q.numbers, back);
     told(
-        a,
-        b,
-        apart(p, i, q, j, 0, by.dx),
-        apart(p, i, q, j, 1, by.dy),
+        line,
+        way_between(vertex(p.numbers, i), by.moved(vertex(q.numbers, j))),
         gap,
     )
 }

@@ -1,9 +1,11 @@
 // Parts whose numbers are small, so that the squares which distances are compared by fit 64 bits, and how far one is
 // moved.
-ghost use Rattle.std.specs.Prelude.{◌≡◌, pos, ◌-ℤ◌, length};
+ghost use Rattle.std.specs.Prelude.{◌≡◌, pos, ◌+ℤ◌, ◌-ℤ◌, length};
 ghost use Rattle.convexity.specs.Parts.{SoundPart};
 ghost use Rattle.polygons.specs.Flat.{part_of};
 ghost use Rattle.distances.specs.Compact.{Compact, Short};
+
+use polygons::vertices::Vector;
 
 // The corners of a part, x and y of each in turn: no number is above 4096 in size.
 #[derive(Clone, Copy)]
@@ -49,6 +51,18 @@ pub struct Move {
 }
 
 impl Move {
+    // Where a corner comes to lie.
+    pub fn moved(self, v: Vector) -> Vector
+        requires { Short 4096 v.x v.y }
+        ensures place { (result.x ≡ v.x +ℤ self.dx) × (result.y ≡ v.y +ℤ self.dy) }
+        ensures short { Short 8192 result.x result.y }
+    {
+        Vector {
+            x: v.x + self.dx,
+            y: v.y + self.dy,
+        }
+    }
+
     // The same way back.
     pub fn back(self) -> Move
         ensures { (result.dx ≡ pos 0 -ℤ self.dx) × (result.dy ≡ pos 0 -ℤ self.dy) }

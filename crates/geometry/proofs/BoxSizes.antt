@@ -35,8 +35,5 @@ module _ {h f : ℤ} (hh : SFits w16 h) (hf : SFits w16 f) where
         fits-64 (h +ℤ f +ℤ pos gap)
         (le_trans (bounded (2 ^ 15 ∷ 2 ^ 15 ∷ 2 ^ 16 ∷ []) 3 (λ h f g. h ⊞ f ⊞ g) h f (pos gap) (size_of w16 h hh) (size_of w16 f hf) (le_of_lt hg.fits)) (lit≤ tt))
 
-    pub padded_fits : SFits w64 (read (cast h +ℤ cast f) +ℤ to_z w64 gap)
-    padded_fits = op_fits end-gives (gap-read hg) ◌+ℤ◌ padded
-
     pub padded_gives : read (read (cast h +ℤ cast f) +ℤ to_z w64 gap) ≡ h +ℤ f +ℤ pos gap
     padded_gives = op_gives end-gives (gap-read hg) ◌+ℤ◌ padded

@@ -1,5 +1,5 @@
 -- The test of a pair by the normals of its parts and by distances is the model's. Assumes nothing.
-use mathlib.Core.Bool.{Bool, true, false, ◌&&◌, ◌||◌, and-true, and-false, and_assoc}
+use mathlib.Core.Bool.{Bool, true, false, ◌&&◌, ◌||◌, and-true, and_assoc}
 use mathlib.Core.List.{map}
 use mathlib.Core.Path.{◌≡◌, refl, sym, ap, ap₂, ◌∙◌}
 use Prim.Native.Nat.{ℕ, ◌<◌}
@@ -21,8 +21,7 @@ use Rattle.convexity.proofs.Clear.{clear_zero}
 use Rattle.polygons.specs.Flat.{shifted}
 use Rattle.geometry.specs.Apart.{both_clear, Beside}
 use Rattle.directions.specs.Directions.{separates_moved}
-use Rattle.distances.specs.Middles.{Tells}
-use Rattle.distances.proofs.MiddleLaws.{tells, told-nothing}
+use Rattle.distances.proofs.MiddleLaws.{tells}
 
 -- ---- the normals
 
@@ -59,9 +58,6 @@ module _ (gap : ℕ) (P Q : Part) where
   pub both_none : gap ≡ 0 → true ≡ both_clear gap P Q
   both_none g = rw g (sym (and_both _ _ (clear_zero P Q) (clear_zero Q P)))
 
-  pub both_second : corners_clear gap Q P ≡ false → false ≡ both_clear gap P Q
-  both_second e = sym (ap (λ t. corners_clear gap P Q && t) e ∙ and-false (corners_clear gap P Q))
-
   pub both_first : corners_clear gap Q P ≡ true → corners_clear gap P Q ≡ both_clear gap P Q
   both_first e = sym (ap (λ t. corners_clear gap P Q && t) e ∙ and-true (corners_clear gap P Q))
 
@@ -89,19 +85,11 @@ module _ (gap : ℕ) (P Q : Part) (dx dy : ℤ) (some_p : 0 < length P) (some_q 
       and_assoc (disjoint P (map (shifted dx dy) Q)) (corners_clear gap P (map (shifted dx dy) Q)) (corners_clear gap (map (shifted dx dy) Q) P)
       ∙ ap (λ t. t && both_clear gap P (map (shifted dx dy) Q)) (disjoint-is P Q dx dy some_q ∙ ap₂ ◌||◌ e f)
 
-  -- a first look tells
-  pub beside_seen : (t : Bool) → Tells (Some t) apart → Beside gap P Q dx dy (Some t)
-  beside_seen t h = record { tells = h; none = λ z. cc }
-
-  -- no edge of P separates
-  pub beside_none : first_edges ≡ false → Beside gap P Q dx dy None
-  beside_none e = record { tells = told-nothing _; none = λ z. e }
-
-  -- one does, and the distances decide
+  -- an edge of P separates, and the distances decide
   pub beside_some : first_edges ≡ true → (b : Bool) → b ≡ both_clear gap P (map (shifted dx dy) Q) → Beside gap P Q dx dy (Some b)
   beside_some h b e = record { tells = tells (separated-is true second_edges h refl ∙ sym e); none = λ z. cc }
 
-  -- told without those of P, where none of P separates
+  -- told without the edges of P, of which none separates
   pub second-says : first_edges ≡ false → (s : Option Bool) → Beside gap Q P (pos 0 -ℤ dx) (pos 0 -ℤ dy) s → unwrap_or s false ≡ apart
   second-says z None u = sym (separated-is false false z (u.none refl))
   second-says z (Some t) u =

@@ -1,6 +1,6 @@
 -- A part as a flat run of numbers: x and y of the first vertex, x and y of the second, and so on.
-use Rattle.std.specs.Prelude.{List, [], ◌∷◌, ℕ, zero, suc, ℤ}
-use Rattle.model.specs.Content.{Vertex, vertex, Part}
+use Rattle.std.specs.Prelude.{List, [], ◌∷◌, ℕ, ℤ}
+use Rattle.model.specs.Content.{vertex, Part}
 use Rattle.model.specs.Geometry.{Direction, vertex_at, following, outward_normal}
 pub use Rattle.model.specs.Geometry.{shifted}
 
@@ -9,11 +9,6 @@ unfoldable pub part_of : List ℤ → Part
 part_of [] = []
 part_of (x ∷ []) = []
 part_of (x ∷ y ∷ zs) = vertex x y ∷ part_of zs
-
--- Coordinate c of a vertex: 0 is x, and 1 is y.
-abbrev pub coordinate_of : ℕ → Vertex → ℤ
-coordinate_of zero v = v.x
-coordinate_of (suc c) v = v.y
 
 -- The outward normal of the edge from vertex k to the next one.
 unfoldable pub normal_of : Part → ℕ → Direction

@@ -4,7 +4,7 @@ ghost use Rattle.model.specs.Geometry.{vertex_at};
 ghost use Rattle.polygons.specs.Flat.{part_of};
 ghost use Rattle.polygons.specs.Boxes.{box, box_of, extents_of, joined};
 
-use crate::vertices::coordinate;
+use crate::vertices::vertex;
 
 // The least and the largest x and y.
 #[derive(Clone, Copy)]
@@ -44,7 +44,8 @@ fn corner(p: &[i16], k: usize) -> Extents
     requires { 2 * k + 1 < length p.now }
     ensures { result ≡ box_of (vertex_at (part_of p.now) k) }
 {
-    point(coordinate(p, k, 0), coordinate(p, k, 1))
+    let v = vertex(p, k);
+    point(v.x, v.y)
 }
 
 // The box of a part; of no vertex, all 0.

@@ -1,12 +1,22 @@
 // The vertices of a flat part.
 ghost use Rattle.std.specs.Prelude.{◌≡◌, ◌+◌, ◌*◌, ◌<◌, length};
 ghost use Rattle.model.specs.Geometry.{vertex_at};
-ghost use Rattle.polygons.specs.Flat.{part_of, coordinate_of};
+ghost use Rattle.polygons.specs.Flat.{part_of};
 
-// Coordinate c of vertex k: 0 is x, and 1 is y.
-pub fn coordinate(p: &[i16], k: usize, c: usize) -> i16
-    requires { (2 * k + 1 < length p.now) × (c < 2) }
-    ensures { result ≡ coordinate_of c (vertex_at (part_of p.now) k) }
+// Where a vertex lies, or the way from one to another.
+#[derive(Clone, Copy)]
+pub struct Vector {
+    pub x: i16,
+    pub y: i16,
+}
+
+// Vertex k.
+pub fn vertex(p: &[i16], k: usize) -> Vector
+    requires { 2 * k + 1 < length p.now }
+    ensures { (result.x ≡ (vertex_at (part_of p.now) k).x) × (result.y ≡ (vertex_at (part_of p.now) k).y) }
 {
-    p[2 * k + c]
+    Vector {
+        x: p[2 * k],
+        y: p[2 * k + 1],
+    }
 }

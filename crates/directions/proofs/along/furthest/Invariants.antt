@@ -5,4 +5,4 @@ use Rattle.directions.proofs.Leading.{Leading}
 use Rattle.directions.proofs.along.furthest.Given as goal
 
 abbrev pub invariant-loop-k : goal.invariant-loop-k
-invariant-loop-k l = Leading (along (direction l.a l.b)) (part_of l.p) l.k l.best l.most
+invariant-loop-k l = Leading (along (direction l.d.a l.d.b)) (part_of l.p) l.k l.best l.most

@@ -4,11 +4,10 @@ use mathlib.Core.Path.{◌≡◌, sym, ◌∙◌, ap, subst}
 use Prim.Native.Nat.{ℕ, ◌+◌, ◌<◌}
 use native.Mathlib.Omega.{arith}
 use borrow.Author.Count.{below_more}
-use borrow.Author.Rules.{sfits_of}
 use lib.IntN.{ℤ, ◌+ℤ◌, ◌-ℤ◌}
 use lib.ListN.{length}
 use lib.Signed.{le_z, lt_z, ◌≤ℤ◌}
-use mir.Syntax.{w16, w32, w64}
+use mir.Syntax.{w16}
 use mir.Val.{SFits, to_z, of_z}
 use mir.ValLaws.{to_z-of_z}
 use Rattle.convexity.specs.Parts.{SoundPart}
@@ -16,82 +15,78 @@ use Rattle.integers.proofs.Order.{lt_z_true, lt_z_false}
 use Rattle.model.specs.Content.{Vertex, vertex, Part}
 use Rattle.model.specs.Geometry.{Direction, along, direction, vertex_at, following, normals, outward_normal}
 use Rattle.model.specs.Lists.{any, largest_z, smallest_z}
-use Rattle.polygons.specs.Flat.{part_of, normal_of, coordinate_of}
+use Rattle.polygons.specs.Flat.{part_of, normal_of}
 use Rattle.polygons.proofs.Flat.{part_length}
 use Rattle.directions.specs.Directions.{Small, separates_moved}
 use Rattle.directions.proofs.EdgeLaws.{no_normal, some-normal, normal_at, all-beyond, one_before, one_within, own_furthest, refuted, confirmed}
-use Rattle.directions.proofs.Sizes.{less_gives}
+use Rattle.directions.proofs.Sizes.{read, said, small_vertex, less_gives}
 use Rattle.directions.proofs.edges.edges_separate.Goals as goal
 
 -- ---- what is known of one direction
 
--- a direction, a move and a number, as the bits of the locals say them
-abbrev bearing : ℤ → ℤ → Direction
-bearing a b = direction (to_z w32 (of_z w32 a)) (to_z w32 (of_z w32 b))
-
+-- the move, as the bits of its locals say it
 abbrev offset : ℤ → ℤ → Vertex
 offset x y = vertex (to_z w16 (of_z w16 x)) (to_z w16 (of_z w16 y))
 
-abbrev held : ℤ → ℤ
-held z = to_z w64 (of_z w64 z)
+is_offset : {x y : ℤ} → SFits w16 x → SFits w16 y → offset x y ≡ vertex x y
+is_offset {x} {y} hx hy = λ i. vertex (to_z-of_z w16 x hx i) (to_z-of_z w16 y hy i)
 
--- the normal (a, b) of the edge of P from vertex k to vertex m, how far vertex k and the move e go along it, and the
--- limit that follows
-module _ (P Q : Part) (e : Vertex) (is_sound : SoundPart P) (k m : ℕ) (h : k < length P) (s : 0 < length Q)
-    (a b x y : ℤ) (fa : SFits w32 a) (fb : SFits w32 b)
-    (em : m ≡ following P k) (ea : a ≡ coordinate_of 1 (vertex_at P m) -ℤ coordinate_of 1 (vertex_at P k))
-    (eb : b ≡ coordinate_of 0 (vertex_at P k) -ℤ coordinate_of 0 (vertex_at P m))
-    (hx : Small (along (bearing a b) (vertex_at P k)) 47 x)
-    (hy : Small (along (bearing a b) e) 47 y) where
+-- (a, b) is the normal of the edge from vertex k to vertex m, which stand as (x, y) and (u, w)
+is_normal : (P : Part) (k m : ℕ) {a b x y u w : ℤ} → m ≡ following P k
+    → x ≡ (vertex_at P k).x → y ≡ (vertex_at P k).y → u ≡ (vertex_at P m).x → w ≡ (vertex_at P m).y
+    → a ≡ w -ℤ y → b ≡ x -ℤ u → direction a b ≡ normal_of P k
+unfolding outward_normal
+is_normal P k m em ex ey eu ew ea eb =
+    (λ i. direction ((ea ∙ (λ j. ew j -ℤ ey j)) i) ((eb ∙ (λ j. ex j -ℤ eu j)) i)) ∙ normal_at P k m em
+
+-- the normal d of the edge of P from vertex k, how far vertex k and the move e go along it, and the limit that follows
+module _ (P Q : Part) (e : Vertex) (is_sound : SoundPart P) (k : ℕ) (h : k < length P) (s : 0 < length Q)
+    (d : Direction) (n : d ≡ normal_of P k) (x y : ℤ)
+    (hx : Small (along d (vertex_at P k)) 47 x) (hy : Small (along d e) 47 y) where
   -- the numbers that are compared: vertex k, the furthest, the way of the move, and the least of q
   abbrev near : ℤ
-  near = along (bearing a b) (vertex_at P k)
+  near = along d (vertex_at P k)
 
   abbrev far : ℤ
-  far = largest_z (map (along (bearing a b)) P)
+  far = largest_z (map (along d) P)
 
   abbrev way : ℤ
-  way = along (bearing a b) e
+  way = along d e
 
   abbrev low : ℤ
-  low = smallest_z (map (along (bearing a b)) Q)
+  low = smallest_z (map (along d) Q)
 
   abbrev limit : ℤ
-  limit = held (held x -ℤ held y)
+  limit = read (read x -ℤ read y)
 
-  -- the direction is the edge's normal
-  is_normal : bearing a b ≡ normal_of P k
-  unfolding outward_normal
-  is_normal = (λ i. direction ((to_z-of_z w32 a fa ∙ ea) i) ((to_z-of_z w32 b fb ∙ eb) i)) ∙ normal_at P k m em
-
-  -- so the furthest against the least and the way is the test
+  -- the furthest against the least and the way is the test
   verdict : (t : Bool) → le_z far (low +ℤ way) ≡ t → separates_moved P Q e (normal_of P k) ≡ t
   unfolding separates_moved
-  verdict t f = ap (separates_moved P Q e) (sym is_normal) ∙ f
+  verdict t f = ap (separates_moved P Q e) (sym n) ∙ f
 
   -- vertex k lies as far as the furthest, since p is sound
   as_far : far ≡ near
-  as_far = subst (λ (d : Direction). largest_z (map (along d) P) ≡ along d (vertex_at P k)) (sym is_normal)
+  as_far = subst (λ (d : Direction). largest_z (map (along d) P) ≡ along d (vertex_at P k)) (sym n)
       (own_furthest P is_sound k h)
 
   is_limit : limit ≡ near -ℤ way
   is_limit = less_gives hx hy
 
   -- a vertex that lies before the limit refutes it,
-  gives_up : (i : ℕ) (z : ℤ) → i < length Q → z ≡ along (bearing a b) (vertex_at Q i) → lt_z z limit ≡ true
+  gives_up : (i : ℕ) (z : ℤ) → i < length Q → z ≡ along d (vertex_at Q i) → lt_z z limit ≡ true
       → separates_moved P Q e (normal_of P k) ≡ false
   gives_up i z l g f =
       verdict false
-      (refuted near far way low (one_within (along (bearing a b)) P k h)
+      (refuted near far way low (one_within (along d) P k h)
       (ap (λ u. le_z u low) (sym is_limit)
-      ∙ one_before (along (bearing a b)) Q limit i l (lt_z_true _ _ (ap (λ u. lt_z u limit) (sym g) ∙ f))))
+      ∙ one_before (along d) Q limit i l (lt_z_true _ _ (ap (λ u. lt_z u limit) (sym g) ∙ f))))
 
   -- and where none does it is confirmed
-  separates : ((j : ℕ) → j < length Q → limit ≤ℤ along (bearing a b) (vertex_at Q j))
+  separates : ((j : ℕ) → j < length Q → limit ≤ℤ along d (vertex_at Q j))
       → separates_moved P Q e (normal_of P k) ≡ true
   separates f =
       verdict true (confirmed near far way low as_far
-      (ap (λ u. le_z u low) (sym is_limit) ∙ all-beyond (along (bearing a b)) Q limit s f))
+      (ap (λ u. le_z u low) (sym is_limit) ∙ all-beyond (along d) Q limit s f))
 
 -- one more vertex lies beyond the limit
 further : (d : Direction) (Q : Part) (limit z : ℤ) (i : ℕ) → ((j : ℕ) → j < i → limit ≤ℤ along d (vertex_at Q j))
@@ -103,43 +98,43 @@ further d Q limit z i f g h = below_more _ i f (lt_z_false _ _ (ap (λ u. lt_z u
 
 pub loop-i-preserved : goal.loop-i-preserved
 loop-i-preserved c =
-    further (bearing c.difference-a.result c.difference-b.result) (part_of c.args.q.now) _ _ c.loop-i.i
-    c.loop-i.invariant
-    (to_z-of_z w64 c.vertex_along-in-loop-i.result (sfits_of c.vertex_along-in-loop-i.type_inv)
-    ∙ c.vertex_along-in-loop-i.ensures.value)
-    c.if-vertex_along-limit.false
+    let n = c.outward_normal-normal.result in
+    further (direction n.a n.b) (part_of c.args.q.now) _ _ c.loop-i.i c.loop-i.invariant
+    (said tt (small_vertex _ c.vertex.ensures.0 c.vertex.ensures.1 c.along-in-loop-i.ensures)) c.if-along-limit.false
 
 pub directions-preserved : goal.directions-preserved
 directions-preserved c =
+    let P : Part = part_of c.args.p.now in
+    let from = c.vertex-from.ensures in
+    let to = c.vertex-to.ensures in
+    let n = c.outward_normal-normal in
     below_more _ _ c.directions.invariant
-    (gives_up (part_of c.args.p.now) (part_of c.args.q.now) (offset c.args.dx c.args.dy) c.requires.0
-    c.directions.k c.next_vertex-m.result (omega (arith, part_length c.args.p.now))
-    (omega (arith, part_length c.args.q.now))
-    c.difference-a.result c.difference-b.result c.vertex_along.result c.move_along.result
-    (sfits_of c.difference-a.type_inv) (sfits_of c.difference-b.type_inv)
-    c.next_vertex-m.ensures.0 c.difference-a.ensures c.difference-b.ensures c.vertex_along.ensures
-    c.move_along.ensures
-    c.loop-i.i (held c.vertex_along-in-loop-i.result) (omega (arith, part_length c.args.q.now))
-    (to_z-of_z w64 c.vertex_along-in-loop-i.result (sfits_of c.vertex_along-in-loop-i.type_inv)
-    ∙ c.vertex_along-in-loop-i.ensures.value)
-    c.if-vertex_along-limit.true)
-
--- the move, as its locals' bits say it
-is_offset : {x y : ℤ} → SFits w16 x → SFits w16 y → offset x y ≡ vertex x y
-is_offset {x} {y} hx hy = λ i. vertex (to_z-of_z w16 x hx i) (to_z-of_z w16 y hy i)
+    (gives_up P (part_of c.args.q.now) (offset c.args.dx c.args.dy) c.requires.0 c.directions.k
+    (omega (arith, part_length c.args.p.now)) (omega (arith, part_length c.args.q.now))
+    (direction n.result.a n.result.b)
+    (is_normal P c.directions.k c.next_vertex.result c.next_vertex.ensures.0 from.0 from.1 to.0 to.1 n.ensures.0
+    n.ensures.1)
+    c.along.result c.along-in-directions.result (small_vertex _ from.0 from.1 c.along.ensures)
+    c.along-in-directions.ensures
+    c.loop-i.i (read c.along-in-loop-i.result) (omega (arith, part_length c.args.q.now))
+    (said tt (small_vertex _ c.vertex.ensures.0 c.vertex.ensures.1 c.along-in-loop-i.ensures)) c.if-along-limit.true)
 
 pub returns-in-directions : goal.returns-in-directions
 returns-in-directions c =
     let P : Part = part_of c.args.p.now in
     let Q : Part = part_of c.args.q.now in
+    let from = c.vertex-from.ensures in
+    let to = c.vertex-to.ensures in
+    let n = c.outward_normal-normal in
     sym (some-normal (separates_moved P Q (offset c.args.dx c.args.dy)) P c.directions.k
     (omega (arith, part_length c.args.p.now))
-    (separates P Q (offset c.args.dx c.args.dy) c.requires.0 c.directions.k c.next_vertex-m.result
+    (separates P Q (offset c.args.dx c.args.dy) c.requires.0 c.directions.k
     (omega (arith, part_length c.args.p.now)) (omega (arith, part_length c.args.q.now))
-    c.difference-a.result c.difference-b.result c.vertex_along.result c.move_along.result
-    (sfits_of c.difference-a.type_inv) (sfits_of c.difference-b.type_inv)
-    c.next_vertex-m.ensures.0 c.difference-a.ensures c.difference-b.ensures c.vertex_along.ensures
-    c.move_along.ensures (λ j h. c.loop-i.invariant j (omega (arith, part_length c.args.q.now)))))
+    (direction n.result.a n.result.b)
+    (is_normal P c.directions.k c.next_vertex.result c.next_vertex.ensures.0 from.0 from.1 to.0 to.1 n.ensures.0
+    n.ensures.1)
+    c.along.result c.along-in-directions.result (small_vertex _ from.0 from.1 c.along.ensures)
+    c.along-in-directions.ensures (λ j h. c.loop-i.invariant j (omega (arith, part_length c.args.q.now)))))
     ∙ ap (λ (e : Vertex). any (separates_moved P Q e) (normals P)) (is_offset c.ranges.dx c.ranges.dy)
 
 pub returns : goal.returns

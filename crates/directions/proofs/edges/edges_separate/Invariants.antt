@@ -12,7 +12,7 @@ use Rattle.directions.specs.Directions.{separates_moved}
 use Rattle.directions.proofs.edges.edges_separate.Given as goal
 
 abbrev pub invariant-loop-i : goal.invariant-loop-i
-invariant-loop-i l = (j : ℕ) → j < l.i → l.limit ≤ℤ along (direction l.a l.b) (vertex_at (part_of l.q) j)
+invariant-loop-i l = (j : ℕ) → j < l.i → l.limit ≤ℤ along (direction l.normal.a l.normal.b) (vertex_at (part_of l.q) j)
 
 abbrev pub invariant-directions : goal.invariant-directions
 invariant-directions l = (j : ℕ) → j < l.k

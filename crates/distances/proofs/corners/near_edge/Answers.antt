@@ -3,14 +3,14 @@
 use mathlib.Core.Path.{◌≡◌, sym, ◌∙◌, ap}
 use lib.IntN.{ℤ, pos, ◌+ℤ◌, ◌-ℤ◌, ◌*ℤ◌}
 use lib.Signed.{le_z, lt_z}
-use borrow.Author.Rules.{sfits_of}
-use mir.Syntax.{w64}
+use borrow.Author.Rules.{rules, sfits_of}
+use mir.Syntax.{w16, w64}
 use mir.Val.{SFits}
 use mir.ValLaws.{to_z-of_z}
 use Rattle.integers.proofs.Machine.{op_fits, op_gives}
 use Rattle.directions.specs.Directions.{Small}
 use Rattle.directions.proofs.Sizes.{read, said, small-fits, small-read, small-more, small-sum, small-difference}
-use Rattle.distances.proofs.DistanceLaws.{limit_fits, aside_fits, along-of, aside_of, near_before, near-beyond, near-beside, near-is}
+use Rattle.distances.proofs.DistanceLaws.{limit_fits, aside_fits, near_before, near-beyond, near-beside, near-is}
 use Rattle.distances.proofs.corners.near_edge.Goals as goal
 
 -- a value as it stands in a local
@@ -66,67 +66,54 @@ beyond g h = sym (λ i. le_z (said tt g i) (said tt h i))
 
 pub returns-then-along-le0 : goal.returns-then-along-le0
 returns-then-along-le0 c =
-    let e = c.args in
-    let r = c.ranges in
-    let along = along-of r.a r.b r.x r.y c.way_along-along.ensures in
-    let start = along-of r.x r.y r.x r.y c.way_along-from_start.ensures in
-    (λ i. lt_z (said tt start i) (held (sfits_of c.squared-square.type_inv) c.squared-square.ensures i))
-    ∙ near_before _ _ _ (e.a *ℤ e.a +ℤ e.b *ℤ e.b) (e.a *ℤ e.y -ℤ e.b *ℤ e.x) (before along ∙ c.if-along-le0.true)
-    ∙ near-is e.gap e.a e.b e.x e.y
+    let e = c.args.edge in
+    let v = c.args.corner in
+    (λ i. lt_z (said tt c.way_along-from_start.ensures i)
+    (held (sfits_of c.squared-square.type_inv) c.squared-square.ensures i))
+    ∙ near_before _ _ _ (e.x *ℤ e.x +ℤ e.y *ℤ e.y) (e.x *ℤ v.y -ℤ e.y *ℤ v.x)
+    (before c.way_along-along.ensures ∙ c.if-along-le0.true)
+    ∙ near-is c.args.gap e.x e.y v.x v.y
 
 pub overflow_sub-result : goal.overflow_sub-result
-overflow_sub-result c =
-    let r = c.ranges in
-    once_held (along-of r.x r.y r.x r.y c.way_along-from_start.ensures)
-    (along-of r.a r.b r.x r.y c.way_along-along.ensures)
+overflow_sub-result c = once_held c.way_along-from_start.ensures c.way_along-along.ensures
 
 pub overflow_sub-result-then-length-along : goal.overflow_sub-result-then-length-along
-overflow_sub-result-then-length-along c =
-    let r = c.ranges in
-    twice_held (along-of r.x r.y r.x r.y c.way_along-from_start.ensures)
-    (along-of r.a r.b r.x r.y c.way_along-along.ensures)
+overflow_sub-result-then-length-along c = twice_held c.way_along-from_start.ensures c.way_along-along.ensures
 
 pub overflow_add-result : goal.overflow_add-result
 overflow_add-result c =
-    let r = c.ranges in
-    whole_held (along-of r.x r.y r.x r.y c.way_along-from_start.ensures)
-    (along-of r.a r.b r.x r.y c.way_along-along.ensures) (along-of r.a r.b r.a r.b c.way_along-length.ensures)
+    whole_held c.way_along-from_start.ensures c.way_along-along.ensures c.way_along-length.ensures
 
 pub returns-then-length-along : goal.returns-then-length-along
 returns-then-length-along c =
-    let e = c.args in
-    let r = c.ranges in
-    let along = along-of r.a r.b r.x r.y c.way_along-along.ensures in
-    let start = along-of r.x r.y r.x r.y c.way_along-from_start.ensures in
-    let length = along-of r.a r.b r.a r.b c.way_along-length.ensures in
-    (λ i. lt_z (whole_is start along length i)
+    let e = c.args.edge in
+    let v = c.args.corner in
+    (λ i. lt_z (whole_is c.way_along-from_start.ensures c.way_along-along.ensures c.way_along-length.ensures i)
     (held (sfits_of c.squared-square.type_inv) c.squared-square.ensures i))
-    ∙ near-beyond _ _ _ _ (e.a *ℤ e.y -ℤ e.b *ℤ e.x) (before along ∙ c.if-along-le0.false)
-    (beyond length along ∙ c.if-length-along.true)
-    ∙ near-is e.gap e.a e.b e.x e.y
+    ∙ near-beyond _ _ _ _ (e.x *ℤ v.y -ℤ e.y *ℤ v.x) (before c.way_along-along.ensures ∙ c.if-along-le0.false)
+    (beyond c.way_along-length.ensures c.way_along-along.ensures ∙ c.if-length-along.true)
+    ∙ near-is c.args.gap e.x e.y v.x v.y
 
 pub overflow_mul-result : goal.overflow_mul-result
-overflow_mul-result c =
-    let r = c.ranges in
-    square_held (aside_of r.a r.b r.x r.y c.way_aside-aside.ensures)
+overflow_mul-result c = square_held c.way_aside-aside.ensures
 
 pub overflow_mul-result-2 : goal.overflow_mul-result-2
 overflow_mul-result-2 c =
-    let r = c.ranges in
-    op_fits (held (sfits_of c.squared-square.type_inv) c.squared-square.ensures)
-    (said tt (along-of r.a r.b r.a r.b c.way_along-length.ensures)) ◌*ℤ◌
-    (limit_fits c.args.a c.args.b r.gap r.a r.b)
+    let e = c.args.edge in
+    let fx : SFits w16 e.x = search rules in
+    let fy : SFits w16 e.y = search rules in
+    op_fits (held (sfits_of c.squared-square.type_inv) c.squared-square.ensures) (said tt c.way_along-length.ensures)
+    ◌*ℤ◌ (limit_fits e.x e.y c.ranges.gap fx fy)
 
 pub returns : goal.returns
 returns c =
-    let e = c.args in
-    let r = c.ranges in
-    let along = along-of r.a r.b r.x r.y c.way_along-along.ensures in
-    let length = along-of r.a r.b r.a r.b c.way_along-length.ensures in
-    let aside = aside_of r.a r.b r.x r.y c.way_aside-aside.ensures in
-    (λ i. lt_z (square_is aside i)
-    (op_gives (held (sfits_of c.squared-square.type_inv) c.squared-square.ensures) (said tt length) ◌*ℤ◌
-    (limit_fits e.a e.b r.gap r.a r.b) i))
-    ∙ near-beside _ _ (e.x *ℤ e.x +ℤ e.y *ℤ e.y) _ _ (before along ∙ c.if-along-le0.false)
-    (beyond length along ∙ c.if-length-along.false)
-    ∙ near-is e.gap e.a e.b e.x e.y
+    let e = c.args.edge in
+    let v = c.args.corner in
+    let fx : SFits w16 e.x = search rules in
+    let fy : SFits w16 e.y = search rules in
+    (λ i. lt_z (square_is c.way_aside-aside.ensures i)
+    (op_gives (held (sfits_of c.squared-square.type_inv) c.squared-square.ensures)
+    (said tt c.way_along-length.ensures) ◌*ℤ◌ (limit_fits e.x e.y c.ranges.gap fx fy) i))
+    ∙ near-beside _ _ (v.x *ℤ v.x +ℤ v.y *ℤ v.y) _ _ (before c.way_along-along.ensures ∙ c.if-along-le0.false)
+    (beyond c.way_along-length.ensures c.way_along-along.ensures ∙ c.if-length-along.false)
+    ∙ near-is c.args.gap e.x e.y v.x v.y

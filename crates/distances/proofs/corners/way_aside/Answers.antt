@@ -2,8 +2,9 @@
 -- nothing.
 use mathlib.Core.Path.{refl, ◌∙◌}
 use lib.IntN.{◌-ℤ◌, ◌*ℤ◌}
-use borrow.Author.Rules.{sfits_of}
+use borrow.Author.Rules.{rules, sfits_of}
 use mir.Syntax.{w16, w64}
+use mir.Val.{SFits}
 use mir.ValLaws.{to_z-of_z}
 use Rattle.distances.proofs.DistanceLaws.{aside_size}
 use Rattle.directions.proofs.Sizes.{small_at}
@@ -11,12 +12,13 @@ use Rattle.distances.proofs.corners.way_aside.Goals as goal
 
 pub returns : goal.returns
 returns c =
+    let v = c.args.v in
+    let w = c.args.w in
+    let fa : SFits w16 v.x = search rules in
+    let fb : SFits w16 v.y = search rules in
+    let fx : SFits w16 w.x = search rules in
+    let fy : SFits w16 w.y = search rules in
     small_at
     (to_z-of_z w64 c.cross.result (sfits_of c.cross.type_inv) ∙ c.cross.ensures
-    ∙ (λ i. to_z-of_z w16 c.args.a c.ranges.a i *ℤ to_z-of_z w16 c.args.y c.ranges.y i -ℤ to_z-of_z w16 c.args.b
-    c.ranges.b i *ℤ to_z-of_z w16 c.args.x c.ranges.x i))
-    (record {
-      value = refl;
-      size =
-          aside_size c.args.a c.args.b c.args.x c.args.y c.ranges.a c.ranges.b c.ranges.x c.ranges.y;
-    })
+    ∙ (λ i. to_z-of_z w16 v.x fa i *ℤ to_z-of_z w16 w.y fy i -ℤ to_z-of_z w16 v.y fb i *ℤ to_z-of_z w16 w.x fx i))
+    (record { value = refl; size = aside_size v.x v.y w.x w.y fa fb fx fy })

@@ -2,11 +2,11 @@
 -- nothing.
 use mathlib.Core.Path.{◌≡◌, refl}
 use Prim.Native.Nat.{◌≤◌}
-use borrow.Author.Rules.{sfits_of}
+use borrow.Author.Rules.{rules}
 use lib.IntN.{ℤ, pos, nat_abs, ◌+ℤ◌, ◌-ℤ◌, ◌*ℤ◌}
 use mir.Syntax.{w16}
 use mir.Val.{SFits}
-use Rattle.integers.proofs.Machine.{op_fits, op_gives}
+use Rattle.integers.proofs.Machine.{op_gives}
 use Rattle.distances.proofs.DistanceLaws.{bits, bits_are}
 use Rattle.distances.proofs.MiddleLaws.{doubled-size, doubled_fits, more_size, more_fits, rest-size, rest-fits}
 use Rattle.distances.proofs.middles.between.Goals as goal
@@ -16,9 +16,6 @@ module _ (r m : ℤ) (fr : SFits w16 r) (fm : SFits w16 m) (hr : nat_abs r ≤ 8
   doubled_is : bits (pos 2 *ℤ bits m) ≡ pos 2 *ℤ m
   doubled_is = op_gives {x = pos 2} refl (bits_are fm refl) ◌*ℤ◌ (doubled_fits m hm)
 
-  end_held : SFits w16 (bits r +ℤ bits (pos 2 *ℤ bits m))
-  end_held = op_fits (bits_are fr refl) doubled_is ◌+ℤ◌ (more_fits r (pos 2 *ℤ m) hr (doubled-size m hm))
-
   end_is : bits (bits r +ℤ bits (pos 2 *ℤ bits m)) ≡ r +ℤ pos 2 *ℤ m
   end_is = op_gives (bits_are fr refl) doubled_is ◌+ℤ◌ (more_fits r (pos 2 *ℤ m) hr (doubled-size m hm))
 
@@ -27,32 +24,22 @@ module _ (r m : ℤ) (fr : SFits w16 r) (fm : SFits w16 m) (hr : nat_abs r ≤ 8
 
   -- less twice the middle of p, s
   module _ (s : ℤ) (fs : SFits w16 s) (hs : nat_abs s ≤ 8192) where
-    way_held : SFits w16 (bits (bits r +ℤ bits (pos 2 *ℤ bits m)) -ℤ bits s)
-    way_held = op_fits end_is (bits_are fs refl) ◌-ℤ◌ (rest-fits (r +ℤ pos 2 *ℤ m) s end_size hs)
-
     way_size : nat_abs (bits (bits (bits r +ℤ bits (pos 2 *ℤ bits m)) -ℤ bits s)) ≤ 24576
     way_size =
         rw (op_gives end_is (bits_are fs refl) ◌-ℤ◌ (rest-fits (r +ℤ pos 2 *ℤ m) s end_size hs))
         (rest-size (r +ℤ pos 2 *ℤ m) s end_size hs)
 
-pub overflow_mul-result : goal.overflow_mul-result
-overflow_mul-result c = op_fits {x = pos 2} refl (bits_are c.ranges.moved refl) ◌*ℤ◌ (doubled_fits c.args.moved c.requires.1)
-
-pub overflow_add-result : goal.overflow_add-result
-overflow_add-result c =
-    let r = c.twice_middle in
-    end_held r.result c.args.moved (sfits_of r.type_inv) c.ranges.moved r.ensures c.requires.1
-
-pub overflow_sub-result : goal.overflow_sub-result
-overflow_sub-result c =
-    let r = c.twice_middle in
-    let s = c.twice_middle-2 in
-    way_held r.result c.args.moved (sfits_of r.type_inv) c.ranges.moved r.ensures c.requires.1 s.result
-    (sfits_of s.type_inv) s.ensures
-
 pub returns : goal.returns
 returns c =
-    let r = c.twice_middle in
-    let s = c.twice_middle-2 in
-    way_size r.result c.args.moved (sfits_of r.type_inv) c.ranges.moved r.ensures c.requires.1 s.result
-    (sfits_of s.type_inv) s.ensures
+    let from = c.twice_middle-from in
+    let to = c.twice_middle-to in
+    let by = c.args.by in
+    let tx : SFits w16 to.result.x = search rules in
+    let ty : SFits w16 to.result.y = search rules in
+    let dx : SFits w16 by.dx = search rules in
+    let dy : SFits w16 by.dy = search rules in
+    let fx : SFits w16 from.result.x = search rules in
+    let fy : SFits w16 from.result.y = search rules in (
+      way_size to.result.x by.dx tx dx to.ensures.0 by.short.0 from.result.x fx from.ensures.0,
+      way_size to.result.y by.dy ty dy to.ensures.1 by.short.1 from.result.y fy from.ensures.1,
+    )

@@ -1,34 +1,25 @@
 -- `distances::middles::look` meets its contract: the two corners that come next to each other along the line tell of
 -- the parts. Assumes nothing.
-use mathlib.Core.List.{List, map}
+use mathlib.Core.List.{map}
 use mathlib.Core.Path.{refl, sym, ◌∙◌, subst}
-use Prim.Native.Nat.{ℕ, ◌≤◌}
+use Prim.Native.Nat.{ℕ}
 use native.Mathlib.Omega.{arith}
-use borrow.Author.Rules.{rules, sfits_of}
-use lib.IntN.{ℤ, pos, nat_abs, ◌+ℤ◌, ◌-ℤ◌}
-use lib.ListN.{length}
+use borrow.Author.Rules.{rules}
+use lib.IntN.{ℤ, pos, ◌+ℤ◌, ◌-ℤ◌}
 use mir.Syntax.{w16, w32}
 use mir.Val.{SFits, to_z, of_z}
-use Rattle.integers.proofs.Machine.{cast_fits, cast_gives, op_fits, op_gives}
+use Rattle.integers.proofs.Machine.{cast_gives, op_gives}
 use Rattle.integers.proofs.Sizes.{sized}
 use Rattle.integers.proofs.Solver.{#, ◌⊟◌}
 use Rattle.model.specs.Content.{Part}
-use Rattle.model.specs.Geometry.{Direction, direction, vertex_at, separated}
-use Rattle.convexity.specs.Parts.{SoundPart}
+use Rattle.model.specs.Geometry.{Direction, direction, separated}
 use Rattle.polygons.specs.Flat.{part_of, shifted}
 use Rattle.polygons.proofs.Flat.{part_length}
 use Rattle.directions.specs.Directions.{Furthest}
 use Rattle.distances.specs.Middles.{told_by, Tells}
-use Rattle.distances.proofs.DistanceLaws.{bits, bits_are}
-use Rattle.distances.proofs.MiddleLaws.{told-so, told-nothing}
+use Rattle.distances.proofs.DistanceLaws.{bits, short_as}
+use Rattle.distances.proofs.MiddleLaws.{told-so}
 use Rattle.distances.proofs.middles.look.Goals as goal
-
-numbers : (l : List ℤ) → SoundPart (part_of l) → 2 ≤ length l
-numbers l s = omega (arith, s.corners, part_length l)
-
--- a move as it is read from its bits
-moved_small : {d : ℤ} → SFits w16 d → nat_abs d ≤ 4096 → nat_abs (bits d) ≤ 4096
-moved_small f h = rw (bits_are f refl) h
 
 opposite : (z : ℤ) → SFits w16 z → SFits w32 (pos 0 -ℤ z)
 opposite = sized w16 w32 1 (λ z. # (pos 0) ⊟ z) tt
@@ -37,14 +28,8 @@ opposite = sized w16 w32 1 (λ z. # (pos 0) ⊟ z) tt
 abbrev wide : ℤ → ℤ
 wide z = to_z w32 (of_z w32 (bits z))
 
-wide_held : (z : ℤ) → SFits w16 z → SFits w32 (bits z)
-wide_held z f = cast_fits w32 f tt
-
 abbrev other : ℤ → ℤ
 other z = to_z w32 (of_z w32 (pos 0 -ℤ wide z))
-
-other_fits : (z : ℤ) → SFits w16 z → SFits w32 (pos 0 -ℤ wide z)
-other_fits z f = op_fits {x = pos 0} refl (cast_gives w32 f tt) ◌-ℤ◌ (opposite z f)
 
 module _ {P : Part} {a b : ℤ} {i : ℕ} (fa : SFits w16 a) (fb : SFits w16 b) where
   ahead : Furthest P (direction (wide a) (wide b)) i → Furthest P (direction a b) i
@@ -57,31 +42,47 @@ module _ {P : Part} {a b : ℤ} {i : ℕ} (fa : SFits w16 a) (fb : SFits w16 b) 
       (λ k. direction (op_gives {x = pos 0} refl (cast_gives w32 fa tt) ◌-ℤ◌ (opposite a fa) k)
       (op_gives {x = pos 0} refl (cast_gives w32 fb tt) ◌-ℤ◌ (opposite b fb) k))
 
-pub returns-then-gap-eq0 : goal.returns-then-gap-eq0
-returns-then-gap-eq0 c = told-nothing _
-
 pub furthest-i-requires : goal.furthest-i-requires
-furthest-i-requires c = numbers c.args.p.numbers.now c.args.p.is_sound
+furthest-i-requires c = omega (arith, c.args.p.is_sound.corners, part_length c.args.p.numbers.now)
 
 pub furthest-j-requires : goal.furthest-j-requires
-furthest-j-requires c = numbers c.args.q.numbers.now c.args.q.is_sound
+furthest-j-requires c = omega (arith, c.args.q.is_sound.corners, part_length c.args.q.numbers.now)
+
+pub vertex-requires : goal.vertex-requires
+vertex-requires c = omega (arith, c.furthest-i.ensures.inside, part_length c.args.p.numbers.now)
+
+pub vertex-requires-2 : goal.vertex-requires-2
+vertex-requires-2 c = omega (arith, c.furthest-j.ensures.inside, part_length c.args.q.numbers.now)
+
+pub moved-requires : goal.moved-requires
+moved-requires c =
+    short_as c.vertex-2.ensures.0 c.vertex-2.ensures.1
+    (c.args.q.compact c.furthest-j.result c.furthest-j.ensures.inside)
+
+pub way_between-requires : goal.way_between-requires
+way_between-requires c = (
+  short_as c.vertex.ensures.0 c.vertex.ensures.1
+      (c.args.p.compact c.furthest-i.result c.furthest-i.ensures.inside),
+  c.moved.ensures.short,
+)
 
 pub returns : goal.returns
 returns c =
     let P : Part = part_of c.args.p.numbers.now in
     let Q : Part = part_of c.args.q.numbers.now in
     let by = c.args.by in
-    let hx : SFits w16 by.dx = search rules in
-    let hy : SFits w16 by.dy = search rules in
-    let fa = sfits_of c.between-a.type_inv in
-    let fb = sfits_of c.between-b.type_inv in
+    let line = c.between-line.result in
+    let fa : SFits w16 line.x = search rules in
+    let fb : SFits w16 line.y = search rules in
     let i : ℕ = c.furthest-i.result in
     let j : ℕ = c.furthest-j.result in
+    let v = c.vertex.ensures in
+    let u = c.vertex-2.ensures in
+    let m = c.moved.ensures.place in
+    let w = c.way_between.ensures in
     subst (λ r. Tells r (separated c.args.gap P (map (shifted by.dx by.dy) Q)))
-    (sym (c.told.ensures ∙ (λ k. told_by c.args.gap (bits_are fa refl k) (bits_are fb refl k)
-    ((bits_are (sfits_of c.apart.type_inv) c.apart.ensures
-    ∙ (λ l. (vertex_at Q j).x +ℤ bits_are hx refl l -ℤ (vertex_at P i).x)) k)
-    ((bits_are (sfits_of c.apart-2.type_inv) c.apart-2.ensures
-    ∙ (λ l. (vertex_at Q j).y +ℤ bits_are hy refl l -ℤ (vertex_at P i).y)) k))))
-    (told-so c.args.gap P Q by.dx by.dy c.between-a.result c.between-b.result c.args.p.is_sound c.args.q.is_sound i j
+    (sym (c.told.ensures ∙ (λ k. told_by c.args.gap line.x line.y
+    ((w.0 ∙ (λ l. (m.0 ∙ (λ n. u.0 n +ℤ by.dx)) l -ℤ v.0 l)) k)
+    ((w.1 ∙ (λ l. (m.1 ∙ (λ n. u.1 n +ℤ by.dy)) l -ℤ v.1 l)) k))))
+    (told-so c.args.gap P Q by.dx by.dy line.x line.y c.args.p.is_sound c.args.q.is_sound i j
     (ahead fa fb c.furthest-i.ensures) (back fa fb c.furthest-j.ensures))

@@ -1,44 +1,53 @@
--- `distances::middles::twice_middle` meets its contract: the sum of two small coordinates is small. Assumes nothing.
-use Prim.Native.Nat.{ℕ, ◌/◌, ◌≤◌, ◌<◌}
+-- `distances::middles::twice_middle` meets its contract: the sum of two small vertices is small. Assumes nothing.
+use Prim.Native.Nat.{◌/◌}
 use native.Mathlib.Omega.{arith}
-use borrow.Author.Rules.{sfits_of}
-use lib.IntN.{nat_abs}
+use borrow.Author.Rules.{rules}
 use lib.ListN.{length}
-use Rattle.model.specs.Content.{Part}
-use Rattle.model.specs.Geometry.{vertex_at}
-use Rattle.polygons.specs.Flat.{part_of, coordinate_of}
+use mir.Syntax.{w16}
+use mir.Val.{SFits}
 use Rattle.polygons.proofs.Flat.{part_length}
-use Rattle.distances.specs.Compact.{Compact}
 use Rattle.distances.proofs.DistanceLaws.{bits_are, sum_held, sum_size}
-use Rattle.distances.proofs.MiddleLaws.{coordinate-small}
 use Rattle.distances.proofs.middles.twice_middle.Goals as goal
 
--- coordinate c of a vertex of the part
-within : (P : Part) → Compact P → (c k : ℕ) → k < length P → nat_abs (coordinate_of c (vertex_at P k)) ≤ 4096
-within P h c k l = coordinate-small c 4096 (vertex_at P k) (h k l)
+pub vertex-first-requires : goal.vertex-first-requires
+vertex-first-requires c = omega (arith, c.args.p.is_sound.corners, part_length c.args.p.numbers.now)
 
-pub coordinate-requires : goal.coordinate-requires
-coordinate-requires c =
-    (omega (arith, c.args.p.is_sound.corners, part_length c.args.p.numbers.now), c.requires)
-
-pub coordinate-requires-2 : goal.coordinate-requires-2
-coordinate-requires-2 c =
-    (omega (arith, c.args.p.is_sound.corners, part_length c.args.p.numbers.now), c.requires)
+pub vertex-half-requires : goal.vertex-half-requires
+vertex-half-requires c = omega (arith, c.args.p.is_sound.corners, part_length c.args.p.numbers.now)
 
 pub overflow_add-result : goal.overflow_add-result
 overflow_add-result c =
-    let P : Part = part_of c.args.p.numbers.now in
-    sum_held (bits_are (sfits_of c.coordinate.type_inv) c.coordinate.ensures)
-    (bits_are (sfits_of c.coordinate-2.type_inv) c.coordinate-2.ensures)
-    (within P c.args.p.compact c.args.c 0 (omega (arith, c.args.p.is_sound.corners)))
-    (within P c.args.p.compact c.args.c (length c.args.p.numbers.now / 4)
-    (omega (arith, c.args.p.is_sound.corners, part_length c.args.p.numbers.now)))
+    let first = c.vertex-first in
+    let half = c.vertex-half in
+    let f : SFits w16 first.result.x = search rules in
+    let h : SFits w16 half.result.x = search rules in
+    sum_held (bits_are f first.ensures.0) (bits_are h half.ensures.0)
+    (c.args.p.compact 0 (omega (arith, c.args.p.is_sound.corners))).0
+    (c.args.p.compact (length c.args.p.numbers.now / 4)
+    (omega (arith, c.args.p.is_sound.corners, part_length c.args.p.numbers.now))).0
+
+pub overflow_add-result-2 : goal.overflow_add-result-2
+overflow_add-result-2 c =
+    let first = c.vertex-first in
+    let half = c.vertex-half in
+    let f : SFits w16 first.result.y = search rules in
+    let h : SFits w16 half.result.y = search rules in
+    sum_held (bits_are f first.ensures.1) (bits_are h half.ensures.1)
+    (c.args.p.compact 0 (omega (arith, c.args.p.is_sound.corners))).1
+    (c.args.p.compact (length c.args.p.numbers.now / 4)
+    (omega (arith, c.args.p.is_sound.corners, part_length c.args.p.numbers.now))).1
 
 pub returns : goal.returns
 returns c =
-    let P : Part = part_of c.args.p.numbers.now in
-    sum_size (bits_are (sfits_of c.coordinate.type_inv) c.coordinate.ensures)
-    (bits_are (sfits_of c.coordinate-2.type_inv) c.coordinate-2.ensures)
-    (within P c.args.p.compact c.args.c 0 (omega (arith, c.args.p.is_sound.corners)))
-    (within P c.args.p.compact c.args.c (length c.args.p.numbers.now / 4)
-    (omega (arith, c.args.p.is_sound.corners, part_length c.args.p.numbers.now)))
+    let first = c.vertex-first in
+    let half = c.vertex-half in
+    let fx : SFits w16 first.result.x = search rules in
+    let hx : SFits w16 half.result.x = search rules in
+    let fy : SFits w16 first.result.y = search rules in
+    let hy : SFits w16 half.result.y = search rules in
+    let u = c.args.p.compact 0 (omega (arith, c.args.p.is_sound.corners)) in
+    let w = c.args.p.compact (length c.args.p.numbers.now / 4)
+    (omega (arith, c.args.p.is_sound.corners, part_length c.args.p.numbers.now)) in (
+      sum_size (bits_are fx first.ensures.0) (bits_are hx half.ensures.0) u.0 w.0,
+      sum_size (bits_are fy first.ensures.1) (bits_are hy half.ensures.1) u.1 w.1,
+    )

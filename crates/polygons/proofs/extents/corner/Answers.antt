@@ -1,21 +1,17 @@
 -- `polygons::extents::corner` meets its contract. Assumes nothing.
 use mathlib.Core.Path.{◌∙◌}
-use native.Mathlib.Omega.{arith}
-use borrow.Author.Rules.{sfits_of}
+use borrow.Author.Rules.{rules}
 use mir.Syntax.{w16}
-use Rattle.integers.proofs.Machine.{read₂}
-use Rattle.polygons.specs.Boxes.{box}
-use Rattle.polygons.proofs.BoxLaws.{same-box}
+use mir.Val.{SFits}
+use mir.ValLaws.{to_z-of_z}
+use Rattle.model.specs.Content.{vertex}
+use Rattle.polygons.specs.Boxes.{box_of}
 use Rattle.polygons.proofs.extents.corner.Goals as goal
-
-pub coordinate-requires : goal.coordinate-requires
-coordinate-requires c = (c.requires, omega arith)
-
-pub coordinate-requires-2 : goal.coordinate-requires-2
-coordinate-requires-2 c = (c.requires, omega arith)
 
 pub returns : goal.returns
 returns c =
+    let v = c.vertex-v in
+    let fx : SFits w16 v.result.x = search rules in
+    let fy : SFits w16 v.result.y = search rules in
     c.point.ensures
-    ∙ read₂ w16 c.coordinate.result c.coordinate-2.result (sfits_of c.coordinate.type_inv) (sfits_of c.coordinate-2.type_inv) (λ x y. box x x y y)
-    ∙ same-box c.coordinate.ensures c.coordinate.ensures c.coordinate-2.ensures c.coordinate-2.ensures
+    ∙ (λ i. box_of (vertex ((to_z-of_z w16 _ fx ∙ v.ensures.0) i) ((to_z-of_z w16 _ fy ∙ v.ensures.1) i)))
