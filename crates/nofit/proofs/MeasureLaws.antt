@@ -37,7 +37,7 @@ use Rattle.model.proofs.Lists.{not_both}
 use Rattle.polygons.specs.Boxes.{extents_of, joined}
 use Rattle.polygons.specs.declared.extents.Extents.{Extents}
 use Rattle.geometry.specs.Apart.{boxes_apart}
-use Rattle.job.specs.View.{Viewed}
+use Rattle.job.specs.View.{Viewed, rotations_of, gap_of}
 use Rattle.job.specs.declared.View.{View}
 use Rattle.shapes.specs.Boxes.{no_box, turned_vertices, BoxesOf}
 use Rattle.shapes.specs.declared.boxes.Boxes.{Boxes}
@@ -61,19 +61,19 @@ joined-within : (e f : Extents) → Within (joined e f) f
 unfolding joined
 joined-within e f = record { left = min_lower-right e.min_x f.min_x; right = max_upper_right e.max_x f.max_x }
 
-module _ (masks : List ℕ) (of : List Extents) (n : ℕ) (e : Extents) (before : Around masks of n e) where
+module _ (masks : ℕ → ℕ) (of : List Extents) (n : ℕ) (e : Extents) (before : Around masks of n e) where
   -- the next box, if its rotation is allowed
   pub around_next : (r : Extents) → r ≡ joined e (get_or of n no_box) → Around masks of (n + 1) r
   around_next r h = rw h (below_more _ n (λ i l t. within-joined e (get_or of n no_box) (get_or of i no_box) (before i l t)) (λ t. joined-within e (get_or of n no_box)))
 
   -- the next box, if it is not
-  pub around_skip : (b : Bool) (m : ℕ) → b ≡ test_bit (get_or masks (n / 4) 0) m → m ≡ n % 4 → b ≡ false → Around masks of (n + 1) e
-  around_skip b m h k f = below_more _ n before (λ t. absurd (not_both t (sym (ap (test_bit (get_or masks (n / 4) 0)) k) ∙ sym h ∙ f)))
+  pub around_skip : (b : Bool) (m : ℕ) → b ≡ test_bit (masks (n / 4)) m → m ≡ n % 4 → b ≡ false → Around masks of (n + 1) e
+  around_skip b m h k f = below_more _ n before (λ t. absurd (not_both t (sym (ap (test_bit (masks (n / 4))) k) ∙ sym h ∙ f)))
 
 -- ---- the largest gap
 
-module _ (gaps : List ℕ) (n r : ℕ) (before : NoLarger gaps n r) where
-  pub no_larger_next : (k : ℕ) → get_or gaps n 0 ≤ k → r ≤ k → NoLarger gaps (n + 1) k
+module _ (gaps : ℕ → ℕ) (n r : ℕ) (before : NoLarger gaps n r) where
+  pub no_larger_next : (k : ℕ) → gaps n ≤ k → r ≤ k → NoLarger gaps (n + 1) k
   no_larger_next k l h = below_more _ n (λ t g. le_trans (before t g) h) l
 
 -- ---- the span of two pieces
@@ -173,8 +173,8 @@ columns-apart span g columns r a c f h l =
     let l : span + a * g ≤ c * g = omega arith in
     pos-≤ℤ l
 
-module _ (s : List ℕ) (v : View) (b : Boxes) (x : Viewed s v) (y : BoxesOf s b) (all : Extents) (gap span r : ℕ) (around : Around v.rotations b.of (v.kinds * 4) all)
-    (gaps : NoLarger v.gaps v.kinds gap) (wide : ((all.max_x -ℤ all.min_x) +ℤ pos gap) ≤ℤ pos span) (spaced : Spaced span v.step v.columns r) where
+module _ (s : List ℕ) (v : View) (b : Boxes) (x : Viewed s v) (y : BoxesOf s b) (all : Extents) (gap span r : ℕ) (around : Around (rotations_of v) b.of (v.kinds * 4) all)
+    (gaps : NoLarger (gap_of v) v.kinds gap) (wide : ((all.max_x -ℤ all.min_x) +ℤ pos gap) ≤ℤ pos span) (spaced : Spaced span v.step v.columns r) where
   -- the box of a kind at a rotation that it may have
   box-within : (t k : ℕ) → t < kind_count (content s).kinds → k < 4 → test_bit (kind_at (content s).kinds t).rotations k ≡ true → Within all (extents_of (turned_vertices s t k))
   box-within t k h l m =
@@ -182,7 +182,7 @@ module _ (s : List ℕ) (v : View) (b : Boxes) (x : Viewed s v) (y : BoxesOf s b
       let r : (t * 4 + k) % 4 ≡ k = omega arith in
       subst (Within all) (y.exact t k h l)
       (around (t * 4 + k) (omega (arith, x.view.kinds))
-      (ap₂ (λ i j. test_bit (get_or v.rotations i 0) j) q r ∙ ap (λ n. test_bit n k) (kind-in s v x t h).rotations ∙ m))
+      (ap₂ (λ i j. test_bit (rotations_of v i) j) q r ∙ ap (λ n. test_bit n k) (kind-in s v x t h).rotations ∙ m))
 
   -- the gap of a pair is at most the larger of the two kinds' gaps
   pair_most : (t u : ℕ) → t < kind_count (content s).kinds → u < kind_count (content s).kinds → pair_gap (content s).classes (kind_at (content s).kinds t) (kind_at (content s).kinds u) ≤ gap

@@ -9,7 +9,7 @@ use native.Mathlib.Omega.{arith}
 use borrow.Author.Tests.{le-leb, lt-leb, lt-ltb, le-ltb}
 use lib.Dec.{leb, ltb, eqb}
 use lib.IntN.{ℤ}
-use lib.ListN.{length, get_or}
+use lib.ListN.{length}
 use mir.Val.{bool_byte}
 use Rattle.words.specs.Bits.{test_bit, bits_where}
 use Rattle.words.specs.Number.{with_number}
@@ -22,7 +22,7 @@ use Rattle.model.specs.Geometry.{rotated}
 use Rattle.model.specs.Grid
 use Rattle.model.specs.Lists.{concat}
 use Rattle.polygons.specs.Boxes.{extents_of}
-use Rattle.job.specs.View.{Viewed}
+use Rattle.job.specs.View.{Viewed, rotations_of}
 use Rattle.job.specs.declared.View.{View}
 use Rattle.shapes.specs.Boxes.{box_at}
 use Rattle.geometry.specs.Pieces.{parts_in}
@@ -203,7 +203,7 @@ module _ (s : List ℕ) (v : View) (table : List ℤ) (b : Boxes) (f : Prepared 
       (conflict-is (z % 4) ((z - 64) / 4) (omega arith))
 
   -- The string as it is asked for.
-  pub pattern_written : (at n : ℕ) (old new : List ℕ) → Written at n (allowed (get_or v.rotations x.other 0)) (blocked_bit table (pattern_of v w x) (turned_to p x.turn) r) old new
+  pub pattern_written : (at n : ℕ) (old new : List ℕ) → Written at n (allowed (rotations_of v x.other)) (blocked_bit table (pattern_of v w x) (turned_to p x.turn) r) old new
       → Written at n (allowed (kind_at (content s).kinds x.other).rotations) (blocked (content s) w x.kind x.turn x.other (under_of x)) old new
   pattern_written at n old new t =
       record {
@@ -223,7 +223,7 @@ module _ (s : List ℕ) (v : View) (table : List ℤ) (b : Boxes) (f : Prepared 
         → Written at n (allowed (kind_at (content s).kinds x.other).rotations) (blocked (content s) w x.kind x.turn x.other (under_of x)) old new
     written_of at n old new t =
         pattern_written at n old new
-        (subst (λ (q : Piece). Written at n (allowed (get_or v.rotations x.other 0)) (blocked_bit table (pattern_of v w x) q r) old new) g
+        (subst (λ (q : Piece). Written at n (allowed (rotations_of v x.other)) (blocked_bit table (pattern_of v w x) q r) old new) g
         (subst (λ (c : Pattern). Written at n (allowed c.mask) (blocked_bit table c q r) old new) e t))
 
 -- ---- strings, one after the other

@@ -1,6 +1,6 @@
 -- Filling the table of no-fit strings: what a string is made of, its bits by the pieces as they stand in the table of turned parts, and a run of
 -- words written whole.
-use Rattle.std.specs.Prelude.{Bool, true, false, cond, ◌&&◌, ◌||◌, List, map, ◌⊎◌, ◌≡◌, ℕ, ◌+◌, ◌-◌, ◌*◌, ◌/◌, ◌%◌, ◌≤◌, ◌<◌, leb, ltb, eqb, ℤ, get_or}
+use Rattle.std.specs.Prelude.{Bool, true, false, cond, ◌&&◌, ◌||◌, List, map, ◌⊎◌, ◌≡◌, ℕ, ◌+◌, ◌-◌, ◌*◌, ◌/◌, ◌%◌, ◌≤◌, ◌<◌, leb, ltb, eqb, ℤ}
 use mir.Val.{bool_byte}
 use Rattle.words.specs.Bits.{test_bit}
 use Rattle.words.specs.Sets.{member}
@@ -11,6 +11,7 @@ use Rattle.polygons.specs.Flat.{shifted}
 use Rattle.polygons.specs.declared.extents.Extents.{Extents}
 use Rattle.geometry.specs.Pieces.{Standing, parts_in}
 use Rattle.geometry.specs.declared.pieces.Piece.{Piece}
+use Rattle.job.specs.View.{rotations_of}
 use Rattle.job.specs.declared.View.{View}
 use Rattle.shapes.specs.Boxes.{box_at}
 use Rattle.shapes.specs.Pieces.{turned_to, Turnable}
@@ -120,7 +121,7 @@ pattern_of v w x =
       reach = w.reach;
       lift = under_of x * w.rows;
       below = bound_of w x;
-      mask = get_or v.rotations x.other 0;
+      mask = rotations_of v x.other;
       gap = view_gap v x.kind x.other;
     }
 

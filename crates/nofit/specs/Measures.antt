@@ -10,12 +10,12 @@ pub record Within (e f : Extents) : Type 0 where
   pub right : f.max_x ≤ℤ e.max_x
 
 -- Of the first n boxes, those of a rotation that the kind may have lie within the box e.
-abbrev pub Around : List ℕ → List Extents → ℕ → Extents → Type 0
-Around masks boxes n e = (i : ℕ) → i < n → test_bit (get_or masks (i / 4) 0) (i % 4) ≡ true → Within e (get_or boxes i no_box)
+abbrev pub Around : (ℕ → ℕ) → List Extents → ℕ → Extents → Type 0
+Around mask boxes n e = (i : ℕ) → i < n → test_bit (mask (i / 4)) (i % 4) ≡ true → Within e (get_or boxes i no_box)
 
 -- No kind below n has a larger gap.
-abbrev pub NoLarger : List ℕ → ℕ → ℕ → Type 0
-NoLarger gaps n gap = (t : ℕ) → t < n → get_or gaps t 0 ≤ gap
+abbrev pub NoLarger : (ℕ → ℕ) → ℕ → ℕ → Type 0
+NoLarger gap n most = (t : ℕ) → t < n → gap t ≤ most
 
 -- On a board of so many columns, a step apart, dots that are `reach` columns apart, or more, are `span` apart.
 pub record Spaced (span step columns reach : ℕ) : Type 0 where

@@ -1,7 +1,7 @@
 // How far the pieces of a job reach, and how large a table of no-fit patterns it needs.
 ghost use Rattle.std.specs.Prelude.{◌+◌, ◌*◌, ◌/◌, ◌≤◌, ◌<◌, pos, ◌+ℤ◌, ◌-ℤ◌, ◌≤ℤ◌};
 ghost use Rattle.model.specs.Format.{content};
-ghost use Rattle.job.specs.View.{Viewed};
+ghost use Rattle.job.specs.View.{Viewed, rotations_of, gap_of};
 ghost use Rattle.shapes.specs.Boxes.{BoxesOf};
 ghost use Rattle.candidates.specs.Placements.{Bounded};
 ghost use Rattle.nofit.specs.Patterns.{Reaching, MeasuresOf};
@@ -22,11 +22,11 @@ fn lowest_turn(mask: usize) -> usize
 // The box around all kinds at all rotations that they may have.
 fn common_box(view: View, boxes: Boxes) -> Extents
     requires { Bounded view }
-    ensures { Around view.rotations boxes.of (view.kinds * 4) result }
+    ensures { Around (rotations_of view) boxes.of (view.kinds * 4) result }
 {
-    let mut e = box_at(boxes, 0, lowest_turn(view.rotations[0]));
+    let mut e = box_at(boxes, 0, lowest_turn(view.kind[0].rotations));
     for i in 0..view.kinds * 4 {
-        if words::bits::test_bit(view.rotations[i / 4] as u64, (i % 4) as u64) {
+        if words::bits::test_bit(view.kind[i / 4].rotations as u64, (i % 4) as u64) {
             e = join(e, boxes.of[i]);
         }
     }
@@ -36,11 +36,11 @@ fn common_box(view: View, boxes: Boxes) -> Extents
 // The largest gap of a kind.
 fn largest_gap(view: View) -> usize
     requires { Bounded view }
-    ensures { (result ≤ 63) × NoLarger view.gaps view.kinds result }
+    ensures { (result ≤ 63) × NoLarger (gap_of view) view.kinds result }
 {
     let mut r = 0;
     for t in 0..view.kinds {
-        r = r.max(view.gaps[t]);
+        r = r.max(view.kind[t].gap);
     }
     r
 }

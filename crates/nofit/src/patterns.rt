@@ -3,7 +3,7 @@ ghost use Rattle.std.specs.Prelude.{true, ◌≡◌, ◌+◌, ◌*◌, ◌/◌, 
 ghost use Rattle.words.specs.Bits.{test_bit, bits_where};
 ghost use Rattle.model.specs.Content.{kind_at};
 ghost use Rattle.model.specs.Format.{content};
-ghost use Rattle.job.specs.View.{Viewed};
+ghost use Rattle.job.specs.View.{Viewed, rotations_of};
 ghost use Rattle.shapes.specs.Boxes.{BoxesOf};
 ghost use Rattle.shapes.specs.Pieces.{turned_to};
 ghost use Rattle.shapes.specs.Turned.{TurnedOf};
@@ -241,7 +241,7 @@ fn pattern_of(view: View, nofit: Nofit, x: Pair) -> Pattern
         reach: nofit.reach,
         lift: usize::from(x.under) * nofit.rows,
         below: bound_of(nofit, x),
-        mask: view.rotations[x.other] as u64,
+        mask: view.kind[x.other].rotations as u64,
         gap: pair_gap(view, x.kind, x.other),
     }
 }
@@ -294,9 +294,9 @@ fn fill_pair(prepared: &PreparedJob, nofit: Nofit, x: Pair, i: usize, bits: &mut
 // Whether kind t may be turned q quarter turns.
 fn is_turned(view: View, t: usize, q: usize) -> bool
     requires { Bounded view × ((t < view.kinds) × (q < 4)) }
-    ensures { result ≡ test_bit (get_or view.rotations t 0) q }
+    ensures { result ≡ test_bit (rotations_of view t) q }
 {
-    bits::test_bit(view.rotations[t] as u64, q as u64)
+    bits::test_bit(view.kind[t].rotations as u64, q as u64)
 }
 
 // String i, if the placed kind may be turned so. The strings before it and the parities stay as they are.

@@ -2,6 +2,7 @@ use mathlib.Core.Path.{sym, subst, ◌∙◌}
 use Prim.Native.Nat.{◌+◌, ◌%◌}
 use native.Mathlib.Omega.{arith}
 use borrow.Author.Count.{below_none}
+use Rattle.job.specs.View.{rotations_of}
 use Rattle.nofit.specs.Measures.{Around}
 use Rattle.nofit.proofs.MeasureLaws.{around_next, around_skip}
 use Rattle.nofit.proofs.measures.common_box.Goals as goal
@@ -12,7 +13,7 @@ loop-i-init c = below_none _
 
 pub loop-i-preserved : goal.loop-i-preserved
 loop-i-preserved c =
-    let masks = c.args.view.rotations in
+    let masks = rotations_of c.args.view in
     let of = c.args.boxes.of in
     let i = c.loop-i.i in
     elim c.if-test_bit.branch [

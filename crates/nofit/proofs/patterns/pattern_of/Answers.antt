@@ -1,6 +1,6 @@
 -- `nofit::patterns::pattern_of` meets its contract. Assumes nothing.
 use Prim.Native.Nat.{◌*◌}
-use lib.ListN.{get_or}
+use Rattle.job.specs.View.{rotations_of}
 use Rattle.nofit.proofs.patterns.pattern_of.Goals as goal
 
 pub returns : goal.returns
@@ -14,6 +14,6 @@ returns c =
       reach = w.reach;
       lift = c.from.ensures j * w.rows;
       below = c.bound_of.ensures j;
-      mask = get_or v.rotations x.other 0;
+      mask = rotations_of v x.other;
       gap = c.pair_gap.ensures j;
     }
