@@ -24,8 +24,8 @@ abbrev pub KindsOf : List Kind → List ℕ → Type 0
 KindsOf ks kinds = (l : ℕ) → l < piece_count ks → get_or kinds l 0 ≡ piece_kind ks l
 
 -- These are the copies left of each kind at each level.
-abbrev pub CopiesOf : List Kind → List ℕ → Type 0
-CopiesOf ks copies = (l u : ℕ) → l < piece_count ks → u < 8 → get_or copies (l * 8 + u) 0 ≡ copies_left u (pieces_from ks l)
+abbrev pub CopiesOf : List Kind → List (List ℕ) → Type 0
+CopiesOf ks copies = (l u : ℕ) → l < piece_count ks → u < 8 → get_or (get_or copies l []) u 0 ≡ copies_left u (pieces_from ks l)
 
 -- The bits of this number say which kinds share a common cut.
 abbrev pub SharedOf : List ℕ → ℕ → Type 0

@@ -1,5 +1,5 @@
 // What the walk looks up in the plan of a run.
-ghost use Rattle.std.specs.Prelude.{true, ◌≡◌, max, ◌<◌};
+ghost use Rattle.std.specs.Prelude.{true, ◌≡◌, ◌<◌};
 ghost use Rattle.model.specs.Candidate.{is_candidate};
 ghost use Rattle.model.specs.Content.{kind_at, kind_count, piece_count};
 ghost use Rattle.model.specs.Format.{content};
@@ -33,13 +33,6 @@ pub fn piece_in(job: &[u8], plan: Plan, kind: usize) -> Piece
         count,
         sizes,
     }
-}
-
-// The larger of two numbers.
-pub fn larger(a: usize, b: usize) -> usize
-    ensures { result ≡ max a b }
-{
-    a.max(b)
 }
 
 // The gap of a pair of kinds.
@@ -76,7 +69,7 @@ pub fn copies_left(job: &[u8], plan: Plan, level: usize, u: usize) -> u8
     requires { PlanOf job.now plan × (level < piece_count (content job.now).kinds) × (u < 8) }
     ensures { result ≡ copies_left u (pieces_from (content job.now).kinds level) }
 {
-    plan.copies[level * 8 + u]
+    plan.copies[level][u]
 }
 
 // The word at which the set of level l and kind u begins.

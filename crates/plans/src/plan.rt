@@ -3,10 +3,11 @@ ghost use Rattle.std.specs.Prelude.{◌≡◌, ℕ, ◌/◌, ◌%◌, ◌≤◌,
 ghost use Rattle.words.specs.Bits.{bits_where};
 ghost use Rattle.model.specs.Content.{kind_count, piece_count};
 ghost use Rattle.model.specs.Format.{content};
+ghost use Rattle.model.specs.Grid.{set_words};
 ghost use Rattle.model.specs.Search.{copies_left};
 ghost use Rattle.model.specs.Services.{work_words};
 ghost use Rattle.job.specs.Gaps.{same_cut};
-ghost use Rattle.job.specs.View.{problem_of, Viewed};
+ghost use Rattle.job.specs.View.{problem_of, cut_of, Viewed};
 ghost use Rattle.geometry.specs.Pieces.{Fitting};
 ghost use Rattle.shapes.specs.Boxes.{BoxesOf};
 ghost use Rattle.stepping.specs.Levels.{pieces_from};
@@ -31,7 +32,7 @@ pub struct PlannedKind {
 
 // The board's rows and step; the margin, which says whose candidates the live sets hold (no function of the walk looks at it: it is the same in every length, so
 // the walk compares ends); how many kinds and pieces there are, and words in a set; whether kinds t and u share a common cut, in bit
-// t * 8 + u; the kind of each piece; the copies of each kind left at each level, those of kind u at level l under l * 8 + u; and each kind.
+// t * 8 + u; the kind of each piece; the copies of each kind left at each level; and each kind.
 #[derive(Clone, Copy)]
 pub struct Plan {
     pub rows: usize,
@@ -42,7 +43,7 @@ pub struct Plan {
     pub words: usize,
     pub shared: u64,
     pub kinds: [u8; 12],
-    pub copies: [u8; 96],
+    pub copies: [[u8; 8]; 12],
     pub kind: [PlannedKind; 8],
 }
 
@@ -54,7 +55,7 @@ fn piece_kinds(job: &[u8], view: View) -> [u8; 12]
     let mut kinds = [0; 12];
     let mut l = 0;
     for t in 0..view.kinds {
-        let end = l + view.demands[t];
+        let end = l + view.kind[t].demand;
         kinds[l..end].fill(t as u8);
         l = end;
     }
@@ -73,13 +74,13 @@ fn count_copies(job: &[u8], view: View, kinds: [u8; 12], l: usize, u: usize) -> 
 }
 
 // The copies of each kind left at each level.
-fn copies_table(job: &[u8], view: View, kinds: [u8; 12]) -> [u8; 96]
+fn copies_table(job: &[u8], view: View, kinds: [u8; 12]) -> [[u8; 8]; 12]
     requires { Viewed job.now view × KindsOf (content job.now).kinds kinds }
     ensures { CopiesOf (content job.now).kinds result }
 {
-    let mut copies = [0; 96];
-    for x in 0..view.pieces * 8 {
-        copies[x] = count_copies(job, view, kinds, x / 8, x % 8);
+    let mut copies = [[0; 8]; 12];
+    for l in 0..view.pieces {
+        copies[l] = array::from_fn(|u| count_copies(job, view, kinds, l, u));
     }
     copies
 }
@@ -103,7 +104,7 @@ fn planned_kind(job: &[u8], view: View, boxes: Boxes, t: usize) -> PlannedKind
 {
     let piece = piece_of(job, view, t);
     PlannedKind {
-        gap: view.gaps[t] as u8,
+        gap: view.kind[t].gap as u8,
         parts: piece.count as u8,
         sizes: sizes_of(piece),
         ends: array::from_fn(|k| box_at(boxes, t, k).max_x),
@@ -124,9 +125,17 @@ fn planned_kinds(job: &[u8], view: View, boxes: Boxes) -> [PlannedKind; 8]
 
 // Which kinds share a common cut: kinds t and u in bit t * 8 + u. (One number, where a table for the kinds would be copied in each step.)
 fn shared_cuts(view: View) -> u64
-    ensures { result ≡ bits_where 64 (λ x. same_cut (get_or view.cuts (x / 8) 0) (get_or view.cuts (x % 8) 0)) }
+    ensures { result ≡ bits_where 64 (λ x. same_cut (cut_of view (x / 8)) (cut_of view (x % 8))) }
 {
     words::bits::word_of(|x| share_cut(view, x / 8, x % 8))
+}
+
+// How many words a set has.
+fn set_words(job: &[u8], view: View) -> usize
+    requires { Viewed job.now view }
+    ensures { (result ≡ set_words (content job.now).sheet) × (result ≤ 64) }
+{
+    (view.columns * view.rows).div_ceil(16)
 }
 
 // The plan of a job, under the view's margin.
@@ -141,7 +150,7 @@ pub fn make_plan(job: &[u8], view: View, boxes: Boxes) -> Plan
         margin: view.margin,
         types: view.kinds,
         pieces: view.pieces,
-        words: (view.columns * view.rows + 15) / 16,
+        words: set_words(job, view),
         shared: shared_cuts(view),
         kinds,
         copies: copies_table(job, view, kinds),
@@ -154,5 +163,5 @@ pub fn work_words(job: &[u8], view: View) -> usize
     requires { Viewed job.now view }
     ensures { (result ≡ work_words (problem_of job.now view)) × (result ≤ 6144) }
 {
-    view.kinds * view.pieces * ((view.columns * view.rows + 15) / 16)
+    view.kinds * view.pieces * set_words(job, view)
 }

@@ -1,48 +1,28 @@
 -- `plans::plan::make_plan` meets its contract.
-use mathlib.Core.List.{List}
 use mathlib.Core.Path.{◌≡◌, refl, ap, ap₂, ◌∙◌}
-use Prim.Native.Nat.{ℕ, ◌+◌, ◌*◌, ◌/◌, ◌%◌, ◌≤◌, ◌<◌}
+use Prim.Native.Nat.{ℕ, ◌+◌, ◌*◌, ◌/◌, ◌%◌, ◌<◌}
 use native.Mathlib.Omega.{arith}
-use lib.ListN.{get_or}
 use Rattle.words.specs.Bits.{test_bit, bits_where}
 use Rattle.words.proofs.Bit.{test_bit-bits_where}
 use Rattle.model.specs.Content.{kind_count}
 use Rattle.model.specs.Format.{content}
-use Rattle.model.specs.Grid.{dots, set_words}
-use Rattle.model.proofs.Accepted.{accepted-dots}
 use Rattle.job.specs.Gaps.{same_cut}
-use Rattle.job.specs.View.{Viewed}
+use Rattle.job.specs.View.{cut_of}
 use Rattle.job.specs.declared.View.{View}
 use Rattle.candidates.proofs.PreparedLaws.{shares_cut}
 use Rattle.shapes.proofs.ViewLaws.{few-kinds}
 use Rattle.plans.proofs.plan.make_plan.Goals as goal
 
 -- The bit of two kinds, where the numbers of all were compared.
-shared_at : (w t u : ℕ) (v : View) → w ≡ bits_where 64 (λ x. same_cut (get_or v.cuts (x / 8) 0) (get_or v.cuts (x % 8)
-    0)) → t < 8 → u < 8
-    → test_bit w (t * 8 + u) ≡ same_cut (get_or v.cuts t 0) (get_or v.cuts u 0)
+shared_at : (w t u : ℕ) (v : View) → w ≡ bits_where 64 (λ x. same_cut (cut_of v (x / 8)) (cut_of v (x % 8))) → t < 8 → u < 8
+    → test_bit w (t * 8 + u) ≡ same_cut (cut_of v t) (cut_of v u)
 shared_at w t u v e h l =
     let q : (t * 8 + u) / 8 ≡ t = omega arith in
     let r : (t * 8 + u) % 8 ≡ u = omega arith in
-    ap (λ w. test_bit w (t * 8 + u)) e ∙ test_bit-bits_where 64 (λ x. same_cut (get_or v.cuts (x / 8) 0)
-    (get_or v.cuts (x % 8) 0)) (t * 8 + u) (omega arith)
-    ∙ ap₂ (λ i j. same_cut (get_or v.cuts i 0) (get_or v.cuts j 0)) q r
-
--- The board has few dots.
-few : (s : List ℕ) (v : View) → Viewed s v → (v.columns * v.rows ≡ dots (content s).sheet) × (v.columns * v.rows ≤ 1024)
-unfolding dots
-few s v x =
-    let e : v.columns * v.rows ≡ dots (content s).sheet = rw (x.view.columns, x.view.rows) in
-    (e, rw e (accepted-dots s x.accepted))
-
-pub overflow_mul-result : goal.overflow_mul-result
-overflow_mul-result c = omega (arith, few c.args.job.now c.args.view c.requires.0)
-
-pub overflow_add-result : goal.overflow_add-result
-overflow_add-result c = omega (arith, few c.args.job.now c.args.view c.requires.0)
+    ap (λ w. test_bit w (t * 8 + u)) e ∙ test_bit-bits_where 64 (λ x. same_cut (cut_of v (x / 8)) (cut_of v (x % 8))) (t * 8 + u) (omega arith)
+    ∙ ap₂ (λ i j. same_cut (cut_of v i) (cut_of v j)) q r
 
 pub returns : goal.returns
-unfolding set_words
 returns c =
     let s = c.args.job.now in
     let low : (t : ℕ) → t < kind_count (content s).kinds → t < 8 = λ t h. omega (arith, few-kinds s c.args.view c.requires.0) in (
@@ -56,7 +36,7 @@ returns c =
         step = refl;
         types = c.requires.0.view.kinds;
         pieces = c.requires.0.view.pieces;
-        words = ap (λ (d : ℕ). (d + 15) / 16) (few s c.args.view c.requires.0).0;
+        words = c.set_words.ensures.0;
         kinds = c.piece_kinds-kinds.ensures;
         copies = c.copies_table.ensures;
         shared = λ t u h l.

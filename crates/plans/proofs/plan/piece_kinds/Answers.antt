@@ -3,14 +3,15 @@ use mathlib.Core.Path.{◌≡◌, refl, ap, ◌∙◌}
 use Prim.Native.Nat.{ℕ, ◌+◌, ◌-◌, ◌≤◌, ◌<◌}
 use native.Mathlib.Omega.{arith}
 use borrow.Author.Rules.{rules}
-use lib.ListN.{length, get_or, replicate, length-replicate}
+use lib.ListN.{length, replicate, length-replicate}
 use Rattle.model.specs.Content.{Kind, kind_at, kind_count}
 use Rattle.model.specs.Format.{content}
+use Rattle.job.specs.View.{demand_of, Viewed}
+use Rattle.job.specs.declared.View.{View}
 use Rattle.shapes.proofs.ViewLaws.{few-kinds, kind-in}
 use Rattle.stepping.proofs.Limits.{few-pieces}
-use Rattle.plans.proofs.PieceLists.{room, all_told, before-next, before-none, filled-length}
+use Rattle.plans.proofs.PieceLists.{Before, room, all_told, before-next, before-none, filled-length}
 use Rattle.plans.proofs.plan.piece_kinds.Goals as goal
-use Rattle.plans.proofs.plan.piece_kinds.Goals.{In-loop-t}
 
 -- The turn's kind exists and has its demand in the view, and there is room for its pieces.
 record Turn (ks : List Kind) (t l demand : ℕ) : Type 0 where
@@ -19,16 +20,16 @@ record Turn (ks : List Kind) (t l demand : ℕ) : Type 0 where
   demanded : demand ≡ (kind_at ks t).demand
   room : l + demand ≤ 12
 
-turn : (c : In-loop-t) → Turn (content c.args.job.now).kinds c.loop-t.t c.loop-t.l (get_or c.args.view.demands c.loop-t.t 0)
-turn c =
-    let s = c.args.job.now in
-    let h : c.loop-t.t < kind_count (content s).kinds = omega (arith, c.requires.view.kinds) in
-    let d = (kind-in s c.args.view c.requires c.loop-t.t h).demand in
+turn : (s : List ℕ) (v : View) (x : Viewed s v) (kinds : List ℕ) (l t : ℕ) → t < v.kinds → (length kinds ≡ 12) × (l ≤ 12) × Before (content s).kinds kinds l t
+    → Turn (content s).kinds t l (demand_of v t)
+turn s v x kinds l t h b =
+    let k : t < kind_count (content s).kinds = omega (arith, x.view.kinds) in
+    let d = (kind-in s v x t k).demand in
     record {
-      exists = h;
-      low = omega (arith, few-kinds s c.args.view c.requires);
+      exists = k;
+      low = omega (arith, few-kinds s v x);
       demanded = d;
-      room = omega (arith, d, few-pieces s c.requires.accepted, room (content s).kinds c.loop-t.kinds c.loop-t.l c.loop-t.t (omega (arith, c.loop-t.invariant)) h c.loop-t.invariant.2);
+      room = omega (arith, d, few-pieces s x.accepted, room (content s).kinds kinds l t (omega (arith, b)) k b.2);
     }
 
 pub loop-t-init : goal.loop-t-init
@@ -41,18 +42,18 @@ pub bounds-view-t : goal.bounds-view-t
 bounds-view-t c = omega (arith, few-kinds c.args.job.now c.args.view c.requires, c.requires.view.kinds)
 
 pub overflow_add-end : goal.overflow_add-end
-overflow_add-end c = omega (arith, turn (goal.at.overflow_add-end c).In-loop-t)
+overflow_add-end c = omega (arith, turn c.args.job.now c.args.view c.requires c.loop-t.kinds c.loop-t.l c.loop-t.t c.loop-t-test.true c.loop-t.invariant)
 
 pub slice_bounds-kinds-end : goal.slice_bounds-kinds-end
-slice_bounds-kinds-end c = omega (arith, c.loop-t.invariant.0, turn (goal.at.slice_bounds-kinds-end c).In-loop-t)
+slice_bounds-kinds-end c = omega (arith, c.loop-t.invariant.0, turn c.args.job.now c.args.view c.requires c.loop-t.kinds c.loop-t.l c.loop-t.t c.loop-t-test.true c.loop-t.invariant)
 
 pub overflow_cast-t : goal.overflow_cast-t
 overflow_cast-t c = omega (arith, few-kinds c.args.job.now c.args.view c.requires, c.requires.view.kinds)
 
 pub loop-t-preserved : goal.loop-t-preserved
 loop-t-preserved c =
-    let x = turn (goal.at.loop-t-preserved c).In-loop-t in
-    let demand = get_or c.args.view.demands c.loop-t.t 0 in
+    let x = turn c.args.job.now c.args.view c.requires c.loop-t.kinds c.loop-t.l c.loop-t.t c.loop-t-test.true c.loop-t.invariant in
+    let demand = demand_of c.args.view c.loop-t.t in
     let filled : c.fill.new.self ≡ replicate (kind_at (content c.args.job.now).kinds c.loop-t.t).demand c.loop-t.t = search rules in (
       filled-length c.loop-t.kinds c.fill.new.self c.loop-t.l demand (c.loop-t.l + demand - c.loop-t.l) (omega (arith, x, c.loop-t.invariant.0)) (omega arith) (omega (arith, x.demanded, ap length filled, length-replicate {A = ℕ})) ∙ c.loop-t.invariant.0,
       x.room,
