@@ -1,15 +1,8 @@
 // The sections: cause 3 of refusal.
-ghost use Rattle.std.specs.Prelude.{◌≡◌, ◌+◌, ◌≤◌, ◌<◌, max, leb, length};
+ghost use Rattle.std.specs.Prelude.{◌≡◌, ◌+◌, ◌≤◌, ◌<◌, leb, length};
 ghost use Rattle.model.specs.Format.{section, share_byte, cause3};
 
 use crate::trailer;
-
-// The larger of two numbers.
-pub fn larger(a: usize, b: usize) -> usize
-    ensures { result ≡ max a b }
-{
-    a.max(b)
-}
 
 // A section: so many bytes from an offset on. Both are far below the largest number, so their sum is exact.
 #[derive(Clone, Copy)]
