@@ -25,7 +25,8 @@ boxes_apart gap e f dx dy =
 abbrev pub both_clear : ℕ → Part → Part → Bool
 both_clear gap P Q = corners_clear gap P Q && corners_clear gap Q P
 
--- The answer r, if it tells anything, tells whether P and Q moved by (dx, dy) are separated at the gap, and it tells nothing only where no normal of P separates them.
+-- The answer r, if it tells anything, tells whether P and Q moved by (dx, dy) are separated at the gap, and it tells
+-- nothing only where no normal of P separates them.
 pub record Beside (gap : ℕ) (P Q : Part) (dx dy : ℤ) (r : Option Bool) : Type 0 where
   pub tells : Tells r (separated gap P (map (shifted dx dy) Q))
   pub none : r ≡ None → any (separates_moved P Q (vertex dx dy)) (normals P) ≡ false

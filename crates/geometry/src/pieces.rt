@@ -52,21 +52,21 @@ pub fn part_box(table: &[i16], p: Piece, i: usize) -> Extents
 
 // A piece and the table that it stands in, each part under its own box, sound and with small numbers.
 #[derive(Clone, Copy)]
-struct TablePiece<'a> {
+struct TablePiece<'a, 'b> {
     table: &'a [i16],
-    piece: Piece,
-    ghost standing: { Standing table.now piece },
+    piece: &'b Piece,
+    ghost standing: { Standing table.now piece.now },
 }
 
-impl<'a> TablePiece<'a> {
+impl<'a, 'b> TablePiece<'a, 'b> {
     // Part i of it.
     fn part(&self, i: usize) -> Part<'a>
-        requires { i < self.now.piece.count }
-        ensures { part_of result.numbers.now ≡ part_in self.now.table.now self.now.piece i }
+        requires { i < self.now.piece.now.count }
+        ensures { part_of result.numbers.now ≡ part_in self.now.table.now self.now.piece.now i }
     {
-        let at = part_start(self.piece, i) + 4;
+        let at = part_start(*self.piece, i) + 4;
         Part {
-            numbers: &self.table[at..at + part_length(self.piece, i)],
+            numbers: &self.table[at..at + part_length(*self.piece, i)],
         }
     }
 }
@@ -74,14 +74,14 @@ impl<'a> TablePiece<'a> {
 // Whether part i of p is not separated from part m of q, moved: the pair test of their vertices, and before it that of
 // their boxes, since those that are apart spare most pairs the test.
 fn parts_conflict(p: &TablePiece, i: usize, q: &TablePiece, m: usize, by: Move, gap: u16) -> bool
-    requires { (i < p.now.piece.count) × (m < q.now.piece.count) }
+    requires { (i < p.now.piece.now.count) × (m < q.now.piece.now.count) }
     ensures { result ≡
-        not (Geometry.separated gap (part_in p.now.table.now p.now.piece i)
-        (map (shifted by.dx by.dy) (part_in q.now.table.now q.now.piece m))) }
+        not (Geometry.separated gap (part_in p.now.table.now p.now.piece.now i)
+        (map (shifted by.dx by.dy) (part_in q.now.table.now q.now.piece.now m))) }
 {
     if boxes_apart(
-        part_box(p.table, p.piece, i),
-        part_box(q.table, q.piece, m),
+        part_box(p.table, *p.piece, i),
+        part_box(q.table, *q.piece, m),
         by.dx,
         by.dy,
         gap,
@@ -93,10 +93,10 @@ fn parts_conflict(p: &TablePiece, i: usize, q: &TablePiece, m: usize, by: Move, 
 
 // Whether part i of p is not separated from some part of q, moved. The first such part ends the test.
 fn part_conflicts(p: &TablePiece, i: usize, q: &TablePiece, by: Move, gap: u16) -> bool
-    requires { i < p.now.piece.count }
+    requires { i < p.now.piece.now.count }
     ensures { result ≡
-        part_conflicts gap (part_in p.now.table.now p.now.piece i)
-        (map (map (shifted by.dx by.dy)) (parts_in q.now.table.now q.now.piece)) }
+        part_conflicts gap (part_in p.now.table.now p.now.piece.now i)
+        (map (map (shifted by.dx by.dy)) (parts_in q.now.table.now q.now.piece.now)) }
 {
     (0..q.piece.count).any(|m| parts_conflict(p, i, q, m, by, gap))
 }
@@ -107,7 +107,7 @@ pub fn pieces_conflict(table: &[i16], p: Piece, q: Piece, dx: i16, dy: i16, gap:
     ensures { result ≡ pieces_conflict gap (parts_in table.now p) (map (map (shifted dx dy)) (parts_in table.now q)) }
 {
     let by = Move { dx, dy };
-    let first = TablePiece { table, piece: p };
-    let second = TablePiece { table, piece: q };
+    let first = TablePiece { table, piece: &p };
+    let second = TablePiece { table, piece: &q };
     (0..p.count).any(|i| part_conflicts(&first, i, &second, by, gap))
 }

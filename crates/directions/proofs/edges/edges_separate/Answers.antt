@@ -18,7 +18,8 @@ use Rattle.model.specs.Lists.{any, largest_z, smallest_z}
 use Rattle.polygons.specs.Flat.{part_of, normal_of}
 use Rattle.polygons.proofs.Flat.{part_length}
 use Rattle.directions.specs.Directions.{Small, separates_moved}
-use Rattle.directions.proofs.EdgeLaws.{no_normal, some-normal, normal_at, all-beyond, one_before, one_within, own_furthest, refuted, confirmed}
+use Rattle.directions.proofs.EdgeLaws.{no_normal, some-normal, normal_at, all-beyond, one_before, one_within}
+use Rattle.directions.proofs.EdgeLaws.{own_furthest, refuted, confirmed}
 use Rattle.directions.proofs.Sizes.{read, said, small_vertex, less_gives}
 use Rattle.directions.proofs.edges.edges_separate.Goals as goal
 

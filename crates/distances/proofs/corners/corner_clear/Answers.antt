@@ -15,7 +15,8 @@ unfolding corner_clear
 returns c =
     let Q : Part = part_of c.args.q.numbers.now in
     let test : ℕ → Bool =
-    λ k. not (near_edge c.args.gap (vertex_at Q k) (vertex_at Q (following Q k)) (vertex c.args.corner.x c.args.corner.y)) in
+    λ k. not (near_edge c.args.gap (vertex_at Q k) (vertex_at Q (following Q k))
+    (vertex c.args.corner.x c.args.corner.y)) in
     all_below test c.count.result _ _ c.all.ensures.ran (YieldsList-from_range 0 _ _ refl (omega arith))
     (λ x b q k. search rules)
     ∙ ap (λ n. all test (below n)) c.count.ensures

@@ -61,7 +61,8 @@ pub overflow_mul-square : goal.overflow_mul-square
 overflow_mul-square c =
     let fa : SFits w16 c.args.line.x = search rules in
     let fb : SFits w16 c.args.line.y = search rules in
-    limit_held c.args.gap (sfits_of c.squared-square.type_inv) c.squared-square.ensures c.ranges.gap fa fb c.way_along-2.ensures
+    limit_held c.args.gap (sfits_of c.squared-square.type_inv) c.squared-square.ensures c.ranges.gap fa fb
+    c.way_along-2.ensures
 
 pub overflow_mul-width : goal.overflow_mul-width
 overflow_mul-width c =
@@ -78,7 +79,8 @@ returns-then-square-way_along c =
     (near c.args.gap (sfits_of c.squared-square.type_inv) c.squared-square.ensures c.way_along.ensures
     ∙ c.if-way_along-square.false)
     (behind c.way_along-width.ensures ∙ c.if-width-le0.false) true
-    (enough c.args.gap (sfits_of c.squared-square.type_inv) c.squared-square.ensures c.ranges.gap fa fb c.way_along-2.ensures
+    (enough c.args.gap (sfits_of c.squared-square.type_inv) c.squared-square.ensures c.ranges.gap fa fb
+    c.way_along-2.ensures
     c.way_along-width.ensures ∙ c.if-square-way_along.true)
 
 pub returns-else-square-way_along : goal.returns-else-square-way_along
@@ -91,5 +93,6 @@ returns-else-square-way_along c =
     (near c.args.gap (sfits_of c.squared-square.type_inv) c.squared-square.ensures c.way_along.ensures
     ∙ c.if-way_along-square.false)
     (behind c.way_along-width.ensures ∙ c.if-width-le0.false) false
-    (enough c.args.gap (sfits_of c.squared-square.type_inv) c.squared-square.ensures c.ranges.gap fa fb c.way_along-2.ensures
+    (enough c.args.gap (sfits_of c.squared-square.type_inv) c.squared-square.ensures c.ranges.gap fa fb
+    c.way_along-2.ensures
     c.way_along-width.ensures ∙ c.if-square-way_along.false)

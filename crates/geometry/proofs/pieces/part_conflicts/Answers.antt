@@ -11,8 +11,8 @@ use Rattle.geometry.proofs.pieces.part_conflicts.Goals as goal
 pub returns : goal.returns
 returns c =
     let e = c.args in
-    let P : Part = part_in e.p.now.table.now e.p.now.piece e.i in
+    let P : Part = part_in e.p.now.table.now e.p.now.piece.now e.i in
     let q = e.q.now in
-    any_below (conflict_at e.gap P q.table.now q.piece e.by.dx e.by.dy) q.piece.count _ _ c.any.ensures.ran
+    any_below (conflict_at e.gap P q.table.now q.piece.now e.by.dx e.by.dy) q.piece.now.count _ _ c.any.ensures.ran
     (YieldsList-from_range 0 _ _ refl (omega arith)) (λ x b f k. search rules)
-    ∙ part-conflicts-below e.gap P q.table.now q.piece e.by.dx e.by.dy
+    ∙ part-conflicts-below e.gap P q.table.now q.piece.now e.by.dx e.by.dy

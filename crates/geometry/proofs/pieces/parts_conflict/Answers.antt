@@ -16,7 +16,7 @@ returns-then-boxes_apart c =
     let q = e.q.now in
     let hx : SFits w16 e.by.dx = search rules in
     let hy : SFits w16 e.by.dy = search rules in
-    boxed-apart e.gap p.table.now q.table.now p.piece q.piece e.i e.m e.by.dx e.by.dy p.standing q.standing
+    boxed-apart e.gap p.table.now q.table.now p.piece.now q.piece.now e.i e.m e.by.dx e.by.dy p.standing q.standing
     c.requires.0 c.requires.1
     ((λ j. boxes_apart e.gap (sym c.part_box.ensures j) (sym c.part_box-2.ensures j) e.by.dx e.by.dy)
     ∙ sym (read₂ w16 e.by.dx e.by.dy hx hy (λ x y. boxes_apart e.gap c.part_box.result c.part_box-2.result x y))

@@ -1,4 +1,5 @@
--- `polygons::extents::join` meets its contract: each side is the smaller or the larger of the two boxes'. Assumes nothing.
+-- `polygons::extents::join` meets its contract: each side is the smaller or the larger of the two boxes'. Assumes
+-- nothing.
 use mathlib.Core.Path.{◌∙◌}
 use borrow.Author.Rules.{sfits_of}
 use mir.Syntax.{w16}
@@ -16,10 +17,14 @@ returns c =
     let f = c.struct_told-2-1.given in
     same-box
     (to_z-of_z w16 _ (sfits_of c.min.type_inv) ∙ c.min.ensures.value
-    ∙ read₂ w16 c.args.e.min_x c.args.f.min_x (sfits_of e.0.1) (sfits_of f.0.1) int_min ∙ min-is c.args.e.min_x c.args.f.min_x)
+    ∙ read₂ w16 c.args.e.min_x c.args.f.min_x (sfits_of e.0.1) (sfits_of f.0.1)
+    int_min ∙ min-is c.args.e.min_x c.args.f.min_x)
     (to_z-of_z w16 _ (sfits_of c.max.type_inv) ∙ c.max.ensures.value
-    ∙ read₂ w16 c.args.e.max_x c.args.f.max_x (sfits_of e.1.0.1) (sfits_of f.1.0.1) int_max ∙ max-is c.args.e.max_x c.args.f.max_x)
+    ∙ read₂ w16 c.args.e.max_x c.args.f.max_x (sfits_of e.1.0.1) (sfits_of f.1.0.1)
+    int_max ∙ max-is c.args.e.max_x c.args.f.max_x)
     (to_z-of_z w16 _ (sfits_of c.min-2.type_inv) ∙ c.min-2.ensures.value
-    ∙ read₂ w16 c.args.e.min_y c.args.f.min_y (sfits_of e.1.1.0.1) (sfits_of f.1.1.0.1) int_min ∙ min-is c.args.e.min_y c.args.f.min_y)
+    ∙ read₂ w16 c.args.e.min_y c.args.f.min_y (sfits_of e.1.1.0.1) (sfits_of f.1.1.0.1)
+    int_min ∙ min-is c.args.e.min_y c.args.f.min_y)
     (to_z-of_z w16 _ (sfits_of c.max-2.type_inv) ∙ c.max-2.ensures.value
-    ∙ read₂ w16 c.args.e.max_y c.args.f.max_y (sfits_of e.1.1.1.0.1) (sfits_of f.1.1.1.0.1) int_max ∙ max-is c.args.e.max_y c.args.f.max_y)
+    ∙ read₂ w16 c.args.e.max_y c.args.f.max_y (sfits_of e.1.1.1.0.1) (sfits_of f.1.1.1.0.1)
+    int_max ∙ max-is c.args.e.max_y c.args.f.max_y)

@@ -9,7 +9,7 @@ use Rattle.geometry.proofs.pieces.TablePiece.part.Goals as goal
 pub invariant_of-result : goal.invariant_of-result
 invariant_of-result c =
     let t = c.args.self.now in
-    let is_part = part-window t.table.now t.piece c.args.i c.part_start-at.result c.part_length.result
+    let is_part = part-window t.table.now t.piece.now c.args.i c.part_start-at.result c.part_length.result
     c.part_start-at.ensures.0 c.part_length.ensures.0 in
     record {
       compact = subst Compact (sym is_part) (t.standing.compact c.args.i c.requires);
@@ -18,5 +18,5 @@ invariant_of-result c =
 
 pub returns : goal.returns
 returns c =
-    part-window c.args.self.now.table.now c.args.self.now.piece c.args.i c.part_start-at.result c.part_length.result
+    part-window c.args.self.now.table.now c.args.self.now.piece.now c.args.i c.part_start-at.result c.part_length.result
     c.part_start-at.ensures.0 c.part_length.ensures.0
