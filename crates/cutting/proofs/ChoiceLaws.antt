@@ -20,7 +20,8 @@ use Rattle.outlines.specs.Outline.{is_zero, holds, first_where}
 use Rattle.outlines.specs.Numbered.{others}
 use Rattle.outlines.proofs.Places.{spared, line_at, ear_at, first-at, first-none}
 use Rattle.simplicity.specs.Corners.{previous_of, before, after}
-use Rattle.simplicity.proofs.CornerLaws.{following-of, previous-of}
+use Rattle.records.proofs.CornerLaws.{following-of}
+use Rattle.simplicity.proofs.CornerLaws.{previous-of}
 use Rattle.cutting.specs.Choice.{is_spared, in_line_at, is_ear_at, found}
 
 -- ---- The first number of which a test holds

@@ -22,7 +22,8 @@ use Rattle.outlines.proofs.Places.{triangle-at}
 use Rattle.writing.specs.Numbers.{with_numbers_at}
 use Rattle.writing.proofs.NumberLaws.{numbers_none, numbers_then, length-vertex}
 use Rattle.simplicity.specs.Corners.{before, after}
-use Rattle.simplicity.proofs.CornerLaws.{following-of, previous-of}
+use Rattle.records.proofs.CornerLaws.{following-of}
+use Rattle.simplicity.proofs.CornerLaws.{previous-of}
 use Rattle.cutting.specs.Choice.{found}
 
 -- ---- The numbers of a triangle

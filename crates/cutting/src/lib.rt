@@ -5,7 +5,7 @@ ghost use Rattle.std.specs.Prelude.{◌≡◌};
 ghost use Rattle.outlines.specs.Service as Service;
 
 use model::Refusal;
-use simplicity::corners::corners_in;
+use records::corners::corners_in;
 
 mod ears;
 mod rest;

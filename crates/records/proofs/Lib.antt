@@ -1,5 +1,4 @@
-pub mod Loops
-pub mod CornerReads
+pub mod CornerLaws
 pub mod ClassLaws
 pub mod RisingLaws
 pub mod KindLaws

@@ -1,15 +1,16 @@
--- Laws of the loops over a part's corners, and that they judge the part that the model reads.
-use mathlib.Core.Bool.{Bool, true, false, not, cond, ◌||◌}
-use mathlib.Core.List.{List}
+-- The tests of a part judge the part that the model reads.
+use mathlib.Core.Bool.{Bool, true, false, not, cond, ◌&&◌, ◌||◌}
+use mathlib.Core.List.{List, [], ◌∷◌}
 use mathlib.Core.Path.{◌≡◌, refl, sym, ap, ◌∙◌}
-use Prim.Native.Nat.{ℕ, ◌+◌, ◌*◌, ◌<◌}
+use Prim.Native.Nat.{ℕ, ◌+◌, ◌*◌, ◌/◌, ◌<◌, ◌≤◌}
 use native.Mathlib.Numerals.{add-one}
 use native.Mathlib.Omega.{arith}
 use borrow.Author.Tests.{eqb-false}
 use lib.Dec.{eqb}
 use lib.IntN.{ℤ, ◌-ℤ◌, ◌*ℤ◌}
-use lib.ListN.{get_or, drop, length-map}
-use lib.Seq.{ext_get_or}
+use lib.ListN.{length, get_or, take, drop, length-map, length-take, length-drop}
+use lib.Seq.{ext_get_or, get_or-take}
+use Rattle.std.specs.List.{list_all}
 use Rattle.model.specs.Content.{Vertex, origin}
 use Rattle.model.specs.Format.{byte_at, vertices, vertex_in_range}
 use Rattle.model.specs.Geometry.{strictly_left, vertex_at, following, edge_sound}
@@ -17,14 +18,23 @@ use Rattle.model.specs.Geometry as Geometry
 use Rattle.model.specs.Lists.{all, below}
 use Rattle.model.proofs.Folds.{get_or-map-at, all_same}
 use Rattle.model.proofs.Lists.{length-below, get_or-below}
-use Rattle.model.proofs.Records.{byte_behind, length-vertices, vertex-at}
-use Rattle.model.proofs.Tests.{all_map}
+use Rattle.model.proofs.Records.{byte_behind, length-vertices, vertices-same, vertex-at}
 use Rattle.records.specs.Parts.{vertex_from, part_from, next_of, corner_sound, edge_sound_from, edge_sound_at, sound_from, in_range_from, unfit_from}
 
--- The corners are in range.
-pub range_all : (s : List ℕ) (n : ℕ) → all (λ k. vertex_in_range (vertex_from s k)) (below n) ≡ in_range_from s n
-unfolding in_range_from
-range_all s n = sym (all_map vertex_in_range (vertex_from s) (below n))
+-- A test of all corners, in the words of the definitions.
+pub list_all-corners : (P : List Vertex) → list_all vertex_in_range P ≡ all vertex_in_range P
+unfolding all
+list_all-corners [] = refl
+list_all-corners (a ∷ P) = ap (λ b. vertex_in_range a && b) (list_all-corners P)
+
+-- The corners behind the part's first byte.
+pub part-in : (s : List ℕ) (n m : ℕ) (cs : List Vertex) → m ≡ n * 2 → n * 2 + 1 ≤ length s
+    → take (length (take m (drop 1 s)) / 2) cs ≡ vertices (length (take m (drop 1 s)) / 2) (take m (drop 1 s)) → take n cs ≡ vertices n (drop 1 s)
+unfolding byte_at
+part-in s n m cs em h e =
+    let l : length (take m (drop 1 s)) / 2 ≡ n = omega (arith, length-take m (drop 1 s), length-drop 1 s) in
+    ap (λ k. take k cs) (sym l) ∙ e ∙ ap (λ k. vertices k (take m (drop 1 s))) l
+    ∙ vertices-same n (take m (drop 1 s)) (drop 1 s) (λ i k. get_or-take m (drop 1 s) i 0 (omega arith))
 
 -- ---- The part that the model reads
 

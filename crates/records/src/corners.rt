@@ -1,8 +1,8 @@
 // A corner of a part or of an outline, and how corners lie to each other.
-ghost use Rattle.std.specs.Prelude.{◌≡◌, ◌+◌, ◌≤◌, ◌<◌, ◌-ℤ◌, length};
+ghost use Rattle.std.specs.Prelude.{◌≡◌, ◌+◌, ◌/◌, ◌≤◌, ◌-ℤ◌, length, take};
 ghost use Rattle.integers.specs.Byte.{signed};
 ghost use Rattle.model.specs.Content.{vertex};
-ghost use Rattle.model.specs.Format.{byte_at, vertex_in_range};
+ghost use Rattle.model.specs.Format.{byte_at, vertices, vertex_in_range};
 ghost use Rattle.model.specs.Geometry.{cross, strictly_left};
 
 use std::marker::Model;
@@ -42,6 +42,18 @@ impl Corner {
     {
         (-127 <= self.x) & (-127 <= self.y)
     }
+}
+
+// The corners in these bytes, x and y of each, in front; there is room for eight.
+pub fn corners_in(bytes: &[u8]) -> [Corner; 8]
+    requires { length bytes.now ≤ 17 }
+    ensures { take (length bytes.now / 2) result ≡ vertices (length bytes.now / 2) bytes.now }
+{
+    let mut corners = [Corner { x: 0, y: 0 }; 8];
+    for k in 0..bytes.len() / 2 {
+        corners[k] = Corner::read(bytes, k * 2);
+    }
+    corners
 }
 
 // What a coordinate is more than another.

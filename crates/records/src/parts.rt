@@ -1,17 +1,11 @@
-// Soundness of a part: cause 7 of refusal. Each function receives a piece of the job that begins at the part's first byte: the number
-// of corners, then x and y of each.
+// Soundness of a part: cause 7 of refusal.
 ghost use Rattle.std.specs.Prelude.{◌||◌, ◌≡◌, ◌+◌, ◌*◌, ◌≤◌, ◌<◌, eqb, length};
-ghost use Rattle.records.specs.Parts.{vertex_from, next_of, edge_sound_from, sound_from, in_range_from, unfit_from};
+ghost use Rattle.model.specs.Format.{vertex_in_range};
+ghost use Rattle.model.specs.Geometry.{edge_sound, sound, strictly_left, vertex_at};
+ghost use Rattle.model.specs.Lists.{all};
+ghost use Rattle.records.specs.Parts.{next_of, unfit_from};
 
-use crate::corners::{Corner, strictly_left};
-
-// Corner k.
-pub fn corner(part: &[u8], k: usize) -> Corner
-    requires { (k < 8) × (k * 2 + 3 ≤ length part.now) }
-    ensures { result ≡ vertex_from part.now k }
-{
-    Corner::read(part, k * 2 + 1)
-}
+use crate::corners::{Corner, corners_in, strictly_left};
 
 // The corner after corner i of n: the first one after the last.
 pub fn next(i: usize, n: usize) -> usize
@@ -29,36 +23,45 @@ fn spared(n: usize, p: usize, q: usize, k: usize) -> bool
     (k == p) | (k == q)
 }
 
-// Every corner but p and q lies strictly left of the edge from p to q, also those that are no neighbours of the edge.
-fn edge_sound(part: &[u8], n: usize, p: usize, q: usize) -> bool
-    requires { ((n ≤ 8) × (n * 2 + 1 ≤ length part.now)) × ((p < n) × (q < n)) }
-    ensures { result ≡ edge_sound_from part.now n p q }
+// Corner k is p or q, or lies strictly left of the edge from p to q.
+fn corner_sound(corners: &[Corner], p: usize, q: usize, k: usize) -> bool
+    requires { ((length corners.now ≤ 8) × (k < length corners.now)) × ((p < length corners.now) × (q < length corners.now)) }
+    ensures { result ≡ (eqb k p || eqb k q || strictly_left (vertex_at corners.now p) (vertex_at corners.now q) (vertex_at corners.now k)) }
 {
-    let from = corner(part, p);
-    let to = corner(part, q);
-    (0..n).all(|k| spared(n, p, q, k) | strictly_left(from, to, corner(part, k)))
+    spared(corners.len(), p, q, k) | strictly_left(corners[p], corners[q], corners[k])
+}
+
+// Every corner but its ends lies strictly left of the edge from corner i to the one after it, also those that are no neighbours of the edge.
+fn edge_sound(corners: &[Corner], i: usize) -> bool
+    requires { (length corners.now ≤ 8) × (i < length corners.now) }
+    ensures { result ≡ edge_sound corners.now i }
+{
+    let n = corners.len();
+    let q = next(i, n);
+    (0..n).all(|k| corner_sound(corners, i, q, k))
 }
 
 // Every edge is sound.
-fn sound(part: &[u8], n: usize) -> bool
-    requires { (n ≤ 8) × (n * 2 + 1 ≤ length part.now) }
-    ensures { result ≡ sound_from part.now n }
+fn sound(corners: &[Corner]) -> bool
+    requires { length corners.now ≤ 8 }
+    ensures { result ≡ sound corners.now }
 {
-    (0..n).all(|i| edge_sound(part, n, i, next(i, n)))
+    (0..corners.len()).all(|i| edge_sound(corners, i))
 }
 
 // No corner has a coordinate of -128.
-pub fn in_range(part: &[u8], n: usize) -> bool
-    requires { (n ≤ 8) × (n * 2 + 1 ≤ length part.now) }
-    ensures { result ≡ in_range_from part.now n }
+pub fn in_range(corners: &[Corner]) -> bool
+    ensures { result ≡ all vertex_in_range corners.now }
 {
-    (0..n).all(|k| corner(part, k).in_range())
+    corners.iter().all(|corner| corner.in_range())
 }
 
-// Cause 7 for one part.
+// Cause 7 for one part of n corners, in a piece of the job that begins at the part's first byte: the number of corners, then x and y of each.
 pub fn unfit(part: &[u8], n: usize) -> bool
     requires { (n ≤ 8) × (n * 2 + 1 ≤ length part.now) }
     ensures { result ≡ unfit_from part.now n }
 {
-    !sound(part, n) | !in_range(part, n)
+    let all = corners_in(&part[1..n * 2 + 1]);
+    let corners = &all[..n];
+    !sound(corners) | !in_range(corners)
 }

@@ -18,7 +18,7 @@ use Rattle.model.specs.Geometry.{vertex_at, following}
 use Rattle.outlines.specs.Outline.{last_of, path_sum, edge_sum, det, doubled_area}
 use Rattle.outlines.proofs.Places.{last_get_or, following-is}
 use Rattle.simplicity.specs.Corners.{sum_below, edge_area}
-use Rattle.simplicity.proofs.CornerLaws.{following-of}
+use Rattle.records.proofs.CornerLaws.{following-of}
 
 -- ---- Sums over the numbers below k
 

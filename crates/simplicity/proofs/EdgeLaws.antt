@@ -23,7 +23,8 @@ use Rattle.outlines.proofs.Rule.{zero_is, is_zero_lem}
 use Rattle.outlines.proofs.Places.{same_bool}
 use Rattle.outlines.proofs.EdgePlaces.{strikes, edge_at, edges_at}
 use Rattle.simplicity.specs.Corners.{neighbours, strikes_in, edge_meets_in}
-use Rattle.simplicity.proofs.CornerLaws.{following-of, previous-of}
+use Rattle.records.proofs.CornerLaws.{following-of}
+use Rattle.simplicity.proofs.CornerLaws.{previous-of}
 
 -- ---- Two edges
 

@@ -1,7 +1,7 @@
 -- Cause 14 from the tests that are made one after the other.
-use mathlib.Core.Bool.{Bool, true, false, not, ◌&&◌, ◌||◌}
-use mathlib.Core.List.{List, [], ◌∷◌}
-use mathlib.Core.Path.{◌≡◌, refl, sym, ap, ◌∙◌}
+use mathlib.Core.Bool.{Bool, true, false, not, ◌||◌}
+use mathlib.Core.List.{List}
+use mathlib.Core.Path.{◌≡◌, sym, ap, ◌∙◌}
 use Prim.Native.Nat.{ℕ, ◌/◌, ◌%◌, ◌≤◌}
 use native.Mathlib.Omega.{arith}
 use borrow.Author.Tests.{leb-true, eqb-true, not-false}
@@ -9,19 +9,11 @@ use lib.Dec.{leb}
 use lib.IntN.{ℤ, pos}
 use lib.ListN.{length}
 use lib.Signed.{le_z}
-use Rattle.std.specs.List.{list_all}
 use Rattle.model.specs.Content.{Vertex}
 use Rattle.model.specs.Format.{vertex_in_range}
-use Rattle.model.proofs.Records.{length-vertices}
 use Rattle.model.specs.Lists.{all, between}
 use Rattle.model.proofs.Lists.{and_left, and_right, or_left, or_right}
 use Rattle.outlines.specs.Outline.{doubled_area, edges_meet, outline_in, count_unfit, odd_byte, out_of_range, area_unfit, cause14}
-
--- A test of all corners, in the words of the definitions.
-pub list_all-corners : (P : List Vertex) → list_all vertex_in_range P ≡ all vertex_in_range P
-unfolding all
-list_all-corners [] = refl
-list_all-corners (a ∷ P) = ap (λ b. vertex_in_range a && b) (list_all-corners P)
 
 module _ (s : List ℕ) where
   -- The count is refused.
@@ -67,7 +59,3 @@ module _ (s : List ℕ) where
         (λ i. not (ei i) || le_z (ea i) (pos 0) || em i)
         ∙ ap (λ P. not (all vertex_in_range P) || le_z (doubled_area P) (pos 0) || edges_meet P) same
         ∙ sym (ap (λ b. b || out_of_range (outline_in s) || area_unfit (outline_in s) || edges_meet (outline_in s)) e)
-
-pub outline_length : (s : List ℕ) → length (outline_in s) ≡ length s / 2
-unfolding outline_in
-outline_length s = length-vertices (length s / 2) s

@@ -8,6 +8,9 @@ pub mod edges;
 ghost use Rattle.std.specs.Prelude.{◌||◌, ◌≡◌};
 ghost use Rattle.outlines.specs.Outline.{count_unfit, odd_byte, cause14};
 
+use records::corners::corners_in;
+use records::parts;
+
 // The number of corners is out of range, or an odd byte is left over.
 fn miscounted(outline: &[u8]) -> bool
     ensures { result ≡ (count_unfit outline.now || odd_byte outline.now) }
@@ -23,9 +26,7 @@ pub fn unfit(outline: &[u8]) -> bool
     if miscounted(outline) {
         return true;
     }
-    let all = corners::corners_in(outline);
+    let all = corners_in(outline);
     let corners = &all[..outline.len() / 2];
-    !corners.iter().all(|corner| corner.in_range())
-        | (area::doubled_area(corners) <= 0)
-        | edges::edges_meet(corners)
+    !parts::in_range(corners) | (area::doubled_area(corners) <= 0) | edges::edges_meet(corners)
 }

@@ -1,11 +1,11 @@
 use mathlib.Core.Bool.{Bool, false}
 use mathlib.Core.List.{List}
 use mathlib.Core.Path.{◌≡◌, ◌∙◌, sym, ap}
-use Rattle.simplicity.proofs.RefusalLaws.{outline_length}
 use Prim.Native.Nat.{ℕ, ◌/◌, ◌≤◌}
 use native.Mathlib.Omega.{arith}
 use lib.ListN.{length}
 use Rattle.outlines.specs.Outline.{cause14}
+use Rattle.simplicity.proofs.CornerLaws.{outline-is, outline_length}
 use Rattle.cutting.proofs.ServiceLaws.{unfit_told, short-told, few_bytes, few-corners, is_cut, cut-told}
 use Rattle.cutting.proofs.cut.Goals as goal
 
@@ -39,7 +39,7 @@ cut_off-count-requires c =
     let size = ap length c.corners_in-corners.ensures ∙ outline_length c.args.outline.now in
     record {
       in_bounds = (omega (arith, f.1), omega (arith, f.1, c.if-answer-lt36.false));
-      cut_to_the_end = is_cut c.args.outline.now c.args.answer.now f.0 _ c.corners_in-corners.ensures;
+      cut_to_the_end = is_cut c.args.outline.now c.args.answer.now f.0 _ (c.corners_in-corners.ensures ∙ outline-is c.args.outline.now);
     }
 
 pub returns : goal.returns
@@ -47,7 +47,7 @@ returns c =
     let size = ap length c.corners_in-corners.ensures ∙ outline_length c.args.outline.now in
     let f = fit_corners c.args.outline.now _ c.unfit.ensures c.if-unfit.false in
     let r =
-    cut-told c.args.outline.now c.args.answer.now f.0 _ c.corners_in-corners.ensures
+    cut-told c.args.outline.now c.args.answer.now f.0 _ (c.corners_in-corners.ensures ∙ outline-is c.args.outline.now)
     (omega (arith, c.if-answer-lt36.false)) _ _ c.cut_off-count.ensures.value.0
     (omega (arith, c.cut_off-count.ensures.value.1, f.1)) c.cut_off-count.ensures.answer_after in
     record { value = r.0; answer_after = r.1 }

@@ -1,14 +1,11 @@
 use mathlib.Core.Path.{sym, ap, ◌∙◌}
 use native.Mathlib.Omega.{arith}
-use Prim.Native.Nat.{◌/◌}
-use lib.ListN.{length, take}
+use lib.ListN.{length}
 use mir.Syntax.{w64}
 use mir.ValLaws.{to_z-of_z}
-use borrow.Author.Rules.{rules, sfits_of}
-use Rattle.std.proofs.lemmas.Iterator.{YieldsList-from_slice}
-use Rattle.std.proofs.lemmas.Iterator.Search.{all_from_yields_List}
-use Rattle.model.specs.Format.{vertex_in_range}
-use Rattle.simplicity.proofs.RefusalLaws.{list_all-corners, refused, at_least, at_most, room, judged, outline_length}
+use borrow.Author.Rules.{sfits_of}
+use Rattle.simplicity.proofs.CornerLaws.{outline-is, outline_length}
+use Rattle.simplicity.proofs.RefusalLaws.{refused, at_least, at_most, room, judged}
 use Rattle.simplicity.proofs.unfit.Goals as goal
 
 pub returns-then-miscounted : goal.returns-then-miscounted
@@ -31,6 +28,5 @@ edges_meet-requires c =
 
 pub returns : goal.returns
 returns c =
-    judged c.args.outline.now (sym c.miscounted.ensures ∙ c.if-miscounted.false) _ c.corners_in-all.ensures _ _ _
-    (all_from_yields_List vertex_in_range _ _ _ c.all.ensures.ran (YieldsList-from_slice (take (length c.args.outline.now / 2) c.corners_in-all.result) c.iter.ensures.rest) (λ x b q k. search rules) ∙ list_all-corners _)
-    (to_z-of_z w64 _ (sfits_of c.doubled_area.type_inv) ∙ c.doubled_area.ensures) c.edges_meet.ensures
+    judged c.args.outline.now (sym c.miscounted.ensures ∙ c.if-miscounted.false) _ (c.corners_in-all.ensures ∙ outline-is c.args.outline.now) _ _ _
+    c.in_range.ensures (to_z-of_z w64 _ (sfits_of c.doubled_area.type_inv) ∙ c.doubled_area.ensures) c.edges_meet.ensures

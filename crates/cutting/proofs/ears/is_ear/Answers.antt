@@ -7,7 +7,7 @@ use Rattle.std.proofs.lemmas.Iterator.{YieldsList-from_range}
 use Rattle.model.proofs.Ranges.{all_below}
 use Rattle.model.specs.Geometry.{strictly_left, vertex_at}
 use Rattle.model.specs.Lists.{all, below}
-use Rattle.simplicity.proofs.CornerLaws.{corner-is}
+use Rattle.records.proofs.CornerLaws.{corner-is}
 use Rattle.cutting.specs.Choice.{is_spared}
 use Rattle.cutting.proofs.ChoiceLaws.{ear_is}
 use Rattle.cutting.proofs.ears.is_ear.Goals as goal

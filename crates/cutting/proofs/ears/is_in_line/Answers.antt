@@ -1,7 +1,7 @@
 use mathlib.Core.Path.{◌∙◌, ap}
 use Rattle.model.specs.Geometry.{cross, vertex_at}
 use Rattle.outlines.specs.Outline.{is_zero}
-use Rattle.simplicity.proofs.CornerLaws.{corner-is}
+use Rattle.records.proofs.CornerLaws.{corner-is}
 use Rattle.cutting.proofs.ChoiceLaws.{line-is}
 use Rattle.cutting.proofs.ears.is_in_line.Goals as goal
 

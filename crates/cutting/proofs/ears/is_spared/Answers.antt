@@ -2,7 +2,7 @@ use mathlib.Core.Bool.{not, ◌||◌}
 use mathlib.Core.Path.{ap, ◌∙◌}
 use lib.Dec.{eqb}
 use Rattle.outlines.specs.Outline.{holds}
-use Rattle.simplicity.proofs.CornerLaws.{corner-is}
+use Rattle.records.proofs.CornerLaws.{corner-is}
 use Rattle.cutting.specs.Choice.{is_spared}
 use Rattle.cutting.proofs.ears.is_spared.Goals as goal
 

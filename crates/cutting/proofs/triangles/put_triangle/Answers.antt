@@ -1,6 +1,6 @@
 use mathlib.Core.Path.{◌∙◌, ap}
 use Rattle.model.specs.Geometry.{vertex_at}
-use Rattle.simplicity.proofs.CornerLaws.{corner-is}
+use Rattle.records.proofs.CornerLaws.{corner-is}
 use Rattle.cutting.proofs.TriangleLaws.{triangle-written}
 use Rattle.cutting.proofs.triangles.put_triangle.Goals as goal
 

@@ -3,7 +3,7 @@ use mir.Syntax.{w64}
 use mir.ValLaws.{to_z-of_z}
 use borrow.Author.Rules.{rules, sfits_of}
 use Rattle.model.specs.Content.{Vertex}
-use Rattle.records.proofs.CornerReads.{differs}
+use Rattle.records.proofs.CornerLaws.{differs}
 use Rattle.records.proofs.PartLaws.{turn_is}
 use Rattle.records.proofs.corners.turn.Goals as goal
 

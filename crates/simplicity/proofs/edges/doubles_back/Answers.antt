@@ -3,7 +3,7 @@ use mir.Syntax.{w32, w64}
 use mir.ValLaws.{to_z-of_z}
 use borrow.Author.Rules.{rules, sfits_of}
 use Rattle.model.specs.Content.{Vertex}
-use Rattle.records.proofs.CornerReads.{differs}
+use Rattle.records.proofs.CornerLaws.{differs}
 use Rattle.simplicity.proofs.EdgeLaws.{doubles_is}
 use Rattle.simplicity.proofs.edges.doubles_back.Goals as goal
 

@@ -8,7 +8,7 @@ use Rattle.model.proofs.Ranges.{any_below}
 use Rattle.model.specs.Geometry.{vertex_at}
 use Rattle.outlines.specs.Outline.{doubles_back}
 use Rattle.simplicity.specs.Corners.{strikes_in, edge_meets_in}
-use Rattle.simplicity.proofs.CornerLaws.{corner-is}
+use Rattle.records.proofs.CornerLaws.{corner-is}
 use Rattle.simplicity.proofs.edges.edge_meets.Goals as goal
 
 pub returns : goal.returns

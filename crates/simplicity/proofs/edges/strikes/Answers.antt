@@ -3,7 +3,7 @@ use mathlib.Core.Path.{ap, ap₂, ◌∙◌}
 use Rattle.model.specs.Geometry.{vertex_at}
 use Rattle.outlines.specs.Outline.{meet}
 use Rattle.simplicity.specs.Corners.{strikes_in}
-use Rattle.simplicity.proofs.CornerLaws.{corner-is}
+use Rattle.records.proofs.CornerLaws.{corner-is}
 use Rattle.simplicity.proofs.edges.strikes.Goals as goal
 
 pub returns : goal.returns

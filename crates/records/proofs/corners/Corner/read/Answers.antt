@@ -3,7 +3,7 @@ use borrow.Author.Rules.{sfits_of}
 use mir.Syntax.{w8}
 use mir.ValLaws.{to_z-of_z}
 use Rattle.model.specs.Content.{vertex}
-use Rattle.records.proofs.CornerReads.{byte-read}
+use Rattle.records.proofs.CornerLaws.{byte-read}
 use Rattle.records.proofs.corners.Corner.read.Goals as goal
 
 pub returns : goal.returns
