@@ -36,8 +36,10 @@ module _ (p : ℕ → Bool) where
   lowest i zero = λ j l m. absurd (omega arith)
   lowest i (suc k) = go (p i) refl (find p (range_with_len (i + 1) k)) (lowest (i + 1) k)
     where
-      later : p i ≡ false → (n : ℕ) → ((j : ℕ) → i + 1 ≤ j → j < n → p j ≡ false) → (j : ℕ) → i ≤ j → j < n → p j ≡ false
-      later e n h j l m = ⊎_elim (λ q. let x : j ≡ i = omega arith in ap p x ∙ e) (λ q. h j (omega arith) m) (le_or_lt j i)
+      later : p i ≡ false → (n : ℕ) → ((j : ℕ) → i + 1 ≤ j → j < n → p j ≡ false) → (j : ℕ) → i ≤ j → j < n → p j ≡
+          false
+      later e n h j l m = ⊎_elim (λ q. let x : j ≡ i = omega arith in ap p x ∙ e) (λ q. h j (omega arith) m)
+          (le_or_lt j i)
 
       go : (b : Bool) → p i ≡ b → (r : Option ℕ) → Lowest (i + 1) k r → Lowest i (suc k) (cond b (Some i) r)
       go true e r h = ((omega arith, omega arith), (e, λ j l m. absurd (omega arith)))
@@ -52,12 +54,14 @@ mapped-same (Some m) = refl
 pub found-first : (test : Vertex → List Vertex → Bool) (P : List Vertex) (r : Option ℕ)
     → r ≡ find (λ i. test (vertex_at P i) (others P i)) (range_with_len 0 (length P))
     → (first_where test [] P ≡ found P r) × IfSome r (λ i. i < length P)
-found-first test P r e = go r (subst (Lowest (λ i. test (vertex_at P i) (others P i)) 0 (length P)) (sym e) (lowest (λ i. test (vertex_at P i) (others P i)) 0 (length P)))
+found-first test P r e = go r (subst (Lowest (λ i. test (vertex_at P i) (others P i)) 0 (length P)) (sym e)
+    (lowest (λ i. test (vertex_at P i) (others P i)) 0 (length P)))
   where
     go : (r : Option ℕ) → Lowest (λ i. test (vertex_at P i) (others P i)) 0 (length P) r
         → (first_where test [] P ≡ found P r) × IfSome r (λ i. i < length P)
     go None h = (first-none test P (λ j l. h j zero-le (omega arith)), tt)
-    go (Some m) h = let l : m < length P = omega (arith, h.0) in (first-at test P m l (λ j k. h.1.1 j zero-le k) h.1.0, l)
+    go (Some m) h = let l : m < length P = omega (arith, h.0) in (first-at test P m l (λ j k. h.1.1 j zero-le k) h.1.0,
+        l)
 
 -- ---- The two tests
 
@@ -72,7 +76,8 @@ module _ (P : List Vertex) (i : ℕ) (h : i < length P) where
   unfolding is_spared
   spared_is j =
       λ k. eqb j i || eqb j (previous-of P i k) || eqb j (following-of P i k)
-      || not (holds (vertex_at P (previous-of P i k)) (vertex_at P i) (vertex_at P (following-of P i k)) (vertex_at P j))
+      || not (holds (vertex_at P (previous-of P i k)) (vertex_at P i) (vertex_at P (following-of P i k))
+          (vertex_at P j))
 
   -- Corner i is an ear.
   pub ear_is : 3 ≤ length P
@@ -82,4 +87,5 @@ module _ (P : List Vertex) (i : ℕ) (h : i < length P) where
   ear_is three =
       sym (ear_at P i h three
       ∙ (λ k. strictly_left (vertex_at P (previous-of P i k)) (vertex_at P i) (vertex_at P (following-of P i k))
-      && all_same (spared P i) (is_spared P (previous_of (length P) i) i (next_of (length P) i)) (length P) (λ j l. spared_is j) k))
+      && all_same (spared P i) (is_spared P (previous_of (length P) i) i (next_of (length P) i)) (length P)
+          (λ j l. spared_is j) k))

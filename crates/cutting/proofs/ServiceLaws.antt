@@ -46,12 +46,15 @@ module _ (s out : List ℕ) where
 
     -- "Every outline without cause for 14 is cut", in whatever form its corners are handed on.
     pub is_cut : (P : List Vertex) → P ≡ outline_in s → triangles P ≡ some (triangles_of P)
-    is_cut P q = let c = Theorems.cut s e in let t : triangles P ≡ some c.0 = ap triangles q ∙ c.1 in t ∙ ap some (sym (ap listed t ∙ listed-some c.0))
+    is_cut P q = let c = Theorems.cut s e in let t : triangles P ≡ some c.0 = ap triangles q ∙ c.1 in t ∙ ap some
+        (sym (ap listed t ∙ listed-some c.0))
 
-    pub cut-told : (P : List Vertex) → P ≡ outline_in s → 36 ≤ length out / 2 → (r : ℕ) (u : List ℕ) → r ≡ length (triangles_of P) → r ≤ 6
+    pub cut-told : (P : List Vertex) → P ≡ outline_in s → 36 ≤ length out / 2 → (r : ℕ) (u : List ℕ) → r ≡ length
+        (triangles_of P) → r ≤ 6
         → u ≡ with_numbers_at 0 (triangles_numbers (triangles_of P)) out → Answered s out (Ok r) u
     unfolding numbers_in count with_numbers
-    cut-told P q l r u er lr eu = (ap (λ k. Ok k) a ∙ t.0, b ∙ numbers_all (triangles_numbers ts) out (omega (arith, six_each ts, a)) ∙ t.1)
+    cut-told P q l r u er lr eu = (ap (λ k. Ok k) a ∙ t.0, b ∙ numbers_all (triangles_numbers ts) out
+        (omega (arith, six_each ts, a)) ∙ t.1)
       where
         ts : List Triangle
         ts = triangles_of (outline_in s)

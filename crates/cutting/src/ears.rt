@@ -1,5 +1,6 @@
-// Which corner goes next: document 02, "A corner in line with its neighbours is dropped first, the lowest numbered if several. Otherwise the
-// lowest-numbered left turn is cut off whose triangle, border included, holds no other remaining corner." The corners are those that remain.
+// Which corner goes next: document 02, "A corner in line with its neighbours is dropped first, the lowest numbered if
+// several. Otherwise the lowest-numbered left turn is cut off whose triangle, border included, holds no other remaining
+// corner." The corners are those that remain.
 ghost use Rattle.std.specs.Prelude.{[], IfSome, ◌≡◌, ◌≤◌, ◌<◌, length};
 ghost use Rattle.outlines.specs.Outline.{holds, in_line, is_ear, first_where};
 ghost use Rattle.cutting.specs.Choice.{is_spared, in_line_at, is_ear_at, found};
@@ -25,7 +26,8 @@ fn holds(p: Corner, c: Corner, s: Corner, v: Corner) -> bool
     (0 <= turn(p, c, v)) & (0 <= turn(c, s, v)) & (0 <= turn(s, p, v))
 }
 
-// Corner k does not stand in the way of cutting off the triangle of corners p, c and s: it is one of them, or lies outside.
+// Corner k does not stand in the way of cutting off the triangle of corners p, c and s: it is one of them, or lies
+// outside.
 fn is_spared(corners: &[Corner], p: usize, c: usize, s: usize, k: usize) -> bool
     requires { ((p < length corners.now) × (c < length corners.now)) × ((s < length corners.now) × (k < length corners.now)) }
     ensures { result ≡ is_spared corners.now p c s k }

@@ -11,8 +11,8 @@ mod ears;
 mod rest;
 mod triangles;
 
-// The cut service. An unfit outline is refused before the answer is looked at, and the answer has room for six triangles however few there are. A
-// refusal changes no byte of it.
+// The cut service. An unfit outline is refused before the answer is looked at, and the answer has room for six
+// triangles however few there are. A refusal changes no byte of it.
 pub fn cut(outline: &[u8], answer: &mut [u8]) -> Result<u16, Refusal>
     ensures value { result ≡ (Service.cut outline.now answer.old).answer }
     ensures answer_after { answer.new ≡ (Service.cut outline.now answer.old).buffer }

@@ -29,7 +29,8 @@ fn put_corner(corner: Corner, answer: &mut [u8], at: usize)
     writing::put(answer, at + 1, coordinate_number(corner.y));
 }
 
-// The triangle of corner i, "starting at the corner cut off and going on to its successor"; "third corner is the predecessor of the one cut off".
+// The triangle of corner i, "starting at the corner cut off and going on to its successor"; "third corner is the
+// predecessor of the one cut off".
 fn put_triangle(corners: &[Corner], i: usize, answer: &mut [u8], at: usize)
     requires { ((2 ≤ length corners.now) × (i < length corners.now)) × ((at + 6) * 2 ≤ length answer.old) }
     ensures { answer.new ≡ with_numbers_at at (triangle_numbers (triangle_at (place_at corners.now i))) answer.old }
@@ -40,8 +41,8 @@ fn put_triangle(corners: &[Corner], i: usize, answer: &mut [u8], at: usize)
     put_corner(corners[previous(i, n)], answer, at + 4);
 }
 
-// Cuts the corners that remain and tells how many triangles there were: one corner goes, and "the rest, which has one corner fewer, is cut
-// likewise until two corners remain".
+// Cuts the corners that remain and tells how many triangles there were: one corner goes, and "the rest, which has one
+// corner fewer, is cut likewise until two corners remain".
 pub fn cut_off(corners: &[Corner], answer: &mut [u8], at: usize) -> usize
     requires in_bounds { ((2 ≤ length corners.now) × (length corners.now ≤ 8)) × ((at + (length corners.now - 2) * 6) * 2 ≤ length answer.old) }
     requires cut_to_the_end { triangles corners.now ≡ some (triangles_of corners.now) }

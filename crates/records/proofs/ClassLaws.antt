@@ -41,16 +41,19 @@ later-one true same rest firsts i a m h e = ap (λ x. x && rest) (ne_eqb i a (λ
 later-one false same rest firsts i a m h e = ap (λ x. eqb m a && x) e ∙ swapped (eqb m a) (not same) firsts
 
 module _ (s : List ℕ) (o : ℕ) where
-  -- Of the numbers from a on, behind i: each is the first of its value from i on exactly if none has that of i, and each is it behind i.
+  -- Of the numbers from a on, behind i: each is the first of its value from i on exactly if none has that of i, and
+  -- each is it behind i.
   later : (f : ℕ → ℕ) (i a k : ℕ) → i < a
       → all (λ j. eqb (cond (has_id s o (entry_at s o j) i) i (f j)) j) (rising a k)
       ≡ (not (any (eqb (entry_at s o i)) (map (entry_at s o) (rising a k))) && all (λ j. eqb (f j) j) (rising a k))
   unfolding all any rising has_id
   later f i a zero h = refl
-  later f i a (suc k) h = later-one (eqb (entry_at s o i) (entry_at s o a)) _ _ _ i a (f a) h (later f i (suc a) k (omega arith))
+  later f i a (suc k) h = later-one (eqb (entry_at s o i) (entry_at s o a)) _ _ _ i a (f a) h (later f i (suc a) k
+      (omega arith))
 
   -- No entry occurs twice exactly if each is the first of its value.
-  distinct_from : (i k : ℕ) → distinct (map (entry_at s o) (rising i k)) ≡ all (λ j. eqb (first_from (has_id s o (entry_at s o j)) i k) j) (rising i k)
+  distinct_from : (i k : ℕ) → distinct (map (entry_at s o) (rising i k)) ≡ all
+      (λ j. eqb (first_from (has_id s o (entry_at s o j)) i k) j) (rising i k)
   unfolding distinct all rising first_from has_id
   distinct_from i zero = refl
   distinct_from i (suc k) =
@@ -58,7 +61,8 @@ module _ (s : List ℕ) (o : ℕ) where
       let rest = all (λ j. eqb (cond (has_id s o (entry_at s o j) i) i (f j)) j) (rising (suc i) k) in
       ap (λ d. not (any (eqb (entry_at s o i)) (map (entry_at s o) (rising (suc i) k))) && d) (distinct_from (suc i) k)
       ∙ sym (later f i (suc i) k (omega arith))
-      ∙ sym (ap (λ b. eqb (cond b i (f i)) i && rest) (eq-eqb (entry_at s o i) (entry_at s o i) refl) ∙ ap (λ b. b && rest) (eq-eqb i i refl))
+      ∙ sym (ap (λ b. eqb (cond b i (f i)) i && rest) (eq-eqb (entry_at s o i) (entry_at s o i) refl) ∙ ap
+          (λ b. b && rest) (eq-eqb i i refl))
 
   -- Entry j of n is the first of its value.
   abbrev pub is_first : ℕ → ℕ → Bool
@@ -83,7 +87,8 @@ module _ (s : List ℕ) (o : ℕ) where
 
 pub risen_more : (cs : List SpacingClass) (i : ℕ) → risen_below (i + 1) cs ≡ risen_below i cs ++ classes_of_id i cs
 risen_more cs i =
-    ap concat (map-below-more (λ i. classes_of_id i cs) i) ∙ concat-more (map (λ i. classes_of_id i cs) (below i)) (classes_of_id i cs)
+    ap concat (map-below-more (λ i. classes_of_id i cs) i) ∙ concat-more (map (λ i. classes_of_id i cs) (below i))
+        (classes_of_id i cs)
 
 -- ---- The first of an id
 
@@ -130,37 +135,44 @@ none-found i n r e f = go (ltb i n) refl (sym e ∙ f)
 -- ---- The class of an id, where no id occurs twice
 
 module _ (s : List ℕ) (o i : ℕ) where
-  any-id : (xs : List ℕ) → any (λ c. eqb c.id i) (map (λ m. class_from s (o + m * 3)) xs) ≡ any (eqb i) (map (entry_at s o) xs)
+  any-id : (xs : List ℕ) → any (λ c. eqb c.id i) (map (λ m. class_from s (o + m * 3)) xs) ≡ any (eqb i)
+      (map (entry_at s o) xs)
   unfolding any
   any-id [] = refl
   any-id (x ∷ xs) = ap₂ (λ a b. a || b) (eqb_comm (entry_at s o x) i) (any-id xs)
 
   found_from : (j k : ℕ) → distinct (map (entry_at s o) (rising j k)) ≡ true
       → keep (λ c. eqb c.id i) (map (λ m. class_from s (o + m * 3)) (rising j k))
-      ≡ cond (ltb (first_from (has_id s o i) j k) (j + k)) (class_from s (o + first_from (has_id s o i) j k * 3) ∷ []) []
+      ≡ cond (ltb (first_from (has_id s o i) j k) (j + k)) (class_from s (o + first_from (has_id s o i) j k * 3) ∷ [])
+          []
   unfolding keep distinct rising first_from has_id
   found_from j zero d = rw (le-ltb j (j + 0) (omega arith))
   found_from j (suc k) d =
-      go (found_from (suc j) k (and_right (not (any (eqb (entry_at s o j)) (map (entry_at s o) (rising (suc j) k)))) _ d))
+      go (found_from (suc j) k (and_right (not (any (eqb (entry_at s o j)) (map (entry_at s o) (rising (suc j) k)))) _
+          d))
       (not-true _ (and_left _ _ d)) (eqb (entry_at s o j) i) refl
     where
       go : keep (λ c. eqb c.id i) (map (λ m. class_from s (o + m * 3)) (rising (suc j) k))
-          ≡ cond (ltb (first_from (has_id s o i) (suc j) k) (suc j + k)) (class_from s (o + first_from (has_id s o i) (suc j) k * 3) ∷ []) []
+          ≡ cond (ltb (first_from (has_id s o i) (suc j) k) (suc j + k)) (class_from s (o + first_from (has_id s o i)
+              (suc j) k * 3) ∷ []) []
           → any (eqb (entry_at s o j)) (map (entry_at s o) (rising (suc j) k)) ≡ false
           → (b : Bool) → eqb (entry_at s o j) i ≡ b
-          → cond b (class_from s (o + j * 3) ∷ keep (λ c. eqb c.id i) (map (λ m. class_from s (o + m * 3)) (rising (suc j) k)))
+          → cond b (class_from s (o + j * 3) ∷ keep (λ c. eqb c.id i) (map (λ m. class_from s (o + m * 3))
+              (rising (suc j) k)))
           (keep (λ c. eqb c.id i) (map (λ m. class_from s (o + m * 3)) (rising (suc j) k)))
           ≡ cond (ltb (cond b j (first_from (has_id s o i) (suc j) k)) (j + suc k))
           (class_from s (o + cond b j (first_from (has_id s o i) (suc j) k) * 3) ∷ [])
           []
       go ih l true e =
-          let q : any (eqb i) (map (entry_at s o) (rising (suc j) k)) ≡ false = rw (eqb-true (entry_at s o j) i e) at l in
+          let q : any (eqb i) (map (entry_at s o) (rising (suc j) k)) ≡ false = rw (eqb-true (entry_at s o j) i e) at l
+              in
           let z : keep (λ c. eqb c.id i) (map (λ m. class_from s (o + m * 3)) (rising (suc j) k)) ≡ [] =
           keep-none (λ c. eqb c.id i) _ (any-id (rising (suc j) k) ∙ q) in
           rw (z, lt-ltb j (j + suc k) (omega arith))
       go ih l false e =
           let q : suc j + k ≡ j + suc k = omega arith in
-          ih ∙ ap (λ m. cond (ltb (first_from (has_id s o i) (suc j) k) m) (class_from s (o + first_from (has_id s o i) (suc j) k * 3) ∷ []) []) q
+          ih ∙ ap (λ m. cond (ltb (first_from (has_id s o i) (suc j) k) m) (class_from s (o + first_from (has_id s o i)
+              (suc j) k * 3) ∷ []) []) q
 
   -- Where no id occurs twice, the classes of an id are the one that is found, or none.
   pub found : (n : ℕ) → distinct_column s o n ≡ true
@@ -169,7 +181,8 @@ module _ (s : List ℕ) (o i : ℕ) where
   unfolding distinct_column index_of below
   found n d =
       found_from 0 n d
-      ∙ ap (λ m. cond (ltb (first_from (has_id s o i) 0 n) m) (class_from s (o + first_from (has_id s o i) 0 n * 3) ∷ []) []) (omega arith)
+      ∙ ap (λ m. cond (ltb (first_from (has_id s o i) 0 n) m) (class_from s (o + first_from (has_id s o i) 0 n * 3) ∷
+          []) []) (omega arith)
 
   -- Its id is the one looked for.
   first-is : (j k : ℕ) → first_from (has_id s o i) j k < j + k → entry_at s o (first_from (has_id s o i) j k) ≡ i

@@ -20,12 +20,14 @@ use Rattle.model.specs.Geometry.{vertex_at, following}
 use Rattle.model.proofs.Records.{length-vertices, vertex-at}
 use Rattle.records.specs.Parts.{next_of}
 
-pub byte-read : (s : List ℕ) (i : ℕ) (z : ℤ) → Fits w8 (get_or s i 0) → z ≡ to_z w8 (get_or s i 0) → z ≡ signed (byte_at s i)
+pub byte-read : (s : List ℕ) (i : ℕ) (z : ℤ) → Fits w8 (get_or s i 0) → z ≡ to_z w8 (get_or s i 0) → z ≡ signed
+    (byte_at s i)
 unfolding byte_at
 byte-read s i z f e = e ∙ sym (signed-to_z (get_or s i 0) f)
 
 -- A difference d of two coordinates a and b, which are those of corners.
-pub differs : (d a b x y : ℤ) → SFits w16 d → SFits w8 a → SFits w8 b → d ≡ to_z w8 (of_z w8 a) -ℤ to_z w8 (of_z w8 b) → a ≡ x → b ≡ y
+pub differs : (d a b x y : ℤ) → SFits w16 d → SFits w8 a → SFits w8 b → d ≡ to_z w8 (of_z w8 a) -ℤ to_z w8 (of_z w8 b)
+    → a ≡ x → b ≡ y
     → to_z w16 (of_z w16 d) ≡ x -ℤ y
 differs d a b x y fd fa fb e p q = to_z-of_z w16 d fd ∙ e ∙ read₂ w8 a b fa fb ◌-ℤ◌ ∙ ap₂ ◌-ℤ◌ p q
 

@@ -23,12 +23,14 @@ use Rattle.records.proofs.RecordLaws.{next_got, values_none, values_more}
 
 module _ (s : List ℕ) (o id : ℕ) where
   -- There is a class of the id exactly if the search for it ends before the classes do.
-  present-from : (j k : ℕ) → any (λ c. eqb c.id id) (map (λ i. class_from s (o + i * 3)) (rising j k)) ≡ ltb (first_from (has_id s o id) j k) (j + k)
+  present-from : (j k : ℕ) → any (λ c. eqb c.id id) (map (λ i. class_from s (o + i * 3)) (rising j k)) ≡ ltb
+      (first_from (has_id s o id) j k) (j + k)
   unfolding any rising first_from has_id
   present-from j zero = sym (le-ltb j (j + 0) (omega arith))
   present-from j (suc k) = go (present-from (suc j) k) (eqb (entry_at s o j) id)
     where
-      go : any (λ c. eqb c.id id) (map (λ i. class_from s (o + i * 3)) (rising (suc j) k)) ≡ ltb (first_from (has_id s o id) (suc j) k) (suc j + k)
+      go : any (λ c. eqb c.id id) (map (λ i. class_from s (o + i * 3)) (rising (suc j) k)) ≡ ltb
+          (first_from (has_id s o id) (suc j) k) (suc j + k)
           → (b : Bool)
           → (b || any (λ c. eqb c.id id) (map (λ i. class_from s (o + i * 3)) (rising (suc j) k)))
           ≡ ltb (cond b j (first_from (has_id s o id) (suc j) k)) (j + suc k)
@@ -43,7 +45,8 @@ module _ (s : List ℕ) (o id : ℕ) where
 abbrev pub found_or_unnamed : List ℕ → ℕ → ℕ → ℕ → ℕ → Bool
 found_or_unnamed s o n mask id = not (test_bit mask id) || ltb (index_of s o n id) n
 
-pub none_absent-found : (s : List ℕ) (o n mask : ℕ) → all (found_or_unnamed s o n mask) (below 8) ≡ absent_none (classes_from s o n) mask
+pub none_absent-found : (s : List ℕ) (o n mask : ℕ) → all (found_or_unnamed s o n mask) (below 8) ≡ absent_none
+    (classes_from s o n) mask
 unfolding absent_none not_absent
 none_absent-found s o n mask =
     all_same (found_or_unnamed s o n mask) (not_absent (classes_from s o n) mask) 8
@@ -81,7 +84,8 @@ module _ (cs : List SpacingClass) (list : List ℕ) where
       let k = value_of no_kind (read_kind (drop here list)) in
       let g : read_kind (drop here list) ≡ got k r = next_got read_kind list here o e no_kind r h in
       let f = kind-read (drop here list) k r g in
-      let more : values_of (many read_kind (t + 1) list) ≡ values_of (many read_kind t list) ++ (k ∷ []) = values_more read_kind list t here k r w.reads g in
+      let more : values_of (many read_kind (t + 1) list) ≡ values_of (many read_kind t list) ++ (k ∷ []) = values_more
+          read_kind list t here k r w.reads g in
       let kd : k.demand ≡ d = f.demand ∙ byte_first list here ∙ sym p in
       let km : k.classes ≡ m = f.classes ∙ byte_behind list here 2 ∙ sym q in
       record {
@@ -93,7 +97,8 @@ module _ (cs : List SpacingClass) (list : List ℕ) where
             ∙ sum_more (map (λ k. k.demand) (values_of (many read_kind t list))) k.demand);
         present =
             ap₂ ◌&&◌ w.present (a ∙ ap (absent_none cs) (sym km) ∙ sym (names-mask cs k))
-            ∙ sym (ap (all (names_present cs)) more ∙ all_more (names_present cs) (values_of (many read_kind t list)) k);
+            ∙ sym (ap (all (names_present cs)) more ∙ all_more (names_present cs) (values_of (many read_kind t list))
+                k);
       }
 
   pub list_bad : (n : ℕ) → many read_kind n list ≡ bad → true ≡ list_unfit cs list n
@@ -105,8 +110,10 @@ module _ (cs : List SpacingClass) (list : List ℕ) where
   unfolding list_unfit kinds_unfit
   list_read t n here demand named q w =
       rw (w.demands, w.present)
-      (sym (ap (λ i. kinds_unfit cs (length list) (many read_kind i list)) (sym q) ∙ ap (kinds_unfit cs (length list)) w.reads))
+      (sym (ap (λ i. kinds_unfit cs (length list) (many read_kind i list)) (sym q) ∙ ap (kinds_unfit cs (length list))
+          w.reads))
 
 -- A kind that can be read takes at least the bytes of its four fields.
-pub kind-room : (list : List ℕ) (here r : ℕ) (o : Option ℕ) → o ≡ taken (read_kind (lib.ListN.take (length list - here) (drop here list))) → o ≡ Some r → 4 ≤ r
+pub kind-room : (list : List ℕ) (here r : ℕ) (o : Option ℕ) → o ≡ taken (read_kind (lib.ListN.take (length list - here)
+    (drop here list))) → o ≡ Some r → 4 ≤ r
 kind-room list here r o e h = (kind-read (drop here list) _ r (next_got read_kind list here o e no_kind r h)).head

@@ -29,7 +29,8 @@ list_all-corners (a ∷ P) = ap (λ b. vertex_in_range a && b) (list_all-corners
 
 -- The corners behind the part's first byte.
 pub part-in : (s : List ℕ) (n m : ℕ) (cs : List Vertex) → m ≡ n * 2 → n * 2 + 1 ≤ length s
-    → take (length (take m (drop 1 s)) / 2) cs ≡ vertices (length (take m (drop 1 s)) / 2) (take m (drop 1 s)) → take n cs ≡ vertices n (drop 1 s)
+    → take (length (take m (drop 1 s)) / 2) cs ≡ vertices (length (take m (drop 1 s)) / 2) (take m (drop 1 s)) → take n
+        cs ≡ vertices n (drop 1 s)
 unfolding byte_at
 part-in s n m cs em h e =
     let l : length (take m (drop 1 s)) / 2 ≡ n = omega (arith, length-take m (drop 1 s), length-drop 1 s) in
@@ -42,8 +43,10 @@ module _ (s : List ℕ) (n : ℕ) where
   -- Corner i of the part.
   pub corner : (i : ℕ) → i < n → get_or (vertices n (drop 1 s)) i origin ≡ vertex_from s i
   corner i h =
-      let a : byte_at (drop 1 s) (i * 2) ≡ byte_at s (i * 2 + 1) = byte_behind s 1 (i * 2) ∙ ap (byte_at s) (omega arith) in
-      let b : byte_at (drop 1 s) (i * 2 + 1) ≡ byte_at s (i * 2 + 2) = byte_behind s 1 (i * 2 + 1) ∙ ap (byte_at s) (omega arith) in
+      let a : byte_at (drop 1 s) (i * 2) ≡ byte_at s (i * 2 + 1) = byte_behind s 1 (i * 2) ∙ ap (byte_at s)
+          (omega arith) in
+      let b : byte_at (drop 1 s) (i * 2 + 1) ≡ byte_at s (i * 2 + 2) = byte_behind s 1 (i * 2 + 1) ∙ ap (byte_at s)
+          (omega arith) in
       vertex-at n (drop 1 s) i h ∙ rw (a, b)
 
   -- The part, corner by corner.
@@ -57,7 +60,8 @@ module _ (s : List ℕ) (n : ℕ) where
     where
       there : (i : ℕ) → i < n → get_or (part_from s n) i origin ≡ vertex_from s i
       there i l =
-          get_or-map-at (vertex_from s) (below n) i 0 origin (rw (length-below n) l) ∙ ap (vertex_from s) (get_or-below n i 0 l)
+          get_or-map-at (vertex_from s) (below n) i 0 origin (rw (length-below n) l) ∙ ap (vertex_from s) (get_or-below
+              n i 0 l)
 
   pub next_lt : (i : ℕ) → i < n → next_of n i < n
   unfolding next_of
@@ -75,14 +79,17 @@ module _ (s : List ℕ) (n : ℕ) where
   unfolding edge_sound edge_sound_at edge_sound_from corner_sound vertex_at
   edge_same i h =
       rw (length-vertices n (drop 1 s), next_following i, corner i h, corner (next_of n i) (next_lt i h))
-      (all_same _ _ n (λ k l. ap (λ v. eqb k i || eqb k (next_of n i) || strictly_left (vertex_from s i) (vertex_from s (next_of n i)) v) (corner k l)))
+      (all_same _ _ n (λ k l. ap (λ v. eqb k i || eqb k (next_of n i) || strictly_left (vertex_from s i) (vertex_from s
+          (next_of n i)) v) (corner k l)))
 
   pub sound-same : Geometry.sound (vertices n (drop 1 s)) ≡ sound_from s n
   unfolding Geometry.sound sound_from
-  sound-same = rw (length-vertices n (drop 1 s)) (all_same (edge_sound (vertices n (drop 1 s))) (edge_sound_at s n) n edge_same)
+  sound-same = rw (length-vertices n (drop 1 s)) (all_same (edge_sound (vertices n (drop 1 s))) (edge_sound_at s n) n
+      edge_same)
 
   -- What is asked of a part is asked of the part that the model reads.
-  pub unfit_same : unfit_from s n ≡ (not (Geometry.sound (vertices n (drop 1 s))) || not (all vertex_in_range (vertices n (drop 1 s))))
+  pub unfit_same : unfit_from s n ≡ (not (Geometry.sound (vertices n (drop 1 s))) || not (all vertex_in_range
+      (vertices n (drop 1 s))))
   unfolding unfit_from in_range_from
   unfit_same = rw (sound-same, part-corners)
 

@@ -62,7 +62,8 @@ module _ {A : Type 0} where
     pub values_none : values_of (many f 0 s) ≡ []
     values_none = values_from (many f 0 s) [] 0 (many-none f s)
 
-    pub reads_more : (n m : ℕ) (x : A) (k : ℕ) → Reads (many f n s) m → f (drop m s) ≡ got x k → Reads (many f (n + 1) s) (m + k)
+    pub reads_more : (n m : ℕ) (x : A) (k : ℕ) → Reads (many f n s) m → f (drop m s) ≡ got x k → Reads (many f (n + 1)
+        s) (m + k)
     reads_more n m x k r e = reads-from _ _ _ (many_more f n s _ m x k r e)
 
     pub values_more : (n m : ℕ) (x : A) (k : ℕ) → Reads (many f n s) m → f (drop m s) ≡ got x k
@@ -73,7 +74,8 @@ module _ {A : Type 0} where
     reads-bad n l m h r e = many-bad f n l s _ m h r e
 
 -- A loop over records. r is how many bytes the next one takes, from byte m on.
-module _ {A : Type 0} (f : List ℕ → Got A) (s : List ℕ) (m : ℕ) (r : Option ℕ) (e : r ≡ taken (f (take (length s - m) (drop m s)))) where
+module _ {A : Type 0} (f : List ℕ → Got A) (s : List ℕ) (m : ℕ) (r : Option ℕ) (e : r ≡ taken
+    (f (take (length s - m) (drop m s)))) where
   here : r ≡ taken (f (drop m s))
   here = e ∙ ap (λ l. taken (f l)) (tail s m)
 
@@ -86,7 +88,8 @@ module _ {A : Type 0} (f : List ℕ → Got A) (s : List ℕ) (m : ℕ) (r : Opt
   pub stop : (n l : ℕ) → n < l → Reads (many f n s) m → r ≡ None → many f l s ≡ bad
   stop n l h w z = reads-bad f s n l m h w (taken-bad (f (drop m s)) (sym here ∙ z))
 
-pub done : {A : Type 0} (f : List ℕ → Got A) (s : List ℕ) (n l m : ℕ) → n ≡ l → Reads (many f n s) m → Some m ≡ taken (many f l s)
+pub done : {A : Type 0} (f : List ℕ → Got A) (s : List ℕ) (n l m : ℕ) → n ≡ l → Reads (many f n s) m → Some m ≡ taken
+    (many f l s)
 done f s n l m e w = some-taken (many f n s) _ m w ∙ ap (λ i. taken (many f i s)) e
 
 -- The length of a piece to the end.
@@ -97,11 +100,13 @@ tail_length s a = ap length (tail s a) ∙ length-drop a s
 
 -- The size of a part, by its test.
 part-taken : (s : List ℕ)
-    → then_some (between 3 8 (byte_at s 0) && leb (1 + byte_at s 0 * 2) (length s)) (1 + byte_at s 0 * 2) ≡ taken (read_part s)
+    → then_some (between 3 8 (byte_at s 0) && leb (1 + byte_at s 0 * 2) (length s)) (1 + byte_at s 0 * 2) ≡ taken
+        (read_part s)
 unfolding taken read_part
 part-taken s = go (between 3 8 (byte_at s 0) && leb (1 + byte_at s 0 * 2) (length s))
   where
-    go : (t : Bool) → then_some t (1 + byte_at s 0 * 2) ≡ taken (cond t (got (vertices (byte_at s 0) (drop 1 s)) (1 + byte_at s 0 * 2)) bad)
+    go : (t : Bool) → then_some t (1 + byte_at s 0 * 2) ≡ taken (cond t (got (vertices (byte_at s 0) (drop 1 s))
+        (1 + byte_at s 0 * 2)) bad)
     go true = refl
     go false = refl
 
@@ -122,11 +127,14 @@ no_part (x ∷ s) e = cc
 
 pub head_short : (s : List ℕ) → length s < 4 → head_in_range s ≡ false
 unfolding head_in_range
-head_short s h = ap (λ b. b && between 1 12 (byte_at s 0) && between 1 15 (byte_at s 1) && between 1 6 (byte_at s 3)) (lt-leb 4 (length s) h)
+head_short s h = ap (λ b. b && between 1 12 (byte_at s 0) && between 1 15 (byte_at s 1) && between 1 6 (byte_at s 3))
+    (lt-leb 4 (length s) h)
 
-pub head_long : (s : List ℕ) → 4 ≤ length s → head_in_range s ≡ (between 1 12 (byte_at s 0) && between 1 15 (byte_at s 1) && between 1 6 (byte_at s 3))
+pub head_long : (s : List ℕ) → 4 ≤ length s → head_in_range s ≡ (between 1 12 (byte_at s 0) && between 1 15
+    (byte_at s 1) && between 1 6 (byte_at s 3))
 unfolding head_in_range
-head_long s h = ap (λ b. b && between 1 12 (byte_at s 0) && between 1 15 (byte_at s 1) && between 1 6 (byte_at s 3)) (le-leb 4 (length s) h)
+head_long s h = ap (λ b. b && between 1 12 (byte_at s 0) && between 1 15 (byte_at s 1) && between 1 6 (byte_at s 3))
+    (le-leb 4 (length s) h)
 
 pub record HeadFits (s : List ℕ) : Type 0 where
   pub whole : 4 ≤ length s
@@ -136,7 +144,8 @@ pub record HeadFits (s : List ℕ) : Type 0 where
 pub head_fits : (s : List ℕ) → head_in_range s ≡ true → HeadFits s
 unfolding head_in_range
 head_fits s e =
-    let tests = and_four (leb 4 (length s)) (between 1 12 (byte_at s 0)) (between 1 15 (byte_at s 1)) (between 1 6 (byte_at s 3)) e in
+    let tests = and_four (leb 4 (length s)) (between 1 12 (byte_at s 0)) (between 1 15 (byte_at s 1))
+        (between 1 6 (byte_at s 3)) e in
     let n = between-both 1 6 (byte_at s 3) tests.3 in
     record { whole = leb-true _ _ tests.0; parts_least = n.0; parts_most = n.1 }
 
@@ -161,12 +170,15 @@ module _ (s : List ℕ) where
   with-none (got ps m) e = cc
 
   -- The n parts behind the fields take r bytes, if they can be read.
-  module _ (r : Option ℕ) (n : ℕ) (h : head_in_range s ≡ true) (en : n ≡ byte_at s 3) (e : r ≡ taken (many read_part n (take (length s - 4) (drop 4 s)))) where
+  module _ (r : Option ℕ) (n : ℕ) (h : head_in_range s ≡ true) (en : n ≡ byte_at s 3) (e : r ≡ taken (many read_part n
+      (take (length s - 4) (drop 4 s)))) where
     parts-taken : r ≡ taken (many read_part (byte_at s 3) (drop 4 s))
     parts-taken = e ∙ ap₂ (λ m l. taken (many read_part m l)) en (tail s 4)
 
     pub kind-taken : (k : ℕ) → r ≡ Some k → Some (4 + k) ≡ taken (read_kind s)
-    kind-taken k z = with-taken (many read_part (byte_at s 3) (drop 4 s)) k (sym parts-taken ∙ z) ∙ sym (ap taken (read_kind-parts h))
+    kind-taken k z = with-taken (many read_part (byte_at s 3) (drop 4 s)) k (sym parts-taken ∙ z) ∙ sym
+        (ap taken (read_kind-parts h))
 
     pub kind-refused : r ≡ None → None ≡ taken (read_kind s)
-    kind-refused z = with-none (many read_part (byte_at s 3) (drop 4 s)) (sym parts-taken ∙ z) ∙ sym (ap taken (read_kind-parts h))
+    kind-refused z = with-none (many read_part (byte_at s 3) (drop 4 s)) (sym parts-taken ∙ z) ∙ sym
+        (ap taken (read_kind-parts h))

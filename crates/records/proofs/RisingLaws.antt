@@ -45,11 +45,13 @@ module _ (s : List ℕ) (o n : ℕ) (fit : classes_unfit s o n ≡ false) where
 
   pub at_most-eight : n ≤ 8
   unfolding classes_unfit
-  at_most-eight = ltb-false 8 n (or_left _ _ (or_left few-and_ranged _ (or_left (few-and_ranged || not (distinct_column s o n)) _ fit)))
+  at_most-eight = ltb-false 8 n (or_left _ _ (or_left few-and_ranged _ (or_left (few-and_ranged || not (distinct_column
+      s o n)) _ fit)))
 
   pub ranged : all_in_range s o n ≡ true
   unfolding classes_unfit
-  ranged = not-false _ (or_right (ltb 8 n) _ (or_left few-and_ranged _ (or_left (few-and_ranged || not (distinct_column s o n)) _ fit)))
+  ranged = not-false _ (or_right (ltb 8 n) _ (or_left few-and_ranged _ (or_left (few-and_ranged || not (distinct_column
+      s o n)) _ fit)))
 
   pub ids_distinct : distinct_column s o n ≡ true
   unfolding classes_unfit
@@ -70,10 +72,12 @@ module _ (s : List ℕ) (o n : ℕ) where
 
   pub risen_begin : (places : List ℕ) → length places ≡ 8 → RisenTo s o n 0 0 places
   unfolding concat below rising
-  risen_begin places e = record { classes = refl; inside = λ i h. absurd (not-suc-le-zero h); size = e; few = omega arith }
+  risen_begin places e = record { classes = refl; inside = λ i h. absurd (not-suc-le-zero h); size = e; few = omega
+      arith }
 
   module _ (id done : ℕ) (places : List ℕ) (r : RisenTo s o n id done places) (fit : classes_unfit s o n ≡ false) where
-    of_id_lem : (t : Bool) → ltb (index_of s o n id) n ≡ t → classes_of_id id cs ≡ cond t (class_from s (o + index_of s o n id * 3) ∷ []) []
+    of_id_lem : (t : Bool) → ltb (index_of s o n id) n ≡ t → classes_of_id id cs ≡ cond t (class_from s (o + index_of s
+        o n id * 3) ∷ []) []
     of_id_lem t q =
         found s o id n (ids_distinct s o n fit) ∙ ap (λ t. cond t (class_from s (o + index_of s o n id * 3) ∷ []) []) q
 
@@ -90,7 +94,8 @@ module _ (s : List ℕ) (o n : ℕ) where
         }
 
     -- The class of this id, whose index is j, is stored.
-    module _ (j : ℕ) (e : j ≡ index_of s o n id) (less : index_of s o n id < n) (more : id < 8) (fits : o + n * 3 ≤ length s) where
+    module _ (j : ℕ) (e : j ≡ index_of s o n id) (less : index_of s o n id < n) (more : id < 8) (fits : o + n * 3 ≤
+        length s) where
       abbrev next : List ℕ
       next = set places done (o + j * 3)
 
@@ -105,7 +110,8 @@ module _ (s : List ℕ) (o n : ℕ) where
       classes-next =
           map-below-more (λ i. class_from s (get_or next i 0)) done
           ∙ ap₂ (λ l c. l ++ (c ∷ []))
-          (map-below-same (λ i. class_from s (get_or next i 0)) (λ i. class_from s (get_or places i 0)) done (λ i h. ap (class_from s) (kept i h))
+          (map-below-same (λ i. class_from s (get_or next i 0)) (λ i. class_from s (get_or places i 0)) done
+              (λ i h. ap (class_from s) (kept i h))
           ∙ r.classes)
           (ap (class_from s) (here ∙ ap (λ m. o + m * 3) e))
           ∙ ap (λ l. risen_below id cs ++ l) (sym (of_id_lem true (lt-ltb _ _ less))) ∙ sym (risen_more cs id)
@@ -128,12 +134,14 @@ module _ (s : List ℕ) (o n : ℕ) where
             few = omega (arith, r.few);
           }
 
-  pub risen_end : (id done : ℕ) (places : List ℕ) → id ≡ 8 → classes_unfit s o n ≡ false → RisenTo s o n id done places → ByRisingId s o n places
+  pub risen_end : (id done : ℕ) (places : List ℕ) → id ≡ 8 → classes_unfit s o n ≡ false → RisenTo s o n id done places
+      → ByRisingId s o n places
   unfolding by_rising_id all_in_range
   risen_end id done places e fit r =
       let all_there : classes_at_first s places done ≡ by_rising_id cs = r.classes ∙ ap (λ i. risen_below i cs) e in
       let count : done ≡ n =
-      sym (length-first s places done) ∙ ap length all_there ∙ sym (length-permuted (risen_permuted cs (ranged s o n fit))) ∙ length_from s o n in
+      sym (length-first s places done) ∙ ap length all_there ∙ sym (length-permuted (risen_permuted cs (ranged s o n
+          fit))) ∙ length_from s o n in
       record {
         classes = ap (classes_at_first s places) (sym count) ∙ all_there;
         inside = λ i h. r.inside i (omega arith);

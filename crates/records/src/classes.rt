@@ -37,7 +37,8 @@ fn all_in_range(job: &[u8], at: usize, n: usize) -> bool
     (0..n).all(|j| in_range(job, at + j * 3))
 }
 
-// A column is one field of every record: bytes at, at + 3, at + 6 and so on. The index of the first of its n entries that is `value`.
+// A column is one field of every record: bytes at, at + 3, at + 6 and so on. The index of the first of its n entries
+// that is `value`.
 pub fn find(job: &[u8], at: usize, n: usize, value: usize) -> Option<usize>
     requires { (n < 256) × (at + n * 3 ≤ length job.now + 2) }
     ensures { result ≡ cond (ltb (index_of job.now at n value) n) (Some (index_of job.now at n value)) None }

@@ -22,7 +22,8 @@ fn none_absent(job: &[u8], at: usize, n: usize, mask: usize) -> bool
     (0..8).all(|id| !names(mask, id) | classes::find(job, at, n, id).is_some())
 }
 
-// The n type records of the list do not fit: one cannot be read, they do not fill the list, they demand too much, or a class is absent.
+// The n type records of the list do not fit: one cannot be read, they do not fill the list, they demand too much, or a
+// class is absent.
 pub fn unfit(job: &[u8], at: usize, n: usize, list: &[u8], kinds: usize) -> bool
     requires { ((n < 256) × (kinds < 256)) × (at + n * 3 ≤ length job.now) }
     ensures { result ≡ list_unfit (classes_from job.now at n) list.now kinds }

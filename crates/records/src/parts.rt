@@ -15,7 +15,8 @@ pub fn next(i: usize, n: usize) -> usize
     if i + 1 == n { 0 } else { i + 1 }
 }
 
-// Corner k is not looked at for the edge from p to q: it is one of the two. Every other one is, neighbour of the edge or not.
+// Corner k is not looked at for the edge from p to q: it is one of the two. Every other one is, neighbour of the edge
+// or not.
 fn spared(n: usize, p: usize, q: usize, k: usize) -> bool
     requires { ((n ≤ 8) × (k < n)) × (q < n) }
     ensures { result ≡ (eqb k p || eqb k q) }
@@ -31,7 +32,8 @@ fn corner_sound(corners: &[Corner], p: usize, q: usize, k: usize) -> bool
     spared(corners.len(), p, q, k) | strictly_left(corners[p], corners[q], corners[k])
 }
 
-// Every corner but its ends lies strictly left of the edge from corner i to the one after it, also those that are no neighbours of the edge.
+// Every corner but its ends lies strictly left of the edge from corner i to the one after it, also those that are no
+// neighbours of the edge.
 fn edge_sound(corners: &[Corner], i: usize) -> bool
     requires { (length corners.now ≤ 8) × (i < length corners.now) }
     ensures { result ≡ edge_sound corners.now i }
@@ -56,7 +58,8 @@ pub fn in_range(corners: &[Corner]) -> bool
     corners.iter().all(|corner| corner.in_range())
 }
 
-// Cause 7 for one part of n corners, in a piece of the job that begins at the part's first byte: the number of corners, then x and y of each.
+// Cause 7 for one part of n corners, in a piece of the job that begins at the part's first byte: the number of corners,
+// then x and y of each.
 pub fn unfit(part: &[u8], n: usize) -> bool
     requires { (n ≤ 8) × (n * 2 + 1 ≤ length part.now) }
     ensures { result ≡ unfit_from part.now n }

@@ -5,7 +5,8 @@ ghost use Rattle.records.specs.Records.{taken};
 
 use frame::fields;
 
-// The part at the front of a piece of the type list that begins at the part: the number of its corners, then two bytes for each.
+// The part at the front of a piece of the type list that begins at the part: the number of its corners, then two bytes
+// for each.
 pub fn part_size(part: &[u8]) -> Option<usize>
     ensures value { result ≡ taken (read_part part.now) }
     ensures within { IfSome result (λ size. size ≤ length part.now) }

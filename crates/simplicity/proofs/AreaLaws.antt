@@ -39,7 +39,8 @@ sum_same f g (suc k) h = ap₂ (λ a b. a +ℤ b) (sum_same f g k (λ i l. h i (
 -- ---- Sums over the edges
 
 module _ (F : Vertex → Vertex → ℤ) where
-  path_sum_lem : (a : Vertex) (bs : List Vertex) → path_sum F a bs ≡ sum_below (λ i. F (get_or (a ∷ bs) i origin) (get_or (a ∷ bs) (suc i) origin)) (length bs)
+  path_sum_lem : (a : Vertex) (bs : List Vertex) → path_sum F a bs ≡ sum_below (λ i. F (get_or (a ∷ bs) i origin)
+      (get_or (a ∷ bs) (suc i) origin)) (length bs)
   unfolding sum_below
   path_sum_lem a [] = refl
   path_sum_lem a (b ∷ bs) =
@@ -47,7 +48,8 @@ module _ (F : Vertex → Vertex → ℤ) where
       ∙ sym (sum-front (λ i. F (get_or (a ∷ b ∷ bs) i origin) (get_or (a ∷ b ∷ bs) (suc i) origin)) (length bs))
 
   -- The sum over the edges is the sum over the corner numbers.
-  pub edge_sum_lem : (P : List Vertex) → edge_sum F P ≡ sum_below (λ i. F (vertex_at P i) (vertex_at P (following P i))) (length P)
+  pub edge_sum_lem : (P : List Vertex) → edge_sum F P ≡ sum_below (λ i. F (vertex_at P i)
+      (vertex_at P (following P i))) (length P)
   unfolding vertex_at sum_below
   edge_sum_lem [] = refl
   edge_sum_lem (a ∷ bs) = ap₂ (λ y z. y +ℤ z) (path_sum_lem a bs ∙ sum_same _ _ (length bs) inner) outer
@@ -55,11 +57,14 @@ module _ (F : Vertex → Vertex → ℤ) where
       P : List Vertex
       P = a ∷ bs
 
-      inner : (i : ℕ) → i < length bs → F (get_or P i origin) (get_or P (suc i) origin) ≡ F (get_or P i origin) (get_or P (following P i) origin)
-      inner i h = ⊎_elim (λ r. absurd (omega (arith, r.0, h))) (λ r. ap (λ j. F (get_or P i origin) (get_or P j origin)) (sym r.1)) (following-is P i)
+      inner : (i : ℕ) → i < length bs → F (get_or P i origin) (get_or P (suc i) origin) ≡ F (get_or P i origin)
+          (get_or P (following P i) origin)
+      inner i h = ⊎_elim (λ r. absurd (omega (arith, r.0, h))) (λ r. ap (λ j. F (get_or P i origin)
+          (get_or P j origin)) (sym r.1)) (following-is P i)
 
       outer : F (last_of a bs) a ≡ F (get_or P (length bs) origin) (get_or P (following P (length bs)) origin)
-      outer = ⊎_elim (λ r. ap₂ F (last_get_or a (a ∷ bs) (length bs) refl) (ap (λ j. get_or P j origin) (sym r.1))) (λ r. absurd (r.0 refl)) (following-is P (length bs))
+      outer = ⊎_elim (λ r. ap₂ F (last_get_or a (a ∷ bs) (length bs) refl) (ap (λ j. get_or P j origin) (sym r.1)))
+          (λ r. absurd (r.0 refl)) (following-is P (length bs))
 
 -- The doubled area of an outline.
 pub area_is : (P : List Vertex) → sum_below (edge_area P) (length P) ≡ doubled_area P
@@ -70,7 +75,8 @@ area_is P =
     (λ i h. ap (λ q. det (vertex_at P i) (vertex_at P q)) (following-of P i)))
 
 -- What an edge adds, from the coordinates of its ends.
-pub det-is : (a b : Vertex) (z ax ay bx by : ℤ) → z ≡ ax *ℤ by -ℤ ay *ℤ bx → ax ≡ a.x → ay ≡ a.y → bx ≡ b.x → by ≡ b.y → z ≡ det a b
+pub det-is : (a b : Vertex) (z ax ay bx by : ℤ) → z ≡ ax *ℤ by -ℤ ay *ℤ bx → ax ≡ a.x → ay ≡ a.y → bx ≡ b.x → by ≡ b.y
+    → z ≡ det a b
 unfolding det
 det-is a b z ax ay bx by e p q r t = rw (e, p, q, r, t)
 
@@ -80,11 +86,13 @@ det-is a b z ax ay bx by e p q r t = rw (e, p, q, r, t)
 pub edge_small : (a b : Vertex) → SFits w8 a.x → SFits w8 a.y → SFits w8 b.x → SFits w8 b.y → nat_abs (det a b) ≤ 32768
 unfolding det
 edge_small a b p q r t =
-    bounded (128 ∷ 128 ∷ 128 ∷ 128 ∷ []) 4 (λ p q r t. p ⊠ t ⊟ q ⊠ r) a.x a.y b.x b.y (size_of w8 a.x p) (size_of w8 a.y q) (size_of w8 b.x r)
+    bounded (128 ∷ 128 ∷ 128 ∷ 128 ∷ []) 4 (λ p q r t. p ⊠ t ⊟ q ⊠ r) a.x a.y b.x b.y (size_of w8 a.x p)
+        (size_of w8 a.y q) (size_of w8 b.x r)
     (size_of w8 b.y t)
 
 -- One edge more, of up to eight, in 64 bits.
-module _ (P : List Vertex) (k : ℕ) (h : k < 8) (a d : ℤ) (small : nat_abs a ≤ k * 32768) (more : nat_abs d ≤ 32768) where
+module _ (P : List Vertex) (k : ℕ) (h : k < 8) (a d : ℤ) (small : nat_abs a ≤ k * 32768) (more : nat_abs d ≤ 32768)
+    where
   sum-small : nat_abs (a +ℤ d) ≤ (k + 1) * 32768
   sum-small = let z = nat_abs-+ℤ a d in omega (arith, z)
 
@@ -92,8 +100,10 @@ module _ (P : List Vertex) (k : ℕ) (h : k < 8) (a d : ℤ) (small : nat_abs a 
   more_fits = fits-64 (a +ℤ d) (omega (arith, sum-small))
 
   pub more_is : a ≡ sum_below (edge_area P) k → d ≡ edge_area P k
-      → (to_z w64 (of_z w64 (a +ℤ d)) ≡ sum_below (edge_area P) (k + 1)) × (nat_abs (to_z w64 (of_z w64 (a +ℤ d))) ≤ (k + 1) * 32768)
+      → (to_z w64 (of_z w64 (a +ℤ d)) ≡ sum_below (edge_area P) (k + 1)) × (nat_abs (to_z w64 (of_z w64 (a +ℤ d))) ≤
+          (k + 1) * 32768)
   unfolding sum_below
   more_is ea ed =
       let e = to_z-of_z w64 (a +ℤ d) more_fits in
-      (e ∙ ap₂ ◌+ℤ◌ ea ed ∙ ap (sum_below (edge_area P)) (sym (add-one k)), subst (λ z. nat_abs z ≤ (k + 1) * 32768) (sym e) sum-small)
+      (e ∙ ap₂ ◌+ℤ◌ ea ed ∙ ap (sum_below (edge_area P)) (sym (add-one k)), subst (λ z. nat_abs z ≤ (k + 1) * 32768)
+          (sym e) sum-small)

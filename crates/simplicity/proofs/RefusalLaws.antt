@@ -19,7 +19,8 @@ module _ (s : List ℕ) where
   -- The count is refused.
   pub refused : (count_unfit s || odd_byte s) ≡ true → true ≡ cause14 s
   unfolding cause14
-  refused e = sym (ap (λ b. b || out_of_range (outline_in s) || area_unfit (outline_in s) || edges_meet (outline_in s)) e)
+  refused e = sym (ap (λ b. b || out_of_range (outline_in s) || area_unfit (outline_in s) || edges_meet (outline_in s))
+      e)
 
   -- Where nothing is refused, the count is not.
   pub counted : cause14 s ≡ false → (count_unfit s || odd_byte s) ≡ false
@@ -52,7 +53,8 @@ module _ (s : List ℕ) where
     room = omega (arith, at_most, even)
 
     -- The corners are judged.
-    pub judged : (P : List Vertex) → P ≡ outline_in s → (inside met : Bool) (area : ℤ) → inside ≡ all vertex_in_range P → area ≡ doubled_area P
+    pub judged : (P : List Vertex) → P ≡ outline_in s → (inside met : Bool) (area : ℤ) → inside ≡ all vertex_in_range P
+        → area ≡ doubled_area P
         → met ≡ edges_meet P → (not inside || le_z area (pos 0) || met) ≡ cause14 s
     unfolding cause14 out_of_range area_unfit
     judged P same inside met area ei ea em =

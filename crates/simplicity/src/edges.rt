@@ -1,4 +1,5 @@
-// Do two edges of an outline meet anywhere but at the corner that neighbours share? Edge i goes from corner i to the one after it.
+// Do two edges of an outline meet anywhere but at the corner that neighbours share? Edge i goes from corner i to the
+// one after it.
 ghost use Rattle.std.specs.Prelude.{◌≡◌, ◌≤◌, ◌<◌, ◌||◌, ◌&&◌, length};
 ghost use Rattle.std.specs.Int.Signed.{lt_z};
 ghost use Rattle.model.specs.Geometry.{cross};
@@ -24,7 +25,8 @@ fn less(p: i8, u: i8, t: i8) -> bool
     (p < u) & (p < t)
 }
 
-// A line across the axis of these coordinates has the edge from a to b before it and the edge from u to t behind it, or the other way round.
+// A line across the axis of these coordinates has the edge from a to b before it and the edge from u to t behind it, or
+// the other way round.
 fn apart(a: i8, b: i8, u: i8, t: i8) -> bool
     ensures { result ≡ (less_than a b u t || less_than u t a b) }
 {

@@ -1,4 +1,5 @@
-// Refusal 14 of document 02's "7/13 Pieces drawn as one outline": is an outline simple, anticlockwise, and of numbers that are allowed?
+// Refusal 14 of document 02's "7/13 Pieces drawn as one outline": is an outline simple, anticlockwise, and of numbers
+// that are allowed?
 #![tactic(auto)]
 
 pub mod area;

@@ -31,7 +31,8 @@ corners_in-corners-requires c =
 
 pub shared_whole_as_front-cut_off : goal.shared_whole_as_front-cut_off
 shared_whole_as_front-cut_off c =
-    ((few-corners c.args.outline.now (fit_corners c.args.outline.now _ c.unfit.ensures c.if-unfit.false).0).1, omega arith)
+    ((few-corners c.args.outline.now (fit_corners c.args.outline.now _ c.unfit.ensures c.if-unfit.false).0).1, omega
+        arith)
 
 pub cut_off-count-requires : goal.cut_off-count-requires
 cut_off-count-requires c =
@@ -39,7 +40,8 @@ cut_off-count-requires c =
     let size = ap length c.corners_in-corners.ensures ∙ outline_length c.args.outline.now in
     record {
       in_bounds = (omega (arith, f.1), omega (arith, f.1, c.if-answer-lt36.false));
-      cut_to_the_end = is_cut c.args.outline.now c.args.answer.now f.0 _ (c.corners_in-corners.ensures ∙ outline-is c.args.outline.now);
+      cut_to_the_end = is_cut c.args.outline.now c.args.answer.now f.0 _ (c.corners_in-corners.ensures ∙ outline-is
+          c.args.outline.now);
     }
 
 pub returns : goal.returns

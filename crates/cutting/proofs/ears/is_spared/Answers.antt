@@ -14,4 +14,5 @@ returns c =
     let a = corner-is P c.args.c _ c.requires.0.1 c.index-corners-c.is in
     let s = corner-is P c.args.s _ c.requires.1.0 c.index-corners-s.is in
     let v = corner-is P c.args.k _ c.requires.1.1 c.index-corners-k.is in
-    ap (λ b. eqb c.args.k c.args.c || eqb c.args.k c.args.p || eqb c.args.k c.args.s || not b) (c.holds.ensures ∙ (λ j. holds (p j) (a j) (s j) (v j)))
+    ap (λ b. eqb c.args.k c.args.c || eqb c.args.k c.args.p || eqb c.args.k c.args.s || not b) (c.holds.ensures ∙
+        (λ j. holds (p j) (a j) (s j) (v j)))

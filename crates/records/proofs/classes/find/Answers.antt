@@ -9,6 +9,7 @@ use Rattle.records.proofs.classes.find.Goals as goal
 pub returns : goal.returns
 unfolding has_id
 returns c =
-    position_from_yields_List (has_id c.args.job.now c.args.at c.args.value) _ _ _ c.position.ensures.ran (YieldsList-from_range 0 _ _ refl (omega arith))
+    position_from_yields_List (has_id c.args.job.now c.args.at c.args.value) _ _ _ c.position.ensures.ran
+        (YieldsList-from_range 0 _ _ refl (omega arith))
     (λ x b q k. search rules)
     ∙ position-first c.args.job.now c.args.at c.args.n c.args.value

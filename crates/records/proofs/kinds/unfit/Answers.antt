@@ -9,7 +9,8 @@ loop-init c = (omega arith, seen_none _ _)
 
 pub returns-in_default : goal.returns-in_default
 returns-in_default c =
-    list_bad _ _ _ (stop read_kind c.args.list.now c.loop.here c.kind_size.result c.kind_size.ensures.value c.loop.counter c.args.kinds c.loop-test.true
+    list_bad _ _ _ (stop read_kind c.args.list.now c.loop.here c.kind_size.result c.kind_size.ensures.value
+        c.loop.counter c.args.kinds c.loop-test.true
     c.loop.invariant.1.reads c.in_default.is)
 
 pub byte-demand-requires : goal.byte-demand-requires
@@ -33,7 +34,8 @@ byte-requires c =
 pub loop-preserved : goal.loop-preserved
 loop-preserved c = (
   omega (arith, tail_length c.args.list.now c.loop.here, c.in-Some.ensures.within),
-  seen_more _ _ c.loop.counter c.loop.here c.loop.demand c.in-Some.size _ _ c.loop.present _ c.kind_size.result c.loop.invariant.1 c.kind_size.ensures.value
+  seen_more _ _ c.loop.counter c.loop.here c.loop.demand c.in-Some.size _ _ c.loop.present _ c.kind_size.result
+      c.loop.invariant.1 c.kind_size.ensures.value
       c.in-Some.is c.byte-demand.ensures.0 c.byte.ensures.0 c.none_absent-present.ensures,
 )
 

@@ -20,13 +20,16 @@ loop-id-preserved c =
       | in-Some w ↦
           let f = some-found first c.args.n w.in-Some.j c.find.result c.find.ensures w.in-Some.is in
           rw (w.places-is, w.done-is)
-          (risen-stored s c.args.at c.args.n c.loop-id.id c.loop-id.done c.loop-id.places c.loop-id.invariant c.requires.1 w.in-Some.j f.0 f.1
+          (risen-stored s c.args.at c.args.n c.loop-id.id c.loop-id.done c.loop-id.places c.loop-id.invariant
+              c.requires.1 w.in-Some.j f.0 f.1
           c.loop-id-test.true c.requires.0)
       | in_default w ↦
           rw (w.places-is, w.done-is)
-          (risen-missing s c.args.at c.args.n c.loop-id.id c.loop-id.done c.loop-id.places c.loop-id.invariant c.requires.1
+          (risen-missing s c.args.at c.args.n c.loop-id.id c.loop-id.done c.loop-id.places c.loop-id.invariant
+              c.requires.1
           (none-found first c.args.n c.find.result c.find.ensures w.in_default.is))
     ]
 
 pub returns : goal.returns
-returns c = risen_end c.args.job.now c.args.at c.args.n c.loop-id.id c.loop-id.done _ (omega arith) c.requires.1 c.loop-id.invariant
+returns c = risen_end c.args.job.now c.args.at c.args.n c.loop-id.id c.loop-id.done _ (omega arith) c.requires.1
+    c.loop-id.invariant

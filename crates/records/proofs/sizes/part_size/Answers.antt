@@ -9,4 +9,5 @@ returns-in_err-first-clause-value c = c.from_residual.ensures ∙ no_part c.args
 pub returns-clause-value : goal.returns-clause-value
 returns-clause-value c =
     c.then_some.ensures
-    ∙ part-sized c.args.part.now c.from-corners.result c.in_range.result (ap Some c.from-corners.ensures ∙ c.in_ok-first.ensures.value) c.in_range.ensures
+    ∙ part-sized c.args.part.now c.from-corners.result c.in_range.result (ap Some c.from-corners.ensures ∙
+        c.in_ok-first.ensures.value) c.in_range.ensures

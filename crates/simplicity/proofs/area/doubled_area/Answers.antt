@@ -28,24 +28,21 @@ added_is c =
 
 added-small : (c : After-determinant-area) → nat_abs (added c) ≤ 32768
 added-small c =
-    subst (λ (z : ℤ). nat_abs z ≤ 32768) (sym (to_z-of_z w64 c.determinant-area.result (sfits_of c.determinant-area.type_inv))) c.determinant-area.ensures.small
+    subst (λ (z : ℤ). nat_abs z ≤ 32768) (sym (to_z-of_z w64 c.determinant-area.result
+        (sfits_of c.determinant-area.type_inv))) c.determinant-area.ensures.small
 
 pub loop-k-init : goal.loop-k-init
 unfolding sum_below
 loop-k-init c = (refl, omega arith)
 
-pub overflow_add-area : goal.overflow_add-area
-overflow_add-area c =
-    let at = (goal.at.overflow_add-area c).After-determinant-area in
-    more_fits c.args.corners.now c.loop-k.k (omega (arith, c.requires, c.loop-k-test.true)) (to_z w64 c.loop-k.area-bits) (added at) c.loop-k.invariant.1
-    (added-small at)
-
 pub loop-k-preserved : goal.loop-k-preserved
 loop-k-preserved c =
     let at = (goal.at.loop-k-preserved c).After-determinant-area in
-    more_is c.args.corners.now c.loop-k.k (omega (arith, c.requires, c.loop-k-test.true)) (to_z w64 c.loop-k.area-bits) (added at) c.loop-k.invariant.1
+    more_is c.args.corners.now c.loop-k.k (omega (arith, c.requires, c.loop-k-test.true)) (to_z w64 c.loop-k.area-bits)
+        (added at) c.loop-k.invariant.1
     (added-small at) c.loop-k.invariant.0
     (added_is at)
 
 pub returns : goal.returns
-returns c = c.loop-k.invariant.0 ∙ ap (sum_below (edge_area c.args.corners.now)) (omega arith) ∙ area_is c.args.corners.now
+returns c = c.loop-k.invariant.0 ∙ ap (sum_below (edge_area c.args.corners.now)) (omega arith) ∙ area_is
+    c.args.corners.now
