@@ -60,8 +60,10 @@ found-first test P r e = go r (subst (Lowest (λ i. test (vertex_at P i) (others
     go : (r : Option ℕ) → Lowest (λ i. test (vertex_at P i) (others P i)) 0 (length P) r
         → (first_where test [] P ≡ found P r) × IfSome r (λ i. i < length P)
     go None h = (first-none test P (λ j l. h j zero-le (omega arith)), tt)
-    go (Some m) h = let l : m < length P = omega (arith, h.0) in (first-at test P m l (λ j k. h.1.1 j zero-le k) h.1.0,
-        l)
+    go (Some m) h = let l : m < length P = omega (arith, h.0) in (
+      first-at test P m l (λ j k. h.1.1 j zero-le k) h.1.0,
+      l,
+    )
 
 -- ---- The two tests
 
@@ -77,7 +79,7 @@ module _ (P : List Vertex) (i : ℕ) (h : i < length P) where
   spared_is j =
       λ k. eqb j i || eqb j (previous-of P i k) || eqb j (following-of P i k)
       || not (holds (vertex_at P (previous-of P i k)) (vertex_at P i) (vertex_at P (following-of P i k))
-          (vertex_at P j))
+      (vertex_at P j))
 
   -- Corner i is an ear.
   pub ear_is : 3 ≤ length P
@@ -88,4 +90,4 @@ module _ (P : List Vertex) (i : ℕ) (h : i < length P) where
       sym (ear_at P i h three
       ∙ (λ k. strictly_left (vertex_at P (previous-of P i k)) (vertex_at P i) (vertex_at P (following-of P i k))
       && all_same (spared P i) (is_spared P (previous_of (length P) i) i (next_of (length P) i)) (length P)
-          (λ j l. spared_is j) k))
+      (λ j l. spared_is j) k))

@@ -25,14 +25,19 @@ rest-is P i a b x y r h ea eb =
     let la : length a ≡ i = ap length ea ∙ omega (arith, length-take i P) in
     let all : b ≡ drop (suc i) P =
     eb ∙ take_all (length P - (i + 1)) (drop (i + 1) P) (omega (arith, length-drop (i + 1) P)) ∙ ap (λ m. drop m P)
-        (add-one i) in
+    (add-one i) in
     let lb : length b ≡ length P - suc i = ap length all ∙ length-drop (suc i) P in
     let same : (a ++ (b ++ y)) ++ r ≡ (a ++ b) ++ (y ++ r) = simp append_assoc in
     ap (λ l. take (length P - 1) ((l ++ (b ++ y)) ++ r)) (front i a x la) ∙ ap (take (length P - 1)) same
     ∙ front (length P - 1) (a ++ b) (y ++ r) (omega (arith, length-append a b)) ∙ ap₂ (λ l m. l ++ m) ea all ∙ sym
-        (rest_at P i)
+    (rest_at P i)
 
 pub rest-length : (P Q : List Vertex) (i : ℕ) → Q ≡ rest (place_at P i) → i < length P → length Q ≡ length P - 1
 rest-length P Q i e h =
-    ap length (e ∙ rest_at P i) ∙ omega (arith, length-append (take i P) (drop (suc i) P), length-take i P, length-drop
-        (suc i) P)
+    ap length (e ∙ rest_at P i) ∙ omega (
+      arith,
+      length-append (take i P) (drop (suc i) P),
+      length-take i P,
+      length-drop
+          (suc i) P,
+    )

@@ -53,8 +53,11 @@ module _ (s out : List ℕ) where
         (triangles_of P) → r ≤ 6
         → u ≡ with_numbers_at 0 (triangles_numbers (triangles_of P)) out → Answered s out (Ok r) u
     unfolding numbers_in count with_numbers
-    cut-told P q l r u er lr eu = (ap (λ k. Ok k) a ∙ t.0, b ∙ numbers_all (triangles_numbers ts) out
-        (omega (arith, six_each ts, a)) ∙ t.1)
+    cut-told P q l r u er lr eu = (
+      ap (λ k. Ok k) a ∙ t.0,
+      b ∙ numbers_all (triangles_numbers ts) out
+          (omega (arith, six_each ts, a)) ∙ t.1,
+    )
       where
         ts : List Triangle
         ts = triangles_of (outline_in s)

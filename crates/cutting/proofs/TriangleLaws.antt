@@ -37,7 +37,7 @@ coordinate-bits (negsuc n) = omega arith
 -- x and y of a corner, one after the other.
 pub corner-written : (v : Vertex) (x y at : ℕ) (a u w : List ℕ) → x ≡ coordinate v.x → y ≡ coordinate v.y
     → u ≡ with_numbers_at at (x ∷ []) a → w ≡ with_numbers_at (at + 1) (y ∷ []) u → w ≡ with_numbers_at at
-        (vertex_numbers v) a
+    (vertex_numbers v) a
 unfolding vertex_numbers
 corner-written v x y at a u w ex ey eu ew =
     numbers_then at (at + 1) (x ∷ []) (y ∷ []) a u w refl eu ew ∙ ap₂ (λ i j. with_numbers_at at (i ∷ j ∷ []) a) ex ey
@@ -51,9 +51,9 @@ three_corners_lem a b c = refl
 pub triangle-written : (P : List Vertex) (i : ℕ) → i < length P → 2 ≤ length P → (c q p : Vertex) → c ≡ vertex_at P i →
     q ≡ after P i → p ≡ before P i
     → (at : ℕ) (a u v w : List ℕ) → u ≡ with_numbers_at at (vertex_numbers c) a → v ≡ with_numbers_at (at + 2)
-        (vertex_numbers q) u
+    (vertex_numbers q) u
     → w ≡ with_numbers_at (at + 4) (vertex_numbers p) v → w ≡ with_numbers_at at (triangle_numbers
-        (triangle_at (place_at P i))) a
+    (triangle_at (place_at P i))) a
 triangle-written P i h two c q p ec eq ep at a u v w eu ev ew =
     numbers_then at (at + 4) (vertex_numbers c ++ vertex_numbers q) (vertex_numbers p) a v w
     (omega (arith, length-append (vertex_numbers c) (vertex_numbers q), length-vertex c, length-vertex q))
@@ -64,7 +64,7 @@ triangle-written P i h two c q p ec eq ep at a u v w eu ev ew =
     corners =
         triangle-at P i h two
         ∙ (λ k. triangle (sym ec k) ((ap (vertex_at P) (following-of P i) ∙ sym eq) k)
-            ((ap (vertex_at P) (previous-of P i) ∙ sym ep) k))
+        ((ap (vertex_at P) (previous-of P i) ∙ sym ep) k))
 
 pub no_triangle : (at : ℕ) (a : List ℕ) → a ≡ with_numbers_at at (triangles_numbers []) a
 unfolding triangles_numbers concat
@@ -81,7 +81,7 @@ pub triangles-written : (t : Triangle) (ts us : List Triangle) → us ≡ t ∷ 
 unfolding triangles_numbers concat
 triangles-written t ts us e at a u v eu ev =
     numbers_then at (at + 6) (triangle_numbers t) (concat (map triangle_numbers ts)) a u v
-        (omega (arith, length-triangle t)) eu ev
+    (omega (arith, length-triangle t)) eu ev
     ∙ ap (λ xs. with_numbers_at at (concat (map triangle_numbers xs)) a) (sym e)
 
 -- ---- The corner that goes

@@ -62,7 +62,7 @@ module _ (s : List ℕ) (o : ℕ) where
       ap (λ d. not (any (eqb (entry_at s o i)) (map (entry_at s o) (rising (suc i) k))) && d) (distinct_from (suc i) k)
       ∙ sym (later f i (suc i) k (omega arith))
       ∙ sym (ap (λ b. eqb (cond b i (f i)) i && rest) (eq-eqb (entry_at s o i) (entry_at s o i) refl) ∙ ap
-          (λ b. b && rest) (eq-eqb i i refl))
+      (λ b. b && rest) (eq-eqb i i refl))
 
   -- Entry j of n is the first of its value.
   abbrev pub is_first : ℕ → ℕ → Bool
@@ -88,7 +88,7 @@ module _ (s : List ℕ) (o : ℕ) where
 pub risen_more : (cs : List SpacingClass) (i : ℕ) → risen_below (i + 1) cs ≡ risen_below i cs ++ classes_of_id i cs
 risen_more cs i =
     ap concat (map-below-more (λ i. classes_of_id i cs) i) ∙ concat-more (map (λ i. classes_of_id i cs) (below i))
-        (classes_of_id i cs)
+    (classes_of_id i cs)
 
 -- ---- The first of an id
 
@@ -144,35 +144,35 @@ module _ (s : List ℕ) (o i : ℕ) where
   found_from : (j k : ℕ) → distinct (map (entry_at s o) (rising j k)) ≡ true
       → keep (λ c. eqb c.id i) (map (λ m. class_from s (o + m * 3)) (rising j k))
       ≡ cond (ltb (first_from (has_id s o i) j k) (j + k)) (class_from s (o + first_from (has_id s o i) j k * 3) ∷ [])
-          []
+      []
   unfolding keep distinct rising first_from has_id
   found_from j zero d = rw (le-ltb j (j + 0) (omega arith))
   found_from j (suc k) d =
       go (found_from (suc j) k (and_right (not (any (eqb (entry_at s o j)) (map (entry_at s o) (rising (suc j) k)))) _
-          d))
+      d))
       (not-true _ (and_left _ _ d)) (eqb (entry_at s o j) i) refl
     where
       go : keep (λ c. eqb c.id i) (map (λ m. class_from s (o + m * 3)) (rising (suc j) k))
           ≡ cond (ltb (first_from (has_id s o i) (suc j) k) (suc j + k)) (class_from s (o + first_from (has_id s o i)
-              (suc j) k * 3) ∷ []) []
+          (suc j) k * 3) ∷ []) []
           → any (eqb (entry_at s o j)) (map (entry_at s o) (rising (suc j) k)) ≡ false
           → (b : Bool) → eqb (entry_at s o j) i ≡ b
           → cond b (class_from s (o + j * 3) ∷ keep (λ c. eqb c.id i) (map (λ m. class_from s (o + m * 3))
-              (rising (suc j) k)))
+          (rising (suc j) k)))
           (keep (λ c. eqb c.id i) (map (λ m. class_from s (o + m * 3)) (rising (suc j) k)))
           ≡ cond (ltb (cond b j (first_from (has_id s o i) (suc j) k)) (j + suc k))
           (class_from s (o + cond b j (first_from (has_id s o i) (suc j) k) * 3) ∷ [])
           []
       go ih l true e =
           let q : any (eqb i) (map (entry_at s o) (rising (suc j) k)) ≡ false = rw (eqb-true (entry_at s o j) i e) at l
-              in
+          in
           let z : keep (λ c. eqb c.id i) (map (λ m. class_from s (o + m * 3)) (rising (suc j) k)) ≡ [] =
           keep-none (λ c. eqb c.id i) _ (any-id (rising (suc j) k) ∙ q) in
           rw (z, lt-ltb j (j + suc k) (omega arith))
       go ih l false e =
           let q : suc j + k ≡ j + suc k = omega arith in
           ih ∙ ap (λ m. cond (ltb (first_from (has_id s o i) (suc j) k) m) (class_from s (o + first_from (has_id s o i)
-              (suc j) k * 3) ∷ []) []) q
+          (suc j) k * 3) ∷ []) []) q
 
   -- Where no id occurs twice, the classes of an id are the one that is found, or none.
   pub found : (n : ℕ) → distinct_column s o n ≡ true
@@ -182,7 +182,7 @@ module _ (s : List ℕ) (o i : ℕ) where
   found n d =
       found_from 0 n d
       ∙ ap (λ m. cond (ltb (first_from (has_id s o i) 0 n) m) (class_from s (o + first_from (has_id s o i) 0 n * 3) ∷
-          []) []) (omega arith)
+      []) []) (omega arith)
 
   -- Its id is the one looked for.
   first-is : (j k : ℕ) → first_from (has_id s o i) j k < j + k → entry_at s o (first_from (has_id s o i) j k) ≡ i

@@ -85,7 +85,7 @@ module _ (cs : List SpacingClass) (list : List ℕ) where
       let g : read_kind (drop here list) ≡ got k r = next_got read_kind list here o e no_kind r h in
       let f = kind-read (drop here list) k r g in
       let more : values_of (many read_kind (t + 1) list) ≡ values_of (many read_kind t list) ++ (k ∷ []) = values_more
-          read_kind list t here k r w.reads g in
+      read_kind list t here k r w.reads g in
       let kd : k.demand ≡ d = f.demand ∙ byte_first list here ∙ sym p in
       let km : k.classes ≡ m = f.classes ∙ byte_behind list here 2 ∙ sym q in
       record {
@@ -98,7 +98,7 @@ module _ (cs : List SpacingClass) (list : List ℕ) where
         present =
             ap₂ ◌&&◌ w.present (a ∙ ap (absent_none cs) (sym km) ∙ sym (names-mask cs k))
             ∙ sym (ap (all (names_present cs)) more ∙ all_more (names_present cs) (values_of (many read_kind t list))
-                k);
+            k);
       }
 
   pub list_bad : (n : ℕ) → many read_kind n list ≡ bad → true ≡ list_unfit cs list n
@@ -111,7 +111,7 @@ module _ (cs : List SpacingClass) (list : List ℕ) where
   list_read t n here demand named q w =
       rw (w.demands, w.present)
       (sym (ap (λ i. kinds_unfit cs (length list) (many read_kind i list)) (sym q) ∙ ap (kinds_unfit cs (length list))
-          w.reads))
+      w.reads))
 
 -- A kind that can be read takes at least the bytes of its four fields.
 pub kind-room : (list : List ℕ) (here r : ℕ) (o : Option ℕ) → o ≡ taken (read_kind (lib.ListN.take (length list - here)

@@ -30,7 +30,7 @@ list_all-corners (a ∷ P) = ap (λ b. vertex_in_range a && b) (list_all-corners
 -- The corners behind the part's first byte.
 pub part-in : (s : List ℕ) (n m : ℕ) (cs : List Vertex) → m ≡ n * 2 → n * 2 + 1 ≤ length s
     → take (length (take m (drop 1 s)) / 2) cs ≡ vertices (length (take m (drop 1 s)) / 2) (take m (drop 1 s)) → take n
-        cs ≡ vertices n (drop 1 s)
+    cs ≡ vertices n (drop 1 s)
 unfolding byte_at
 part-in s n m cs em h e =
     let l : length (take m (drop 1 s)) / 2 ≡ n = omega (arith, length-take m (drop 1 s), length-drop 1 s) in
@@ -44,9 +44,9 @@ module _ (s : List ℕ) (n : ℕ) where
   pub corner : (i : ℕ) → i < n → get_or (vertices n (drop 1 s)) i origin ≡ vertex_from s i
   corner i h =
       let a : byte_at (drop 1 s) (i * 2) ≡ byte_at s (i * 2 + 1) = byte_behind s 1 (i * 2) ∙ ap (byte_at s)
-          (omega arith) in
+      (omega arith) in
       let b : byte_at (drop 1 s) (i * 2 + 1) ≡ byte_at s (i * 2 + 2) = byte_behind s 1 (i * 2 + 1) ∙ ap (byte_at s)
-          (omega arith) in
+      (omega arith) in
       vertex-at n (drop 1 s) i h ∙ rw (a, b)
 
   -- The part, corner by corner.
@@ -61,7 +61,7 @@ module _ (s : List ℕ) (n : ℕ) where
       there : (i : ℕ) → i < n → get_or (part_from s n) i origin ≡ vertex_from s i
       there i l =
           get_or-map-at (vertex_from s) (below n) i 0 origin (rw (length-below n) l) ∙ ap (vertex_from s) (get_or-below
-              n i 0 l)
+          n i 0 l)
 
   pub next_lt : (i : ℕ) → i < n → next_of n i < n
   unfolding next_of
@@ -80,7 +80,7 @@ module _ (s : List ℕ) (n : ℕ) where
   edge_same i h =
       rw (length-vertices n (drop 1 s), next_following i, corner i h, corner (next_of n i) (next_lt i h))
       (all_same _ _ n (λ k l. ap (λ v. eqb k i || eqb k (next_of n i) || strictly_left (vertex_from s i) (vertex_from s
-          (next_of n i)) v) (corner k l)))
+      (next_of n i)) v) (corner k l)))
 
   pub sound-same : Geometry.sound (vertices n (drop 1 s)) ≡ sound_from s n
   unfolding Geometry.sound sound_from

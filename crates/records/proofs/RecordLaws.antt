@@ -101,7 +101,7 @@ tail_length s a = ap length (tail s a) ∙ length-drop a s
 -- The size of a part, by its test.
 part-taken : (s : List ℕ)
     → then_some (between 3 8 (byte_at s 0) && leb (1 + byte_at s 0 * 2) (length s)) (1 + byte_at s 0 * 2) ≡ taken
-        (read_part s)
+    (read_part s)
 unfolding taken read_part
 part-taken s = go (between 3 8 (byte_at s 0) && leb (1 + byte_at s 0 * 2) (length s))
   where
@@ -145,7 +145,7 @@ pub head_fits : (s : List ℕ) → head_in_range s ≡ true → HeadFits s
 unfolding head_in_range
 head_fits s e =
     let tests = and_four (leb 4 (length s)) (between 1 12 (byte_at s 0)) (between 1 15 (byte_at s 1))
-        (between 1 6 (byte_at s 3)) e in
+    (between 1 6 (byte_at s 3)) e in
     let n = between-both 1 6 (byte_at s 3) tests.3 in
     record { whole = leb-true _ _ tests.0; parts_least = n.0; parts_most = n.1 }
 

@@ -72,8 +72,13 @@ module _ (s : List ℕ) (o n : ℕ) where
 
   pub risen_begin : (places : List ℕ) → length places ≡ 8 → RisenTo s o n 0 0 places
   unfolding concat below rising
-  risen_begin places e = record { classes = refl; inside = λ i h. absurd (not-suc-le-zero h); size = e; few = omega
-      arith }
+  risen_begin places e = record {
+    classes = refl;
+    inside = λ i h. absurd (not-suc-le-zero h);
+    size = e;
+    few = omega
+        arith;
+  }
 
   module _ (id done : ℕ) (places : List ℕ) (r : RisenTo s o n id done places) (fit : classes_unfit s o n ≡ false) where
     of_id_lem : (t : Bool) → ltb (index_of s o n id) n ≡ t → classes_of_id id cs ≡ cond t (class_from s (o + index_of s
@@ -111,7 +116,7 @@ module _ (s : List ℕ) (o n : ℕ) where
           map-below-more (λ i. class_from s (get_or next i 0)) done
           ∙ ap₂ (λ l c. l ++ (c ∷ []))
           (map-below-same (λ i. class_from s (get_or next i 0)) (λ i. class_from s (get_or places i 0)) done
-              (λ i h. ap (class_from s) (kept i h))
+          (λ i h. ap (class_from s) (kept i h))
           ∙ r.classes)
           (ap (class_from s) (here ∙ ap (λ m. o + m * 3) e))
           ∙ ap (λ l. risen_below id cs ++ l) (sym (of_id_lem true (lt-ltb _ _ less))) ∙ sym (risen_more cs id)
@@ -141,7 +146,7 @@ module _ (s : List ℕ) (o n : ℕ) where
       let all_there : classes_at_first s places done ≡ by_rising_id cs = r.classes ∙ ap (λ i. risen_below i cs) e in
       let count : done ≡ n =
       sym (length-first s places done) ∙ ap length all_there ∙ sym (length-permuted (risen_permuted cs (ranged s o n
-          fit))) ∙ length_from s o n in
+      fit))) ∙ length_from s o n in
       record {
         classes = ap (classes_at_first s places) (sym count) ∙ all_there;
         inside = λ i h. r.inside i (omega arith);

@@ -87,23 +87,25 @@ pub edge_small : (a b : Vertex) → SFits w8 a.x → SFits w8 a.y → SFits w8 b
 unfolding det
 edge_small a b p q r t =
     bounded (128 ∷ 128 ∷ 128 ∷ 128 ∷ []) 4 (λ p q r t. p ⊠ t ⊟ q ⊠ r) a.x a.y b.x b.y (size_of w8 a.x p)
-        (size_of w8 a.y q) (size_of w8 b.x r)
+    (size_of w8 a.y q) (size_of w8 b.x r)
     (size_of w8 b.y t)
 
 -- One edge more, of up to eight, in 64 bits.
 module _ (P : List Vertex) (k : ℕ) (h : k < 8) (a d : ℤ) (small : nat_abs a ≤ k * 32768) (more : nat_abs d ≤ 32768)
-    where
-  sum-small : nat_abs (a +ℤ d) ≤ (k + 1) * 32768
-  sum-small = let z = nat_abs-+ℤ a d in omega (arith, z)
+  where
+    sum-small : nat_abs (a +ℤ d) ≤ (k + 1) * 32768
+    sum-small = let z = nat_abs-+ℤ a d in omega (arith, z)
 
-  pub more_fits : SFits w64 (a +ℤ d)
-  more_fits = fits-64 (a +ℤ d) (omega (arith, sum-small))
+    pub more_fits : SFits w64 (a +ℤ d)
+    more_fits = fits-64 (a +ℤ d) (omega (arith, sum-small))
 
-  pub more_is : a ≡ sum_below (edge_area P) k → d ≡ edge_area P k
-      → (to_z w64 (of_z w64 (a +ℤ d)) ≡ sum_below (edge_area P) (k + 1)) × (nat_abs (to_z w64 (of_z w64 (a +ℤ d))) ≤
-          (k + 1) * 32768)
-  unfolding sum_below
-  more_is ea ed =
-      let e = to_z-of_z w64 (a +ℤ d) more_fits in
-      (e ∙ ap₂ ◌+ℤ◌ ea ed ∙ ap (sum_below (edge_area P)) (sym (add-one k)), subst (λ z. nat_abs z ≤ (k + 1) * 32768)
-          (sym e) sum-small)
+    pub more_is : a ≡ sum_below (edge_area P) k → d ≡ edge_area P k
+        → (to_z w64 (of_z w64 (a +ℤ d)) ≡ sum_below (edge_area P) (k + 1)) × (nat_abs (to_z w64 (of_z w64 (a +ℤ d))) ≤
+        (k + 1) * 32768)
+    unfolding sum_below
+    more_is ea ed =
+        let e = to_z-of_z w64 (a +ℤ d) more_fits in (
+          e ∙ ap₂ ◌+ℤ◌ ea ed ∙ ap (sum_below (edge_area P)) (sym (add-one k)),
+          subst (λ z. nat_abs z ≤ (k + 1) * 32768)
+              (sym e) sum-small,
+        )

@@ -46,11 +46,11 @@ less_than_lem a b u t = sym (and_assoc (lt_z a u && lt_z a t) (lt_z b u) (lt_z b
 module _ (a b u t : ℤ) (fa : SFits w8 a) (fb : SFits w8 b) (fu : SFits w8 u) (ft : SFits w8 t) where
   pub apart-read : (w x y z : ℤ) (r : Bool)
       → r ≡ (less_than (lent a) (lent b) (lent u) (lent t) || less_than (lent u) (lent t) (lent a) (lent b)) → a ≡ w →
-          b ≡ x → u ≡ y → t ≡ z
+      b ≡ x → u ≡ y → t ≡ z
       → r ≡ (less_than w x y z || less_than y z w x)
   apart-read w x y z r e ew ex ey ez =
       let back : (v v' : ℤ) → SFits w8 v → v ≡ v' → lent v ≡ v' = λ (v v' : ℤ) (f : SFits w8 v) (q : v ≡ v'). to_z-of_z
-          w8 v f ∙ q in
+      w8 v f ∙ q in
       let A = back a w fa ew in
       let B = back b x fb ex in
       let U = back u y fu ey in
@@ -64,13 +64,13 @@ six a b c d e f = ap (λ x. x || (e || f)) (sym (or_assoc (a || b) c d)) ∙ sym
 -- They meet, from the four tests of them.
 pub meet-is : (a b u t : Vertex) (p q x y : Bool) → p ≡ same_side a b u t → q ≡ same_side u t a b
     → x ≡ (less_than a.x b.x u.x t.x || less_than u.x t.x a.x b.x) → y ≡ (less_than a.y b.y u.y t.y || less_than u.y
-        t.y a.y b.y)
+    t.y a.y b.y)
     → not (p || q || x || y) ≡ meet a b u t
 unfolding meet
 meet-is a b u t p q x y ep eq ex ey =
     ap not ((λ i. ep i || eq i || ex i || ey i)
     ∙ six (same_side a b u t) (same_side u t a b) (less_than a.x b.x u.x t.x) (less_than u.x t.x a.x b.x)
-        (less_than a.y b.y u.y t.y)
+    (less_than a.y b.y u.y t.y)
     (less_than u.y t.y a.y b.y))
 
 -- A number is 0 exactly if its 64 bits are: what `== 0` says.
@@ -84,7 +84,7 @@ zero_bits z h =
 pub doubles_is : (p c s : Vertex) (line : Bool) (z ax ay bx by : ℤ) → line ≡ is_zero (cross p c s) → z ≡ ax *ℤ bx +ℤ ay
     *ℤ by
     → ax ≡ p.x -ℤ c.x → ay ≡ p.y -ℤ c.y → bx ≡ s.x -ℤ c.x → by ≡ s.y -ℤ c.y → (line && le_z (pos 0) z) ≡ doubles_back p
-        c s
+    c s
 unfolding doubles_back along_edge
 doubles_is p c s line z ax ay bx by l e a b d f = rw (l, e, a, b, d, f)
 
@@ -114,4 +114,4 @@ module _ (P : List Vertex) where
   pub edges_same : 3 ≤ length P → any (edge_meets_in P) (below (length P)) ≡ edges_meet P
   edges_same three =
       sym (edges_at P ∙ any-below-same (λ i. edge_meets (vertex_at P i) (others P i)) (edge_meets_in P) (length P)
-          (λ i h. edge_same i three h))
+      (λ i h. edge_same i three h))

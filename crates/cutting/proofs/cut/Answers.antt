@@ -30,9 +30,11 @@ corners_in-corners-requires c =
     omega (arith, few_bytes c.args.outline.now (fit_corners c.args.outline.now _ c.unfit.ensures c.if-unfit.false).0)
 
 pub shared_whole_as_front-cut_off : goal.shared_whole_as_front-cut_off
-shared_whole_as_front-cut_off c =
-    ((few-corners c.args.outline.now (fit_corners c.args.outline.now _ c.unfit.ensures c.if-unfit.false).0).1, omega
-        arith)
+shared_whole_as_front-cut_off c = (
+  (few-corners c.args.outline.now (fit_corners c.args.outline.now _ c.unfit.ensures c.if-unfit.false).0).1,
+  omega
+      arith,
+)
 
 pub cut_off-count-requires : goal.cut_off-count-requires
 cut_off-count-requires c =

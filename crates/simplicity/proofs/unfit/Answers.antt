@@ -15,8 +15,11 @@ pub corners_in-all-requires : goal.corners_in-all-requires
 corners_in-all-requires c = omega (arith, room c.args.outline.now (sym c.miscounted.ensures ∙ c.if-miscounted.false))
 
 pub shared_whole_as_front-corners : goal.shared_whole_as_front-corners
-shared_whole_as_front-corners c = (at_most c.args.outline.now (sym c.miscounted.ensures ∙ c.if-miscounted.false), omega
-    arith)
+shared_whole_as_front-corners c = (
+  at_most c.args.outline.now (sym c.miscounted.ensures ∙ c.if-miscounted.false),
+  omega
+      arith,
+)
 
 pub edges_meet-requires : goal.edges_meet-requires
 edges_meet-requires c =
@@ -30,6 +33,6 @@ edges_meet-requires c =
 pub returns : goal.returns
 returns c =
     judged c.args.outline.now (sym c.miscounted.ensures ∙ c.if-miscounted.false) _ (c.corners_in-all.ensures ∙
-        outline-is c.args.outline.now) _ _ _
+    outline-is c.args.outline.now) _ _ _
     c.in_range.ensures (to_z-of_z w64 _ (sfits_of c.doubled_area.type_inv) ∙ c.doubled_area.ensures)
-        c.edges_meet.ensures
+    c.edges_meet.ensures

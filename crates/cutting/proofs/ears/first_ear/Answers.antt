@@ -15,6 +15,6 @@ returns c =
     let is : c.find.result ≡ find (is_ear_at P) (range_with_len 0 (length P)) =
     mapped-same c.find.result
     ∙ find_from_yields_List (is_ear_at P) _ _ c.find.result c.find.ensures.ran (YieldsList-from_range 0 (length P) _
-        refl (omega arith)) (λ x b q k. search rules) in
+    refl (omega arith)) (λ x b q k. search rules) in
     let f = found-first is_ear P c.find.result is in
     record { value = f.0; within = f.1 }

@@ -15,4 +15,4 @@ returns c =
     let s = corner-is P c.args.s _ c.requires.1.0 c.index-corners-s.is in
     let v = corner-is P c.args.k _ c.requires.1.1 c.index-corners-k.is in
     ap (λ b. eqb c.args.k c.args.c || eqb c.args.k c.args.p || eqb c.args.k c.args.s || not b) (c.holds.ensures ∙
-        (λ j. holds (p j) (a j) (s j) (v j)))
+    (λ j. holds (p j) (a j) (s j) (v j)))

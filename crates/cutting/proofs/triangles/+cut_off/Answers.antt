@@ -19,7 +19,7 @@ flat_step : (t : ℕ) (c : After-without-left t) → Goes c.args.corners.now (ta
     c.without-left.result) []
 flat_step t c =
     flat_goes c.args.corners.now (omega arith) c.requires.cut_to_the_end c.first_in_line.result c.in-Some.flat _
-        c.first_in_line.ensures.value c.in-Some.is
+    c.first_in_line.ensures.value c.in-Some.is
     c.without-left.ensures
 
 flat_size : (t : ℕ) (c : After-without-left t) → length (take (length c.args.corners.now - 1) c.without-left.result) ≡
@@ -32,7 +32,7 @@ ear_step : (t : ℕ) (c : After-without-left-2 t)
     (triangle_at (place_at c.args.corners.now c.unwrap-ear.result) ∷ [])
 ear_step t c =
     ear_goes c.args.corners.now (omega arith) c.requires.cut_to_the_end c.first_in_line.result c.in_default.is
-        c.first_in_line.ensures.value
+    c.first_in_line.ensures.value
     c.first_ear.result c.unwrap-ear.result _ c.first_ear.ensures.value c.unwrap-ear.ensures c.without-left-2.ensures
 
 ear_size : (t : ℕ) (c : After-without-left-2 t) → length (take (length c.args.corners.now - 1) c.without-left-2.result)
@@ -47,7 +47,7 @@ pub returns-then-n-eq2-clause-answer_after : goal.returns-then-n-eq2-clause-answ
 returns-then-n-eq2-clause-answer_after t c =
     no_triangle c.args.at c.args.answer.now
     ∙ ap (λ ts. with_numbers_at c.args.at (triangles_numbers ts) c.args.answer.now) (sym (two_left c.args.corners.now
-        c.if-n-eq2.true))
+    c.if-n-eq2.true))
 
 pub cut_off-requires : goal.cut_off-requires
 cut_off-requires t c =
@@ -65,13 +65,13 @@ pub returns-in-Some-clause-answer_after : goal.returns-in-Some-clause-answer_aft
 returns-in-Some-clause-answer_after t c =
     let at = (goal.at.returns-in-Some-clause-answer_after t c).After-without-left in
     c.cut_off.ensures.answer_after ∙ ap (λ ts. with_numbers_at c.args.at (triangles_numbers ts) c.args.answer.now)
-        (sym (flat_step t at).whole)
+    (sym (flat_step t at).whole)
 
 pub unwrap-ear-requires : goal.unwrap-ear-requires
 unwrap-ear-requires t c =
     some_there c.first_ear.result
     (ear_there c.args.corners.now (omega arith) c.requires.cut_to_the_end c.first_in_line.result c.in_default.is
-        c.first_in_line.ensures.value
+    c.first_in_line.ensures.value
     c.first_ear.result c.first_ear.ensures.value)
 
 pub cut_off-requires-2 : goal.cut_off-requires-2
@@ -90,4 +90,4 @@ pub returns-clause-answer_after : goal.returns-clause-answer_after
 returns-clause-answer_after t c =
     let at = (goal.at.returns-clause-answer_after t c).After-without-left-2 in
     triangles-written _ _ _ (ear_step t at).whole c.args.at c.args.answer.now _ _ c.put_triangle.ensures
-        c.cut_off-2.ensures.answer_after
+    c.cut_off-2.ensures.answer_after

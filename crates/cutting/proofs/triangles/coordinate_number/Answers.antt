@@ -11,7 +11,7 @@ pub returns : goal.returns
 returns c = (
   c.from-2.ensures ∙ c.cast_unsigned.ensures
       ∙ ap (of_z w16) (to_z-of_z w16 c.from.result (sfits_of c.from.type_inv) ∙ c.from.ensures ∙ to_z-of_z w8 c.args.z
-          c.ranges.z)
+      c.ranges.z)
       ∙ coordinate-bits c.args.z,
   omega (arith, c.cast_unsigned.type_inv, c.from-2.ensures),
 )

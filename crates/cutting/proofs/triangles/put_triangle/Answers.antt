@@ -10,7 +10,7 @@ returns c =
     let i = corner-is P c.args.i _ c.requires.0.1 c.index-corners-i.is in
     let q = corner-is P c.next.result _ c.next.ensures.1 c.index-corners-next.is ∙ ap (vertex_at P) c.next.ensures.0 in
     let p = corner-is P c.previous.result _ c.previous.ensures.1 c.index-corners-previous.is ∙ ap (vertex_at P)
-        c.previous.ensures.0 in
+    c.previous.ensures.0 in
     triangle-written P c.args.i c.requires.0.1 c.requires.0.0 _ _ _ i q p c.args.at c.args.answer.now _ _ _
-        c.put_corner.ensures c.put_corner-2.ensures
+    c.put_corner.ensures c.put_corner-2.ensures
     c.put_corner-3.ensures

@@ -10,6 +10,6 @@ pub returns : goal.returns
 unfolding has_id
 returns c =
     position_from_yields_List (has_id c.args.job.now c.args.at c.args.value) _ _ _ c.position.ensures.ran
-        (YieldsList-from_range 0 _ _ refl (omega arith))
+    (YieldsList-from_range 0 _ _ refl (omega arith))
     (λ x b q k. search rules)
     ∙ position-first c.args.job.now c.args.at c.args.n c.args.value

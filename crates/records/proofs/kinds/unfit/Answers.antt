@@ -10,7 +10,7 @@ loop-init c = (omega arith, seen_none _ _)
 pub returns-in_default : goal.returns-in_default
 returns-in_default c =
     list_bad _ _ _ (stop read_kind c.args.list.now c.loop.here c.kind_size.result c.kind_size.ensures.value
-        c.loop.counter c.args.kinds c.loop-test.true
+    c.loop.counter c.args.kinds c.loop-test.true
     c.loop.invariant.1.reads c.in_default.is)
 
 pub byte-demand-requires : goal.byte-demand-requires

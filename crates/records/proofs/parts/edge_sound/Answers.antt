@@ -17,8 +17,8 @@ returns c =
     let P = c.args.corners.now in
     let i = c.args.i in
     all_below (λ k. eqb k i || eqb k c.next-q.result || strictly_left (vertex_at P i) (vertex_at P c.next-q.result)
-        (vertex_at P k)) (length P) _ _
+    (vertex_at P k)) (length P) _ _
     c.all.ensures.ran (YieldsList-from_range 0 (length P) _ refl (omega arith)) (λ x b q k. search rules)
     ∙ ap (λ q. all (λ k. eqb k i || eqb k q || strictly_left (vertex_at P i) (vertex_at P q) (vertex_at P k))
-        (below (length P)))
+    (below (length P)))
     (c.next-q.ensures.0 ∙ sym (following-of P i))

@@ -8,5 +8,5 @@ use Rattle.records.proofs.parts.in_range.Goals as goal
 pub returns : goal.returns
 returns c =
     all_from_yields_List vertex_in_range _ _ _ c.all.ensures.ran (YieldsList-from_slice c.args.corners.now
-        c.iter.ensures.rest) (λ x b q k. search rules)
+    c.iter.ensures.rest) (λ x b q k. search rules)
     ∙ list_all-corners c.args.corners.now

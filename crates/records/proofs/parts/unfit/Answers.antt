@@ -11,4 +11,4 @@ pub returns : goal.returns
 returns c =
     let e = part-in c.args.part.now c.args.n _ _ (omega arith) c.requires.1 c.corners_in-all.ensures in
     ap₂ (λ a b. not a || not b) (c.sound.ensures ∙ ap sound e) (c.in_range.ensures ∙ ap (all vertex_in_range) e) ∙ sym
-        (unfit_same c.args.part.now c.args.n)
+    (unfit_same c.args.part.now c.args.n)

@@ -21,12 +21,12 @@ loop-id-preserved c =
           let f = some-found first c.args.n w.in-Some.j c.find.result c.find.ensures w.in-Some.is in
           rw (w.places-is, w.done-is)
           (risen-stored s c.args.at c.args.n c.loop-id.id c.loop-id.done c.loop-id.places c.loop-id.invariant
-              c.requires.1 w.in-Some.j f.0 f.1
+          c.requires.1 w.in-Some.j f.0 f.1
           c.loop-id-test.true c.requires.0)
       | in_default w ↦
           rw (w.places-is, w.done-is)
           (risen-missing s c.args.at c.args.n c.loop-id.id c.loop-id.done c.loop-id.places c.loop-id.invariant
-              c.requires.1
+          c.requires.1
           (none-found first c.args.n c.find.result c.find.ensures w.in_default.is))
     ]
 

@@ -9,12 +9,18 @@ returns-then-not-head_in_range-clause-value c = kind-headless c.args.kind.now (s
     c.if-not-head_in_range.true)
 
 pub slice_bounds-parts_size-count : goal.slice_bounds-parts_size-count
-slice_bounds-parts_size-count c = omega (arith, head_fits c.args.kind.now (sym c.head_in_range.ensures ∙
-    c.if-not-head_in_range.false))
+slice_bounds-parts_size-count c = omega (
+  arith,
+  head_fits c.args.kind.now (sym c.head_in_range.ensures ∙
+      c.if-not-head_in_range.false),
+)
 
 pub slice_bounds-parts_size-start : goal.slice_bounds-parts_size-start
-slice_bounds-parts_size-start c = omega (arith, head_fits c.args.kind.now (sym c.head_in_range.ensures ∙
-    c.if-not-head_in_range.false))
+slice_bounds-parts_size-start c = omega (
+  arith,
+  head_fits c.args.kind.now (sym c.head_in_range.ensures ∙
+      c.if-not-head_in_range.false),
+)
 
 pub byte-requires : goal.byte-requires
 byte-requires c = omega (arith, head_fits c.args.kind.now (sym c.head_in_range.ensures ∙ c.if-not-head_in_range.false))
@@ -23,13 +29,13 @@ pub returns-in_err-parts-clause-value : goal.returns-in_err-parts-clause-value
 returns-in_err-parts-clause-value c =
     c.from_residual.ensures
     ∙ kind-refused c.args.kind.now c.parts_size.result c.byte.result (sym c.head_in_range.ensures ∙
-        c.if-not-head_in_range.false) c.byte.ensures.0
+    c.if-not-head_in_range.false) c.byte.ensures.0
     c.parts_size.ensures.value c.in_err-parts.was
 
 pub returns-clause-value : goal.returns-clause-value
 returns-clause-value c =
     kind-taken c.args.kind.now c.parts_size.result c.byte.result (sym c.head_in_range.ensures ∙
-        c.if-not-head_in_range.false) c.byte.ensures.0
+    c.if-not-head_in_range.false) c.byte.ensures.0
     c.parts_size.ensures.value c.in_ok-parts.parts c.in_ok-parts.was
 
 pub returns-clause-within : goal.returns-clause-within

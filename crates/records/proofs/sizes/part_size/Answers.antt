@@ -10,4 +10,4 @@ pub returns-clause-value : goal.returns-clause-value
 returns-clause-value c =
     c.then_some.ensures
     ∙ part-sized c.args.part.now c.from-corners.result c.in_range.result (ap Some c.from-corners.ensures ∙
-        c.in_ok-first.ensures.value) c.in_range.ensures
+    c.in_ok-first.ensures.value) c.in_range.ensures

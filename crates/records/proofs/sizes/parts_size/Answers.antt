@@ -12,7 +12,7 @@ pub returns-in_err-at-clause-value : goal.returns-in_err-at-clause-value
 returns-in_err-at-clause-value c =
     c.from_residual.ensures
     ∙ none-taken _ (stop read_part c.args.parts.now c.loop.at c.part_size.result c.part_size.ensures.value
-        c.loop.counter c.args.n c.loop-test.true
+    c.loop.counter c.args.n c.loop-test.true
     c.loop.invariant.1 c.in_err-at.was)
 
 pub loop-preserved : goal.loop-preserved

@@ -29,7 +29,7 @@ added_is c =
 added-small : (c : After-determinant-area) → nat_abs (added c) ≤ 32768
 added-small c =
     subst (λ (z : ℤ). nat_abs z ≤ 32768) (sym (to_z-of_z w64 c.determinant-area.result
-        (sfits_of c.determinant-area.type_inv))) c.determinant-area.ensures.small
+    (sfits_of c.determinant-area.type_inv))) c.determinant-area.ensures.small
 
 pub loop-k-init : goal.loop-k-init
 unfolding sum_below
@@ -39,7 +39,7 @@ pub loop-k-preserved : goal.loop-k-preserved
 loop-k-preserved c =
     let at = (goal.at.loop-k-preserved c).After-determinant-area in
     more_is c.args.corners.now c.loop-k.k (omega (arith, c.requires, c.loop-k-test.true)) (to_z w64 c.loop-k.area-bits)
-        (added at) c.loop-k.invariant.1
+    (added at) c.loop-k.invariant.1
     (added-small at) c.loop-k.invariant.0
     (added_is at)
 

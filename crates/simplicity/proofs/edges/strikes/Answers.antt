@@ -14,5 +14,5 @@ returns c =
     let b = corner-is P c.next.result _ c.next.ensures.1 c.index-corners-next.is ∙ ap (vertex_at P) c.next.ensures.0 in
     let u = corner-is P c.args.j _ c.requires.1 c.index-corners-j.is in
     let t = corner-is P c.next-2.result _ c.next-2.ensures.1 c.index-corners-next-2.is ∙ ap (vertex_at P)
-        c.next-2.ensures.0 in
+    c.next-2.ensures.0 in
     ap₂ ◌&&◌ (ap not c.share_corner.ensures) (c.meets.ensures ∙ (λ k. meet (a k) (b k) (u k) (t k)))
