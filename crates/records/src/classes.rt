@@ -1,4 +1,5 @@
-// The class list: what a gap byte means, cause 5 of refusal, and where the class of an id stands.
+// The class list: what a gap byte means, cause 5 of refusal, and where the class of an id stands. Job, place and count stay
+// three parameters: the contracts of `find`, `unfit` and `places`, which other crates call, name them.
 ghost use Rattle.std.specs.Prelude.{cond, ltb, Some, None, ◌≡◌, ◌+◌, ◌*◌, ◌≤◌, ◌<◌, length};
 ghost use Rattle.records.specs.Classes.{all_in_range, distinct_column, classes_unfit, index_of};
 ghost use Rattle.model.specs.Format.{marks_cut, gap_meant, class_from, class_in_range};

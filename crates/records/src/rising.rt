@@ -5,7 +5,8 @@ ghost use Rattle.records.specs.Rising.{ByRisingId};
 
 use crate::classes;
 
-// Where each of the n classes from byte `at` on begins, by rising id. Of the entries the first n count.
+// Where each of the n classes from byte `at` on begins, by rising id. Of the entries the first n count: there is room
+// for eight, and no heap.
 pub fn places(job: &[u8], at: usize, n: usize) -> [usize; 8]
     requires { (at + n * 3 ≤ length job.now) × (classes_unfit job.now at n ≡ false) }
     ensures { ByRisingId job.now at n result }

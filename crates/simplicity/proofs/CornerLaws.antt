@@ -1,6 +1,6 @@
 -- The corner before one, and an outline's corners in its bytes.
 use mathlib.Core.List.{List}
-use mathlib.Core.Path.{◌≡◌, refl, ◌∙◌}
+use mathlib.Core.Path.{◌≡◌, refl}
 use Prim.Native.Nat.{ℕ, ◌/◌}
 use lib.ListN.{length}
 use Rattle.model.specs.Content.{Vertex}

@@ -17,7 +17,7 @@ fn miscounted(outline: &[u8]) -> bool
     ensures { result ≡ (count_unfit outline.now || odd_byte outline.now) }
 {
     let n = outline.len() / 2;
-    !((3 <= n) & (n <= 8)) | (outline.len() % 2 != 0)
+    !(3..=8).contains(&n) | (outline.len() % 2 != 0)
 }
 
 // Cause 14. The corners are counted before they are copied, since there is room for eight.

@@ -9,7 +9,7 @@ use borrow.Author.Rules.{sfits_of}
 use Rattle.model.specs.Geometry.{vertex_at}
 use Rattle.outlines.specs.Outline.{det}
 use Rattle.simplicity.specs.Corners.{sum_below, edge_area}
-use Rattle.simplicity.proofs.AreaLaws.{area_is, more_fits, more_is}
+use Rattle.simplicity.proofs.AreaLaws.{area_is, more_is}
 use Rattle.records.proofs.CornerLaws.{corner-is}
 use Rattle.simplicity.proofs.area.doubled_area.Goals as goal
 use Rattle.simplicity.proofs.area.doubled_area.Goals.{After-determinant-area}
