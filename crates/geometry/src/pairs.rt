@@ -32,13 +32,9 @@ fn both_clear(p: Part, q: Part, by: Move, gap: u16) -> bool
     ensures { result ≡
         both_clear gap (part_of p.entry.numbers.now) (map (shifted by.dx by.dy) (part_of q.entry.numbers.now)) }
 {
-    if gap == 0 {
-        return true;
-    }
-    if !corners_clear(q.corners(), by, p.corners(), gap) {
-        return false;
-    }
-    corners_clear(p.corners(), by.back(), q.corners(), gap)
+    gap == 0
+        || (corners_clear(q.corners(), by, p.corners(), gap)
+            && corners_clear(p.corners(), by.back(), q.corners(), gap))
 }
 
 // Whether p and q, moved, are separated at this gap, if that is told without asking the edges of q; where it is not, no

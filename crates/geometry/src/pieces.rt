@@ -27,15 +27,6 @@ fn part_start(p: Piece, i: usize) -> usize
     p.first + i * 20
 }
 
-// How many numbers its vertices have.
-fn part_length(p: Piece, i: usize) -> usize
-    requires { Fitting p × (i < p.count) }
-    ensures { (result ≡ get_or p.sizes i 0 * 2) × (result ≤ 16) }
-{
-    let sizes = p.sizes;
-    sizes[i] * 2
-}
-
 // The box of part i, as the table has it.
 pub fn part_box(table: &[i16], p: Piece, i: usize) -> Extents
     requires { (Fitting p × (i < p.count)) × (length table.now ≡ 4096) }
@@ -66,7 +57,7 @@ impl<'a, 'b> TablePiece<'a, 'b> {
     {
         let at = part_start(*self.piece, i) + 4;
         Part {
-            numbers: &self.table[at..at + part_length(*self.piece, i)],
+            numbers: &self.table[at..at + self.piece.sizes[i] * 2],
         }
     }
 }
