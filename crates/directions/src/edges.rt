@@ -31,6 +31,7 @@ pub fn next_vertex(p: &[i16], k: usize) -> usize
 // Whether the outward normal of an edge of p separates p from q, moved by (dx, dy). The first one that does ends the
 // test. Both are sound: no vertex of p lies further along the normal than the edge's own, so that only those of q are
 // asked, and the first that does not lie beyond it ends the test of that normal.
+// (The parts are slices, since a struct with small numbers, as distances has it, would ask for more.)
 pub fn edges_separate(p: &[i16], q: &[i16], dx: i16, dy: i16) -> bool
     requires { SoundPart (part_of p.now) × SoundPart (part_of q.now) }
     ensures { result ≡ any (separates_moved (part_of p.now) (part_of q.now) (vertex dx dy)) (normals (part_of p.now)) }

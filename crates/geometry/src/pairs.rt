@@ -17,7 +17,7 @@ fn clear_of(high: i16, from: i16, low: i16, to: i16, gap: u16) -> bool
     (high as i64) + (from as i64) + (gap as i64) <= (low as i64) + (to as i64)
 }
 
-// Whether these boxes are the gap apart along an axis, the second moved by (dx, dy).
+// Whether these boxes are the gap apart along an axis, the second moved by (dx, dy), however far: a Move would ask more.
 pub fn boxes_apart(e: Extents, f: Extents, dx: i16, dy: i16, gap: u16) -> bool
     ensures { result ≡ boxes_apart gap e f dx dy }
 {

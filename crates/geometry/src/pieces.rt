@@ -27,7 +27,7 @@ fn part_start(p: Piece, i: usize) -> usize
     p.first + i * 20
 }
 
-// The box of part i, as the table has it.
+// The box of part i, as the table has it. (A TablePiece would ask more: the box may be of any numbers.)
 pub fn part_box(table: &[i16], p: Piece, i: usize) -> Extents
     requires { (Fitting p × (i < p.count)) × (length table.now ≡ 4096) }
     ensures { result ≡ box_in table.now p i }
@@ -92,7 +92,7 @@ fn part_conflicts(p: &TablePiece, i: usize, q: &TablePiece, by: Move, gap: u16) 
     (0..q.piece.count).any(|m| parts_conflict(p, i, q, m, by, gap))
 }
 
-// Whether the piece p is in conflict at this gap with the piece q, moved by (dx, dy).
+// Whether the piece p is in conflict at this gap with the piece q, moved by (dx, dy). (Callers name the one table once.)
 pub fn pieces_conflict(table: &[i16], p: Piece, q: Piece, dx: i16, dy: i16, gap: u16) -> bool
     requires { (Standing table.now p × Standing table.now q) × Short 4096 dx dy }
     ensures { result ≡ pieces_conflict gap (parts_in table.now p) (map (map (shifted dx dy)) (parts_in table.now q)) }
