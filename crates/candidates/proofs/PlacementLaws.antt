@@ -1,20 +1,20 @@
 -- The test of a placement, step by step as the code makes it. Assumes nothing.
 use mathlib.Core.Bool.{Bool, cond, true, false, not, ◌&&◌, ◌||◌}
 use mathlib.Core.List.{[], ◌∷◌}
-use mathlib.Core.Logic.{◌⊎◌, ⊎_elim}
+use mathlib.Core.Logic.{⊎_elim}
 use mathlib.Core.Path.{◌≡◌, refl, sym, ap, ap₂, subst, ◌∙◌}
-use Prim.Native.Nat.{ℕ, zero, suc, ◌+◌, ◌%◌, ◌^◌, ◌≤◌, ◌<◌}
+use Prim.Native.Nat.{ℕ, zero, suc, ◌%◌, ◌^◌, ◌≤◌, ◌<◌}
 use native.Mathlib.Nat.{le_trans, lt_of_le_of_lt}
 use native.Mathlib.Omega.{arith}
 use borrow.Author.Tests.{lt-ltb, le-ltb, le-leb, lt-leb, leb-false, not-true, not-false}
 use lib.Dec.{T, leb, ltb, lit≤, lit<}
 use lib.IntN.{ℤ, pos, negsuc, nat_abs, ◌+ℤ◌, ◌-ℤ◌}
-use lib.Signed.{lt_z, non_neg, ◌<ℤ◌}
+use lib.Signed.{lt_z, non_neg}
 use mir.Syntax.{w16, w64}
 use mir.Val.{Fits, SFits, to_z, of_z}
 use mir.ValLaws.{to_z-of_z, to_z_pos}
 use Rattle.std.specs.Int.{int_max}
-use Rattle.integers.proofs.Order.{lt_z_true, lt_z_false, <ℤ-pos}
+use Rattle.integers.proofs.Order.{lt_z_false}
 use Rattle.integers.proofs.Products.{widened}
 use Rattle.integers.proofs.Sizes.{bounded, size_of, fits-64}
 use Rattle.integers.proofs.Solver.{◌⊞◌, ◌⊟◌}

@@ -19,7 +19,7 @@ use Rattle.model.specs.Content.{Vertex, Part, Board, SpacingClass, Kind, kind_at
 use Rattle.model.specs.Format.{content, refusal}
 use Rattle.model.specs.Gap.{kind_gap, share_cut, pair_gap}
 use Rattle.model.specs.Geometry.{rotated, moved}
-use Rattle.model.specs.Grid.{Placement, placement, rows, columns, dots, number_limit, placement_of}
+use Rattle.model.specs.Grid.{placement, rows, columns, dots, number_limit, placement_of}
 use Rattle.model.specs.Layout.{entry, entry_of, entry_kind, conflict}
 use Rattle.model.specs.Lists.{all, concat}
 use Rattle.model.specs.Problem.{Problem, under}

@@ -2,13 +2,11 @@
 use Rattle.job.specs.View.{rotations_of}
 use mathlib.Core.Bool.{Bool, true, false, ◌&&◌}
 use mathlib.Core.List.{List, [], ◌∷◌}
-use mathlib.Core.Path.{◌≡◌, refl, sym, ap, ◌∙◌}
+use mathlib.Core.Path.{◌≡◌, refl, ◌∙◌}
 use Prim.Native.Nat.{ℕ, ◌+◌, ◌*◌, ◌/◌, ◌%◌, ◌≤◌, ◌<◌, min}
 use native.Mathlib.Omega.{arith}
-use borrow.Author.Tests.{lt-ltb, le-ltb}
 use lib.Dec.{ltb}
 use lib.IntN.{ℤ, pos, negsuc, ◌+ℤ◌, ◌-ℤ◌}
-use lib.ListN.{get_or}
 use lib.Signed.{le_z}
 use Rattle.integers.proofs.Linear.{linear, ◌⊩◌}
 use Rattle.integers.proofs.Order.{le_z_true, ≤ℤ-pos, pos-≤ℤ}
@@ -18,19 +16,17 @@ use Rattle.model.specs.Candidate.{natural}
 use Rattle.model.specs.Content.{kind_count}
 use Rattle.model.specs.Format.{content}
 use Rattle.model.specs.Grid.{rows, columns, dots, set_words}
-use Rattle.model.specs.Layout.{Entry, entry_kind, entry_of, is_entry, entry_extent}
-use Rattle.model.specs.Candidate.{is_candidate}
-use Rattle.model.specs.Problem.{Problem}
+use Rattle.model.specs.Layout.{Entry, entry_kind, is_entry, entry_extent}
 use Rattle.std.specs.Int.{div_ceil}
 use Rattle.model.proofs.Accepted.{accepted-sensible, accepted-dots}
-use Rattle.model.proofs.Lists.{and_left, and_right, not_both}
+use Rattle.model.proofs.Lists.{and_left, and_right}
 use Rattle.model.proofs.Search.Pieces.{admitted-parts, few-turns, entry-kind}
 use Rattle.job.specs.View.{problem_of, Viewed}
 use Rattle.job.specs.declared.View.{View}
 use Rattle.shapes.specs.Boxes.{box_at, BoxesOf}
 use Rattle.shapes.specs.declared.boxes.Boxes.{Boxes}
 use Rattle.candidates.specs.Conflicts.{Near, placed}
-use Rattle.candidates.specs.Placements.{Bounded, within, fits_at, placeable, extent_at}
+use Rattle.candidates.specs.Placements.{within, fits_at, placeable, extent_at}
 use Rattle.candidates.proofs.PreparedLaws.{bounded, placeable-is, extent-is}
 
 -- ---- what is known of it

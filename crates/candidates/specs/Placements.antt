@@ -1,6 +1,6 @@
 -- Placements as the code tests them: by the numbers of a view and the boxes of the kinds. The laws say that this is the model's `admitted`, and its
 -- `extent`.
-use Rattle.std.specs.Prelude.{Bool, ◌&&◌, ℕ, ◌+◌, ◌*◌, ◌/◌, ◌%◌, ◌≤◌, ◌<◌, ltb, ℤ, pos, ◌+ℤ◌, ◌-ℤ◌, get_or}
+use Rattle.std.specs.Prelude.{Bool, ◌&&◌, ℕ, ◌*◌, ◌/◌, ◌%◌, ◌≤◌, ◌<◌, ltb, ℤ, pos, ◌+ℤ◌, ◌-ℤ◌}
 use Rattle.std.specs.Int.Signed.{le_z}
 use Rattle.words.specs.Bits.{test_bit}
 use Rattle.model.specs.Candidate.{natural}

@@ -2,9 +2,7 @@
 use Rattle.job.specs.View.{gap_of}
 use mathlib.Core.Path.{ap, ◌∙◌}
 use native.Mathlib.Omega.{arith}
-use lib.ListN.{get_or}
 use Rattle.candidates.specs.Conflicts.{gap_between}
-use borrow.Author.Rules.{rules}
 use Rattle.candidates.proofs.conflicts.pair_gap.Goals as goal
 
 pub share_cut-requires : goal.share_cut-requires

@@ -1,6 +1,6 @@
 use mathlib.Core.Path.{◌≡◌, ap}
 use lib.IntN.{pos, nat_abs, ◌+ℤ◌}
-use mir.Syntax.{w16, w64}
+use mir.Syntax.{w64}
 use mir.Val.{to_z, of_z}
 use borrow.Author.Rules.{sfits_of}
 use Rattle.model.specs.Candidate.{natural}

@@ -1,7 +1,6 @@
 -- `candidates::placements::extent` meets its contract. Assumes nothing.
 use mathlib.Core.Path.{ap, ◌∙◌}
 use Prim.Native.Nat.{◌*◌}
-use native.Mathlib.Omega.{arith}
 use borrow.Author.Rules.{sfits_of}
 use lib.IntN.{pos, ◌+ℤ◌}
 use mir.Syntax.{w16}
@@ -10,15 +9,6 @@ use Rattle.model.specs.Candidate.{natural}
 use Rattle.polygons.specs.declared.extents.Extents.{Extents}
 use Rattle.candidates.specs.Placements.{extent_at}
 use Rattle.candidates.proofs.placements.extent.Goals as goal
-
-pub box_at-e-requires : goal.box_at-e-requires
-box_at-e-requires c = (omega (arith, c.requires.0.0.kinds, c.requires.0.1), c.requires.1.1)
-
-pub overflow_mul-place : goal.overflow_mul-place
-overflow_mul-place c = omega (arith, c.requires.0.0.across _ c.requires.1.0)
-
-pub end_of-requires : goal.end_of-requires
-end_of-requires c = omega (arith, c.requires.0.0.across _ c.requires.1.0)
 
 pub returns : goal.returns
 unfolding extent_at

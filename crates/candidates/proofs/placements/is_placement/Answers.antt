@@ -3,16 +3,13 @@ use Rattle.job.specs.View.{rotations_of}
 use mathlib.Core.Bool.{true}
 use mathlib.Core.Path.{◌≡◌, ap, ◌∙◌}
 use Prim.Native.Nat.{◌<◌}
-use native.Mathlib.Omega.{arith}
 use borrow.Author.Tests.{lt-ltb}
 use lib.Dec.{ltb}
-use lib.ListN.{get_or}
 use Rattle.words.specs.Bits.{test_bit}
 use Rattle.candidates.specs.Placements.{fits_at, placeable}
 use Rattle.polygons.specs.declared.extents.Extents.{Extents}
 use Rattle.shapes.specs.Boxes.{box_at}
 use Rattle.candidates.proofs.PlacementLaws.{past_board, on_dots, turn-refused, turn-allowed, refused-turn, allowed}
-use borrow.Author.Rules.{rules}
 use Rattle.candidates.proofs.placements.is_placement.Goals as goal
 
 pub returns-then-place-view : goal.returns-then-place-view
@@ -24,17 +21,6 @@ unfolding placeable
 returns-then-place-test_bit c =
     refused-turn (ltb c.args.place.column c.args.view.columns) (ltb c.args.place.row c.args.view.rows) _
     (fits_at c.args.view (box_at c.args.boxes c.args.kind c.args.place.rotation) c.args.place.column c.args.place.row) (turn-refused (rotations_of c.args.view c.args.kind) c.args.place.rotation _ (c.requires.0.rotations _ c.requires.1) c.test_bit.ensures c.if-place-test_bit.true)
-
-pub box_at-requires : goal.box_at-requires
-box_at-requires c =
-    let turn : (c.args.place.rotation < 4)
-    × (test_bit (rotations_of c.args.view c.args.kind) c.args.place.rotation ≡ true) = turn-allowed (rotations_of c.args.view c.args.kind) c.args.place.rotation _ (c.requires.0.rotations _ c.requires.1) c.test_bit.ensures c.if-place-test_bit.false in
-    (omega (arith, c.requires.0.kinds, c.requires.1), (turn).0)
-
-pub stays_on_board-requires : goal.stays_on_board-requires
-stays_on_board-requires c =
-    let dots : (c.args.place.column < c.args.view.columns) × (c.args.place.row < c.args.view.rows) = on_dots c.args.place.column c.args.view.columns c.args.place.row c.args.view.rows c.if-place-view.false in
-    (c.requires.0, dots)
 
 pub returns : goal.returns
 unfolding placeable

@@ -5,21 +5,8 @@ use borrow.Author.Rules.{rules}
 use Rattle.candidates.proofs.PlacementLaws.{both}
 use mir.Syntax.{w16}
 use Rattle.integers.proofs.Machine.{read₂}
-use native.Mathlib.Omega.{arith}
 use Rattle.candidates.specs.Placements.{within, fits_at}
 use Rattle.candidates.proofs.placements.stays_on_board.Goals as goal
-
-pub overflow_mul-place : goal.overflow_mul-place
-overflow_mul-place c = omega (arith, c.requires.0.across _ c.requires.1.0)
-
-pub stays_within-requires : goal.stays_within-requires
-stays_within-requires c = (omega (arith, c.requires.0.across _ c.requires.1.0), (c.requires.0.margin, c.requires.0.size.0))
-
-pub overflow_mul-place-2 : goal.overflow_mul-place-2
-overflow_mul-place-2 c = omega (arith, c.requires.0.up _ c.requires.1.1)
-
-pub stays_within-requires-2 : goal.stays_within-requires-2
-stays_within-requires-2 c = (omega (arith, c.requires.0.up _ c.requires.1.1), (c.requires.0.margin, c.requires.0.size.1))
 
 pub returns : goal.returns
 unfolding fits_at

@@ -1,4 +1,4 @@
-use mathlib.Core.Path.{◌≡◌, sym, ◌∙◌}
+use mathlib.Core.Path.{◌∙◌}
 use native.Mathlib.Omega.{arith}
 use Rattle.candidates.proofs.StandingLaws.{few-dots, words_counted}
 use Rattle.candidates.proofs.prepared.PreparedJob.set_words.Goals as goal
