@@ -38,7 +38,8 @@ fn way(from: usize, to: usize) -> i16
     (to as i16) - (from as i16)
 }
 
-// Whether the piece p at the place a is in conflict with the piece q at the place c. Only the way from the one dot to the other counts.
+// Whether the piece p at the place a is in conflict with the piece q at the place c.
+// Only the way from the one dot to the other counts.
 pub fn conflict_between(
     turned: &[i16],
     step: usize,
@@ -75,7 +76,8 @@ pub fn share_cut(view: View, kind: usize, other: usize) -> bool
     }
 }
 
-// The gap of a pair of kinds, from the gaps of both: none where they share a common cut, and otherwise the larger of the two.
+// The gap of a pair of kinds, from the gaps of both: none where they share a common cut, and
+// otherwise the larger of the two.
 pub fn gap_between(g: usize, h: usize, shared: bool) -> u16
     requires { (g ≤ 63) × (h ≤ 63) }
     ensures { result ≡ gap_between g h shared }

@@ -5,7 +5,8 @@ use candidates::conflicts::{Placed, conflict_between, placed_of};
 use candidates::prepared::PreparedJob;
 use geometry::pieces::Piece;
 
-// A candidate, by its kind and its number, and another kind; the pieces of the two, where the candidate stands, and the gap of the pair.
+// A candidate, by its kind and its number, and another kind; the pieces of the two, where the candidate stands, and the
+// gap of the pair.
 #[derive(Clone, Copy)]
 pub struct Asked<'a> {
     pub prepared: &'a PreparedJob<'a>,

@@ -50,7 +50,8 @@ fn row_content(
     Ok(n as u16)
 }
 
-// Where, under a margin, the candidates of a second kind are in conflict with a candidate, given as its kind and its number: ceil(D / 16) words.
+// Where, under a margin, the candidates of a second kind are in conflict with a candidate, given as its kind and its
+// number: ceil(D / 16) words.
 pub fn row(
     job: &[u8],
     margin: usize,

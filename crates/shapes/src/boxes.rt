@@ -12,7 +12,8 @@ use geometry::pieces::{Piece, part_box};
 use job::View;
 use polygons::extents::{Extents, join, point};
 
-// The box of kind t turned k quarter turns stands at t × 4 + k.
+// The box of kind t turned k quarter turns stands at t × 4 + k: one list, since the no-fit patterns and the plan go over
+// all boxes by that index.
 #[derive(Clone, Copy)]
 pub struct Boxes {
     pub of: [Extents; 32],

@@ -17,7 +17,8 @@ fn rotated_x(x: i16, y: i16, rotation: usize) -> i16
     }
 }
 
-// Writes the vertex (x, y), turned, at `at`: its y is the x after one turn less. (-32768 has no opposite of 16 bits; the coordinates of a job are from -127 to 127.)
+// Writes the vertex (x, y), turned, at `at`: its y is the x after one turn less.
+// (-32768 has no opposite of 16 bits; the coordinates of a job are from -127 to 127.)
 pub fn put_rotated(dst: &mut [i16], at: usize, x: i16, y: i16, rotation: usize)
     requires { (at + 1 < length dst.old) × (rotation < 4) × (nat_abs x < 32768) × (nat_abs y < 32768) }
     ensures { dst.new ≡ with_vertex dst.old at (rotated rotation (vertex x y)) }

@@ -1,4 +1,6 @@
 // Every part at each of the four quarter turns, its vertices and its box, computed once for a call.
+// Bytes and table go by index and not as slices: each call would cut both by the same sums, and the definitions name
+// the place in the table.
 ghost use Rattle.std.specs.Prelude.{map, ◌≡◌, ◌+◌, ◌*◌, ◌≤◌, ◌<◌, length, take, drop};
 ghost use Rattle.model.specs.Content.{kind_count};
 ghost use Rattle.model.specs.Format.{content, vertices};
@@ -51,7 +53,8 @@ fn put_box(turned: &mut [i16], at: usize, e: Extents)
     turned[at..at + 4].copy_from_slice(&[e.min_x, e.max_x, e.min_y, e.max_y]);
 }
 
-// A part of n vertices whose bytes begin at `from`, turned k quarter turns, into the slot that begins at `at`: first its vertices, then, in front of them, their box.
+// A part of n vertices whose bytes begin at `from`, turned k quarter turns, into the slot that begins at `at`:
+// first its vertices, then, in front of them, their box.
 fn turn_slot(job: &[u8], from: usize, n: usize, k: usize, turned: &mut [i16], at: usize)
     requires { ((k < 4) × (n ≤ 8)) × ((from + n * 2 ≤ length job.now) × ((at ≤ 4096) × (at + 4 + n * 2 ≤ length turned.old))) }
     ensures { turned.new ≡ with_slot turned.old at (map (rotated k) (vertices n (drop from job.now))) }

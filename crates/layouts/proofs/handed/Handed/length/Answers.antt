@@ -19,9 +19,6 @@ loop-i-preserved c = (
   largest-next (entry_extent (problem_for c.args.self.now)) c.args.self.now.layout.now c.loop-i.i _ _ _ c.loop-i.invariant.1 c.end_of.ensures.end c.max-longest.ensures,
 )
 
-pub overflow_add-result : goal.overflow_add-result
-overflow_add-result c = omega (arith, c.loop-i.invariant.0, c.args.self.now.prepared.now.prepared.viewed.view.margin)
-
 pub returns : goal.returns
 unfolding layout_length largest_end
 returns c =
