@@ -2,16 +2,12 @@
 ghost use Rattle.std.specs.Prelude.{◌≡◌};
 ghost use Rattle.model.specs.Layout;
 ghost use Rattle.model.specs.Services.{check_content};
-ghost use Rattle.job.specs.View.{problem_of};
-ghost use Rattle.candidates.specs.Conflicts.{Prepared};
 ghost use Rattle.candidates.specs.Prepared.{problem_in};
 ghost use Rattle.layouts.specs.Handed.{problem_for, layout_for};
 
 use crate::handed::Handed;
 use candidates::prepared::PreparedJob;
-use job::View;
 use model::Refusal;
-use shapes::boxes::Boxes;
 
 impl<'a> Handed<'a> {
     // Whether the layout passes. Conflict is tested last: it is told of candidates only.
@@ -34,24 +30,4 @@ pub fn judge(prepared: &PreparedJob, layout: &[u8]) -> Result<u16, Refusal>
         return Err(Refusal::Layout);
     }
     Ok(handed.length() as u16)
-}
-
-// The same, of what is prepared in its parts.
-pub fn judged(
-    job: &[u8],
-    view: View,
-    turned: &[i16],
-    boxes: Boxes,
-    layout: &[u8],
-) -> Result<u16, Refusal>
-    requires { Prepared job.now view turned.now boxes }
-    ensures { result ≡ check_content (problem_of job.now view) layout.now }
-{
-    let prepared = PreparedJob {
-        job,
-        view,
-        turned,
-        boxes,
-    };
-    judge(&prepared, layout)
 }
