@@ -141,9 +141,10 @@ pub record HeadFits (s : List ℕ) : Type 0 where
   pub parts_least : 1 ≤ byte_at s 3
   pub parts_most : byte_at s 3 ≤ 6
 
-pub head_fits : (s : List ℕ) → head_in_range s ≡ true → HeadFits s
+pub head_fits : (s : List ℕ) (t : Bool) → t ≡ head_in_range s → t ≡ true → HeadFits s
 unfolding head_in_range
-head_fits s e =
+head_fits s t told held =
+    let e : head_in_range s ≡ true = sym told ∙ held in
     let tests = and_four (leb 4 (length s)) (between 1 12 (byte_at s 0)) (between 1 15 (byte_at s 1))
     (between 1 6 (byte_at s 3)) e in
     let n = between-both 1 6 (byte_at s 3) tests.3 in
@@ -151,9 +152,9 @@ head_fits s e =
 
 -- The size of a kind, from the size of its parts.
 module _ (s : List ℕ) where
-  pub kind-headless : head_in_range s ≡ false → None ≡ taken (read_kind s)
+  pub kind-headless : (t : Bool) → t ≡ head_in_range s → t ≡ false → None ≡ taken (read_kind s)
   unfolding read_kind taken
-  kind-headless e = rw (e, read_kind)
+  kind-headless t told failed = let e : head_in_range s ≡ false = sym told ∙ failed in rw (e, read_kind)
 
   read_kind-parts : head_in_range s ≡ true → read_kind s ≡ with_parts s (many read_part (byte_at s 3) (drop 4 s))
   unfolding read_kind
@@ -170,15 +171,16 @@ module _ (s : List ℕ) where
   with-none (got ps m) e = cc
 
   -- The n parts behind the fields take r bytes, if they can be read.
-  module _ (r : Option ℕ) (n : ℕ) (h : head_in_range s ≡ true) (en : n ≡ byte_at s 3) (e : r ≡ taken (many read_part n
-      (take (length s - 4) (drop 4 s)))) where
+  module _ (t : Bool) (told : t ≡ head_in_range s) (held : t ≡ true) (r : Option ℕ) (n : ℕ) (en : n ≡ byte_at s 3)
+      (e : r ≡ taken (many read_part n (take (length s - 4) (drop 4 s)))) where
     parts-taken : r ≡ taken (many read_part (byte_at s 3) (drop 4 s))
     parts-taken = e ∙ ap₂ (λ m l. taken (many read_part m l)) en (tail s 4)
 
+    kind-parts : taken (with_parts s (many read_part (byte_at s 3) (drop 4 s))) ≡ taken (read_kind s)
+    kind-parts = sym (ap taken (read_kind-parts (sym told ∙ held)))
+
     pub kind-taken : (k : ℕ) → r ≡ Some k → Some (4 + k) ≡ taken (read_kind s)
-    kind-taken k z = with-taken (many read_part (byte_at s 3) (drop 4 s)) k (sym parts-taken ∙ z) ∙ sym
-        (ap taken (read_kind-parts h))
+    kind-taken k z = with-taken (many read_part (byte_at s 3) (drop 4 s)) k (sym parts-taken ∙ z) ∙ kind-parts
 
     pub kind-refused : r ≡ None → None ≡ taken (read_kind s)
-    kind-refused z = with-none (many read_part (byte_at s 3) (drop 4 s)) (sym parts-taken ∙ z) ∙ sym
-        (ap taken (read_kind-parts h))
+    kind-refused z = with-none (many read_part (byte_at s 3) (drop 4 s)) (sym parts-taken ∙ z) ∙ kind-parts
