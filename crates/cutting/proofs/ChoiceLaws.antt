@@ -36,8 +36,8 @@ module _ (p : ℕ → Bool) where
   lowest i zero = λ j l m. absurd (omega arith)
   lowest i (suc k) = go (p i) refl (find p (range_with_len (i + 1) k)) (lowest (i + 1) k)
     where
-      later : p i ≡ false → (n : ℕ) → ((j : ℕ) → i + 1 ≤ j → j < n → p j ≡ false) → (j : ℕ) → i ≤ j → j < n → p j ≡
-          false
+      later : p i ≡ false → (n : ℕ) → ((j : ℕ) → i + 1 ≤ j → j < n → p j ≡ false) → (j : ℕ) → i ≤ j → j < n → p j
+          ≡ false
       later e n h j l m = ⊎_elim (λ q. let x : j ≡ i = omega arith in ap p x ∙ e) (λ q. h j (omega arith) m)
           (le_or_lt j i)
 

@@ -29,8 +29,8 @@ rest-is P i a b x y r h ea eb =
     let lb : length b ≡ length P - suc i = ap length all ∙ length-drop (suc i) P in
     let same : (a ++ (b ++ y)) ++ r ≡ (a ++ b) ++ (y ++ r) = simp append_assoc in
     ap (λ l. take (length P - 1) ((l ++ (b ++ y)) ++ r)) (front i a x la) ∙ ap (take (length P - 1)) same
-    ∙ front (length P - 1) (a ++ b) (y ++ r) (omega (arith, length-append a b)) ∙ ap₂ (λ l m. l ++ m) ea all ∙ sym
-    (rest_at P i)
+    ∙ front (length P - 1) (a ++ b) (y ++ r) (omega (arith, length-append a b)) ∙ ap₂ (λ l m. l ++ m) ea all
+    ∙ sym (rest_at P i)
 
 pub rest-length : (P Q : List Vertex) (i : ℕ) → Q ≡ rest (place_at P i) → i < length P → length Q ≡ length P - 1
 rest-length P Q i e h =

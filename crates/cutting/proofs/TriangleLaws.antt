@@ -48,8 +48,8 @@ unfolding vertex_numbers triangle_numbers
 three_corners_lem a b c = refl
 
 -- Three corners, one after the other.
-pub triangle-written : (P : List Vertex) (i : ℕ) → i < length P → 2 ≤ length P → (c q p : Vertex) → c ≡ vertex_at P i →
-    q ≡ after P i → p ≡ before P i
+pub triangle-written : (P : List Vertex) (i : ℕ) → i < length P → 2 ≤ length P → (c q p : Vertex) → c ≡ vertex_at P i
+    → q ≡ after P i → p ≡ before P i
     → (at : ℕ) (a u v w : List ℕ) → u ≡ with_numbers_at at (vertex_numbers c) a → v ≡ with_numbers_at (at + 2)
     (vertex_numbers q) u
     → w ≡ with_numbers_at (at + 4) (vertex_numbers p) v → w ≡ with_numbers_at at (triangle_numbers
@@ -75,8 +75,8 @@ unfolding triangle_numbers vertex_numbers
 length-triangle t = refl
 
 -- A triangle in front of those of the rest.
-pub triangles-written : (t : Triangle) (ts us : List Triangle) → us ≡ t ∷ ts → (at : ℕ) (a u v : List ℕ) → u ≡
-    with_numbers_at at (triangle_numbers t) a
+pub triangles-written : (t : Triangle) (ts us : List Triangle) → us ≡ t ∷ ts → (at : ℕ) (a u v : List ℕ) → u
+    ≡ with_numbers_at at (triangle_numbers t) a
     → v ≡ with_numbers_at (at + 6) (triangles_numbers ts) u → v ≡ with_numbers_at at (triangles_numbers us) a
 unfolding triangles_numbers concat
 triangles-written t ts us e at a u v eu ev =
@@ -92,8 +92,8 @@ pub record Goes (P Q : List Vertex) (more : List Triangle) : Type 0 where
   pub whole : triangles_of P ≡ more ++ triangles_of Q
 
 -- A triangle before those of the rest: there is a rest.
-onto_parts : (t : Triangle) (o : Option (List Triangle)) (ts : List Triangle) → onto t o ≡ some ts →
-    (o ≡ some (listed o)) × (listed (onto t o) ≡ t ∷ listed o)
+onto_parts : (t : Triangle) (o : Option (List Triangle)) (ts : List Triangle) → onto t o ≡ some ts
+    → (o ≡ some (listed o)) × (listed (onto t o) ≡ t ∷ listed o)
 unfolding onto listed
 onto_parts t none ts e = some-none e
 onto_parts t (some us) ts e = (refl, refl)
@@ -122,8 +122,8 @@ module _ (P : List Vertex) (three : 3 ≤ length P) (e : triangles P ≡ some (t
       w = q ∙ ap (found P) is
 
       same : triangles P ≡ triangles Q
-      same = steps ∙ cut-flat (length P - 3) P f w ∙ sym (rest-steps f (found-place in_line [] P f w).is) ∙ ap
-          triangles (sym r)
+      same = steps ∙ cut-flat (length P - 3) P f w ∙ sym (rest-steps f (found-place in_line [] P f w).is)
+          ∙ ap triangles (sym r)
 
   module _ (o : Std.Option ℕ) (out : o ≡ None) (q : first_where in_line [] P ≡ found P o) where
     none-flat : first_where in_line [] P ≡ none

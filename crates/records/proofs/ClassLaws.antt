@@ -61,8 +61,8 @@ module _ (s : List ℕ) (o : ℕ) where
       let rest = all (λ j. eqb (cond (has_id s o (entry_at s o j) i) i (f j)) j) (rising (suc i) k) in
       ap (λ d. not (any (eqb (entry_at s o i)) (map (entry_at s o) (rising (suc i) k))) && d) (distinct_from (suc i) k)
       ∙ sym (later f i (suc i) k (omega arith))
-      ∙ sym (ap (λ b. eqb (cond b i (f i)) i && rest) (eq-eqb (entry_at s o i) (entry_at s o i) refl) ∙ ap
-      (λ b. b && rest) (eq-eqb i i refl))
+      ∙ sym (ap (λ b. eqb (cond b i (f i)) i && rest) (eq-eqb (entry_at s o i) (entry_at s o i) refl)
+      ∙ ap (λ b. b && rest) (eq-eqb i i refl))
 
   -- Entry j of n is the first of its value.
   abbrev pub is_first : ℕ → ℕ → Bool

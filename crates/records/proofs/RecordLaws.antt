@@ -74,8 +74,8 @@ module _ {A : Type 0} where
     reads-bad n l m h r e = many-bad f n l s _ m h r e
 
 -- A loop over records. r is how many bytes the next one takes, from byte m on.
-module _ {A : Type 0} (f : List ℕ → Got A) (s : List ℕ) (m : ℕ) (r : Option ℕ) (e : r ≡ taken
-    (f (take (length s - m) (drop m s)))) where
+module _ {A : Type 0} (f : List ℕ → Got A) (s : List ℕ) (m : ℕ) (r : Option ℕ) (e : r
+    ≡ taken (f (take (length s - m) (drop m s)))) where
   here : r ≡ taken (f (drop m s))
   here = e ∙ ap (λ l. taken (f l)) (tail s m)
 
@@ -88,8 +88,8 @@ module _ {A : Type 0} (f : List ℕ → Got A) (s : List ℕ) (m : ℕ) (r : Opt
   pub stop : (n l : ℕ) → n < l → Reads (many f n s) m → r ≡ None → many f l s ≡ bad
   stop n l h w z = reads-bad f s n l m h w (taken-bad (f (drop m s)) (sym here ∙ z))
 
-pub done : {A : Type 0} (f : List ℕ → Got A) (s : List ℕ) (n l m : ℕ) → n ≡ l → Reads (many f n s) m → Some m ≡ taken
-    (many f l s)
+pub done : {A : Type 0} (f : List ℕ → Got A) (s : List ℕ) (n l m : ℕ) → n ≡ l → Reads (many f n s) m → Some m
+    ≡ taken (many f l s)
 done f s n l m e w = some-taken (many f n s) _ m w ∙ ap (λ i. taken (many f i s)) e
 
 -- The length of a piece to the end.
@@ -100,8 +100,8 @@ tail_length s a = ap length (tail s a) ∙ length-drop a s
 
 -- The size of a part, by its test.
 part-taken : (s : List ℕ)
-    → then_some (between 3 8 (byte_at s 0) && leb (1 + byte_at s 0 * 2) (length s)) (1 + byte_at s 0 * 2) ≡ taken
-    (read_part s)
+    → then_some (between 3 8 (byte_at s 0) && leb (1 + byte_at s 0 * 2) (length s)) (1 + byte_at s 0 * 2)
+    ≡ taken (read_part s)
 unfolding taken read_part
 part-taken s = go (between 3 8 (byte_at s 0) && leb (1 + byte_at s 0 * 2) (length s))
   where

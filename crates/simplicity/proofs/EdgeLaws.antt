@@ -45,8 +45,8 @@ less_than_lem a b u t = sym (and_assoc (lt_z a u && lt_z a t) (lt_z b u) (lt_z b
 
 module _ (a b u t : ℤ) (fa : SFits w8 a) (fb : SFits w8 b) (fu : SFits w8 u) (ft : SFits w8 t) where
   pub apart-read : (w x y z : ℤ) (r : Bool)
-      → r ≡ (less_than (lent a) (lent b) (lent u) (lent t) || less_than (lent u) (lent t) (lent a) (lent b)) → a ≡ w →
-      b ≡ x → u ≡ y → t ≡ z
+      → r ≡ (less_than (lent a) (lent b) (lent u) (lent t) || less_than (lent u) (lent t) (lent a) (lent b)) → a ≡ w
+      → b ≡ x → u ≡ y → t ≡ z
       → r ≡ (less_than w x y z || less_than y z w x)
   apart-read w x y z r e ew ex ey ez =
       let back : (v v' : ℤ) → SFits w8 v → v ≡ v' → lent v ≡ v' = λ (v v' : ℤ) (f : SFits w8 v) (q : v ≡ v'). to_z-of_z

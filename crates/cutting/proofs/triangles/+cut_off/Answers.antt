@@ -22,8 +22,8 @@ flat_step t c =
     c.first_in_line.ensures.value c.in-Some.is
     c.without-left.ensures
 
-flat_size : (t : ℕ) (c : After-without-left t) → length (take (length c.args.corners.now - 1) c.without-left.result) ≡
-    length c.args.corners.now - 1
+flat_size : (t : ℕ) (c : After-without-left t) → length (take (length c.args.corners.now - 1) c.without-left.result)
+    ≡ length c.args.corners.now - 1
 flat_size t c = rest-length c.args.corners.now _ c.in-Some.flat c.without-left.ensures c.in-Some.ensures.within
 
 -- The rest, without the ear.

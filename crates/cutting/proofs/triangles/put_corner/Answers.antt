@@ -12,6 +12,6 @@ returns c =
     corner-written c.args.corner _ _ c.args.at c.args.answer.now _ _
     (c.coordinate_number.ensures.0 ∙ ap coordinate (to_z-of_z w8 c.corner.inside.x (search rules) ∙ ap (λ (v : Vertex).
     v.x) c.corner.view_is))
-    (c.coordinate_number-2.ensures.0 ∙ ap coordinate (to_z-of_z w8 c.corner.inside.y (search rules) ∙ ap
-    (λ (v : Vertex). v.y) c.corner.view_is))
+    (c.coordinate_number-2.ensures.0 ∙ ap coordinate (to_z-of_z w8 c.corner.inside.y (search rules)
+    ∙ ap (λ (v : Vertex). v.y) c.corner.view_is))
     c.put.ensures c.put-2.ensures

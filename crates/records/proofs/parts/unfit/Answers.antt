@@ -10,5 +10,5 @@ use Rattle.records.proofs.parts.unfit.Goals as goal
 pub returns : goal.returns
 returns c =
     let e = part-in c.args.part.now c.args.n _ _ (omega arith) c.requires.1 c.corners_in-all.ensures in
-    ap₂ (λ a b. not a || not b) (c.sound.ensures ∙ ap sound e) (c.in_range.ensures ∙ ap (all vertex_in_range) e) ∙ sym
-    (unfit_same c.args.part.now c.args.n)
+    ap₂ (λ a b. not a || not b) (c.sound.ensures ∙ ap sound e) (c.in_range.ensures ∙ ap (all vertex_in_range) e)
+    ∙ sym (unfit_same c.args.part.now c.args.n)
