@@ -1,20 +1,15 @@
 -- Filling the strings: the offset of a dot, a bit, a word, a run of words. Assumes nothing.
 use mathlib.Core.Bool.{Bool, true, false, not}
-use mathlib.Core.List.{List, [], ◌∷◌}
+use mathlib.Core.List.{List}
 use mathlib.Core.Logic.{◌⊎◌, inl, inr, ⊎_elim}
 use mathlib.Core.Path.{◌≡◌, refl, sym, ap, ◌∙◌}
 use Prim.Native.Nat.{ℕ, ◌+◌, ◌-◌, ◌*◌, ◌/◌, ◌%◌, ◌^◌, ◌≤◌, ◌<◌}
-use native.Mathlib.Nat.{lt_of_le_of_lt, mul-le-mul_right, mod-lt, mod-le, div-le_self, mod-eq_of_lt, div-eq_of_lt, mul-add-div_right, mul-add-mod_self_right, div-add-mod'}
+use native.Mathlib.Nat.{mul-le-mul_right, mod-lt, mod-eq_of_lt, div-eq_of_lt, mul-add-div_right, mul-add-mod_self_right, div-add-mod'}
 use native.Mathlib.Omega.{arith}
 use borrow.Author.Tests.{le-leb, lt-leb, lt-ltb, le-ltb}
 use lib.Dec.{lit<, leb, ltb}
-use lib.IntN.{ℤ, pos, ◌-ℤ◌}
+use lib.IntN.{ℤ}
 use lib.ListN.{length}
-use mir.Syntax.{w16}
-use mir.Val.{SFits, to_z}
-use mir.ValLaws.{to_z_pos}
-use Rattle.integers.proofs.Sizes.{bounded, fits_nat_abs}
-use Rattle.integers.proofs.Solver.{◌⊟◌}
 use Rattle.words.specs.Bits.{test_bit, assigned_bit}
 use Rattle.words.specs.Number.{with_number}
 use Rattle.words.specs.Sets.{word_offset, member}
@@ -31,15 +26,6 @@ use Rattle.nofit.specs.declared.patterns.Dot.{Dot}
 use Rattle.nofit.specs.declared.patterns.Pattern.{Pattern}
 
 -- ---- how far from the middle
-
-pub away_value : (n m : ℕ) → n ≤ 4000 → m ≤ 4000 → to_z w16 n -ℤ to_z w16 m ≡ pos n -ℤ pos m
-away_value n m hn hm =
-    ap (λ z. z -ℤ to_z w16 m) (to_z_pos w16 n (lt_of_le_of_lt hn (lit< tt))) ∙ ap (λ z. pos n -ℤ z) (to_z_pos w16 m (lt_of_le_of_lt hm (lit< tt)))
-
--- the difference fits, whichever number is the larger
-pub away_fits : (n m : ℕ) → n ≤ 4000 → m ≤ 4000 → SFits w16 (to_z w16 n -ℤ to_z w16 m)
-away_fits n m hn hm =
-    rw (away_value n m hn hm) (fits_nat_abs w16 (pos n -ℤ pos m) (lt_of_le_of_lt (bounded (4000 ∷ 4000 ∷ []) 2 (λ n m. n ⊟ m) (pos n) (pos m) hn hm) (lit< tt)))
 
 -- twice the way to the edge
 pub twice_middle : (n m step : ℕ) → n < m * 2 + 1 → m * step ≤ 2000 → n * step ≤ 4000
@@ -82,15 +68,6 @@ pub next_column-is : (rows n : ℕ) (d : Dot) → 1 ≤ rows → d ≡ dot_of ro
 next_column-is rows n d some e h =
     let r : d.row ≡ n % rows = ap (λ (x : Dot). x.row) e in
     (λ j. record { column = (e j).column + 1; row = 0 }) ∙ sym (next_column rows n some (omega arith))
-
-pub row_small : (rows n : ℕ) (d : Dot) → d ≡ dot_of rows n → d.row ≤ n
-row_small rows n d e = let r : d.row ≡ n % rows = ap (λ (x : Dot). x.row) e in omega (arith, mod-le n rows)
-
-pub column-small : (rows n : ℕ) (d : Dot) → d ≡ dot_of rows n → d.column ≤ n
-column-small rows n d e = let r : d.column ≡ n / rows = ap (λ (x : Dot). x.column) e in omega (arith, div-le_self n rows)
-
-pub row_within : (rows n : ℕ) (d : Dot) → 1 ≤ rows → d ≡ dot_of rows n → d.row < rows
-row_within rows n d some e = let r : d.row ≡ n % rows = ap (λ (x : Dot). x.row) e in omega (arith, mod-lt n some)
 
 -- ---- bits
 
@@ -152,9 +129,6 @@ assigned_other true w i m h = test_bit-with_other w i m h
 assigned_other false w i m h = test_bit-without_other w i m h
 
 -- ---- the bits of a rotation
-
-pub turn-none : (k : ℕ) (b : ℕ → Bool) (w : ℕ) → TurnSet k 0 b w w
-turn-none k b w = record { same = λ i h e. absurd (omega arith); other = λ i h. refl }
 
 pub turn-next : (k n : ℕ) (b : ℕ → Bool) (old w v : ℕ) (on : Bool) → k < 4 → TurnSet k n b old w → on ≡ b (n * 4 + k) → v ≡ assigned_bit on w (n * 4 + k)
     → TurnSet k (n + 1) b old v

@@ -3,8 +3,8 @@ use mathlib.Core.Bool.{Bool, true, false, ◌||◌}
 use mathlib.Core.List.{List, [], ◌∷◌, map}
 use mathlib.Core.Logic.{⊎_elim}
 use mathlib.Core.Path.{◌≡◌, refl, sym, ap, ap₂, subst, ◌∙◌}
-use Prim.Native.Nat.{ℕ, min, max, ◌+◌, ◌-◌, ◌*◌, ◌/◌, ◌%◌, ◌^◌, ◌≤◌, ◌<◌}
-use native.Mathlib.Nat.{le_trans, lt_of_le_of_lt, le_of_eq, max-le, add-mul, mul_assoc, mul_comm, mul-le-mul, mul-le-mul_right, div-mul-le_self}
+use Prim.Native.Nat.{ℕ, ◌+◌, ◌-◌, ◌*◌, ◌/◌, ◌%◌, ◌^◌, ◌≤◌, ◌<◌}
+use native.Mathlib.Nat.{le_trans, lt_of_le_of_lt, le_of_eq, max-le, add-mul, mul_comm, mul-le-mul, mul-le-mul_right, div-mul-le_self}
 use native.Mathlib.Omega.{arith}
 use borrow.Author.Count.{below_more}
 use lib.Dec.{lit≤, lit<}
@@ -14,8 +14,7 @@ use lib.Signed.{le_z, ◌≤ℤ◌, ≤ℤ_refl}
 use mir.Syntax.{w16, w64}
 use mir.Val.{SFits, to_z, of_z}
 use mir.ValLaws.{to_z_pos}
-use Rattle.std.specs.Int.{div_ceil, int_max}
-use Rattle.std.proofs.lemmas.Grind.{div_ceil_times}
+use Rattle.std.specs.Int.{int_max}
 use Rattle.integers.proofs.Solver.{#, ◌⊞◌, ◌⊟◌, ◌≲◌}
 use Rattle.integers.proofs.Certificates.{order, ◌⊢◌by◌, hyp, ◌⊕◌}
 use Rattle.integers.proofs.Extrema.{max_upper_left, max_upper_right, min_lower-left, min_lower-right}
@@ -70,12 +69,6 @@ module _ (masks : ℕ → ℕ) (of : List Extents) (n : ℕ) (e : Extents) (befo
   pub around_skip : (b : Bool) (m : ℕ) → b ≡ test_bit (masks (n / 4)) m → m ≡ n % 4 → b ≡ false → Around masks of (n + 1) e
   around_skip b m h k f = below_more _ n before (λ t. absurd (not_both t (sym (ap (test_bit (masks (n / 4))) k) ∙ sym h ∙ f)))
 
--- ---- the largest gap
-
-module _ (gaps : ℕ → ℕ) (n r : ℕ) (before : NoLarger gaps n r) where
-  pub no_larger_next : (k : ℕ) → gaps n ≤ k → r ≤ k → NoLarger gaps (n + 1) k
-  no_larger_next k l h = below_more _ n (λ t g. le_trans (before t g) h) l
-
 -- ---- the span of two pieces
 
 -- the larger of a number and 0
@@ -128,15 +121,6 @@ module _ (low high : ℤ) (gap : ℕ) (fl : SFits w16 low) (fh : SFits w16 high)
   span_most = natural_near ((high -ℤ low) +ℤ pos gap) size
 
 -- ---- so many columns
-
--- So many columns as the quotient says, rounded up, are a span apart; and all columns are more than any two of the board's are apart.
-pub columns-spaced : (span step columns r : ℕ) → 1 ≤ step → 1 ≤ columns → r ≡ max 1 (min (div_ceil span step) columns) → Spaced span step columns r
-columns-spaced span step columns r h k e =
-    record {
-      some = omega arith;
-      most = omega arith;
-      clear = λ d l g. le_trans (div_ceil_times span step h).0 (mul-le-mul_right step (omega arith));
-    }
 
 -- ---- pieces so many columns apart
 
@@ -219,25 +203,8 @@ module _ (s : List ℕ) (v : View) (x : Viewed s v) where
 
 -- ---- the words of a table
 
--- a factor is at most the product
-pub factor_most : (a b n : ℕ) → 1 ≤ a → a * b ≤ n → b ≤ n
-factor_most a b n h l =
-    let k : 1 * b ≤ a * b = mul-le-mul_right b h in
-    omega arith
-
 pub swapped : (a b n : ℕ) → a * b ≤ n → b * a ≤ n
 swapped a b n h = subst (λ m. m ≤ n) (mul_comm a b) h
-
--- the columns of both sides and the placed piece's own
-pub string-dots : (reach rows : ℕ) → (reach * 2 + 1) * rows ≡ reach * rows * 2 + rows
-string-dots reach rows =
-    let e : reach * 2 * rows ≡ reach * rows * 2 = mul_assoc reach 2 rows ∙ ap (λ n. reach * n) (mul_comm 2 rows) ∙ sym (mul_assoc reach rows 2) in
-    let f : (reach * 2 + 1) * rows ≡ reach * 2 * rows + 1 * rows = add-mul (reach * 2) 1 rows in
-    omega arith
-
--- so many strings fit
-pub strings-fit : (n size room : ℕ) → n ≤ room / size → n * size ≤ room
-strings-fit n size room h = le_trans (mul-le-mul_right size h) (div-mul-le_self room size)
 
 pub kinds-most : (kinds : ℕ) → kinds ≤ 8 → kinds * (kinds + 1) ≤ 72
 kinds-most kinds h = mul-le-mul {n₁ = kinds} {m₁ = kinds + 1} {n₂ = 8} {m₂ = 9} h (omega arith)

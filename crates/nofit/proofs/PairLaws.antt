@@ -325,13 +325,7 @@ module _ (j : Job) (w : Nofit) (e : w.kinds ≡ kind_count j.kinds) (i : ℕ) (x
 pub parities-kept : (w : Nofit) (i : ℕ) (asked p : ℕ → Bool) (old new : List ℕ) → Written (w.first + i * w.size) w.size asked p old new → ParitiesOf w old → ParitiesOf w new
 parities-kept w i asked p old new f h m l = f.outside m (inl (omega arith)) ∙ h m l
 
-pub strings-none : (j : Job) (w : Nofit) (bits : List ℕ) → StringsOf j w 0 bits
-strings-none j w bits = record { above = λ t q u z n hq hz h. absurd (omega arith); below = λ t q u z n hq hz h. absurd (omega arith) }
-
 -- ---- parities
-
-pub parities-none : (rows : ℕ) (bits : List ℕ) → ParitiesTo rows 0 bits
-parities-none rows bits p h = absurd (omega arith)
 
 pub parities-next : (rows k : ℕ) (l new : List ℕ) (v : ℕ) → ParitiesTo rows k l → k * 8 + 8 ≤ length l → v < 2 ^ 64 → v ≡ bits_where 64 (parity_bits rows k)
     → new ≡ with_number 8 l (k * 8) v → ParitiesTo rows (k + 1) new

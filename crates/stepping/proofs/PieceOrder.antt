@@ -1,21 +1,19 @@
 -- The pieces in their order, kind by kind, and the copies of a kind among those left.
-use mathlib.Core.List.{List, [], ◌∷◌, ◌++◌}
-use mathlib.Core.Logic.{◌⊎◌, inl, inr}
-use mathlib.Core.Path.{◌≡◌, refl, sym, ◌∙◌}
-use Prim.Native.Nat.{ℕ, zero, suc, ◌+◌, ◌-◌, ◌≤◌, ◌<◌}
+use mathlib.Core.List.{List, [], ◌++◌}
+use mathlib.Core.Path.{◌≡◌, refl, sym}
+use Prim.Native.Nat.{ℕ, suc, ◌+◌, ◌-◌, ◌≤◌, ◌<◌}
 use native.Mathlib.Nat.{sub-zero}
 use native.Mathlib.Numerals.{add-one}
 use native.Mathlib.Omega.{arith}
-use borrow.Author.Tests.{eq-eqb, ne_eqb}
+use borrow.Author.Tests.{eq-eqb}
 use lib.ListN.{replicate}
-use Rattle.words.proofs.Cases.{le_or_lt}
 use Rattle.model.specs.Content.{Kind, kind_at, kind_count, piece_count}
-use Rattle.model.specs.Lists.{concat, count_of, rising, below}
+use Rattle.model.specs.Lists.{concat, rising, below}
 use Rattle.model.specs.Search.{pieces, copies_left}
 use Rattle.model.proofs.Search.Pieces.{count-pieces}
 use Rattle.model.proofs.Sorted.{blocks}
 use Rattle.stepping.specs.Levels.{piece_kind, pieces_from}
-use Rattle.stepping.proofs.Levels.{pieces-next, pieces_end, copies-next}
+use Rattle.stepping.proofs.Levels.{copies-next}
 
 -- The pieces of the kinds from t on.
 unfoldable pub rest_from : List Kind → ℕ → List ℕ
@@ -41,16 +39,9 @@ module _ (ks : List Kind) where
       let e : kind_count ks - t ≡ 0 = omega arith in
       rw e
 
-  -- The copies of a kind left: one more before a piece of that kind, as many before another.
+  -- The copies of a kind left: one more before a piece of that kind.
   pub copies-hit : (u l : ℕ) → l < piece_count ks → piece_kind ks l ≡ u → copies_left u (pieces_from ks l) ≡ copies_left u (pieces_from ks (l + 1)) + 1
   copies-hit u l h e = rw (copies-next ks u l h, eq-eqb u (piece_kind ks l) (sym e), add-one l) (omega arith)
-
-  pub copies-miss : (u l : ℕ) → l < piece_count ks → (piece_kind ks l ≡ u → ⊥) → copies_left u (pieces_from ks l) ≡ copies_left u (pieces_from ks (l + 1))
-  copies-miss u l h e = rw (copies-next ks u l h, ne_eqb u (piece_kind ks l) (λ q. e (sym q)), add-one l) (omega arith)
-
-  pub copies-end : (u : ℕ) → copies_left u (pieces_from ks (piece_count ks)) ≡ 0
-  unfolding copies_left count_of
-  copies-end u = rw (pieces_end ks (piece_count ks) (omega arith))
 
   -- Before the first piece all demanded copies are left.
   pub copies-first : (u : ℕ) → u < kind_count ks → copies_left u (pieces_from ks 0) ≡ (kind_at ks u).demand

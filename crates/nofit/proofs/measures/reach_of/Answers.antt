@@ -27,7 +27,7 @@ returns c =
     let gap = c.largest_gap.result in
     let span = c.span_of-span.result in
     let wide : ((all.max_x -ℤ all.min_x) +ℤ pos gap) ≤ℤ pos span =
-    subst (λ z. z ≤ℤ pos span) (read₂ w16 all.min_x all.max_x (search (rules, c.struct_told-1.given)) (search (rules, c.struct_told-2-1.given)) (λ low high. (high -ℤ low) +ℤ pos gap)) c.span_of-span.ensures.0 in (
+    subst (λ z. z ≤ℤ pos span) (read₂ w16 all.min_x all.max_x (search rules) (search rules) (λ low high. (high -ℤ low) +ℤ pos gap)) c.span_of-span.ensures.0 in (
       reaching s c.args.view c.args.boxes c.requires.0 c.requires.1 all gap span _ c.common_box-all.ensures c.largest_gap.ensures.1 wide c.columns_over.ensures,
       (c.columns_over.ensures.some, c.columns_over.ensures.most),
     )

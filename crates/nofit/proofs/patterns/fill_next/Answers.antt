@@ -8,14 +8,8 @@ use Rattle.model.specs.Format.{content}
 use Rattle.model.proofs.Lists.{not_both}
 use Rattle.shapes.proofs.ViewLaws.{kind-in}
 use Rattle.candidates.proofs.PreparedLaws.{bounded}
-use Rattle.nofit.proofs.PairLaws.{held-few, string-filled, string-skipped, parities-kept}
+use Rattle.nofit.proofs.PairLaws.{string-filled, string-skipped, parities-kept}
 use Rattle.nofit.proofs.patterns.fill_next.Goals as goal
-
-pub pair_of-x-requires : goal.pair_of-x-requires
-pair_of-x-requires c =
-    let p = c.args.prepared.now in
-    let f = c.requires.fillable.0 in
-    ((held-few p.job.now p.view p.prepared.viewed c.args.nofit f.measures).0, omega (arith, c.requires.fillable.1, f.measures.few))
 
 pub is_turned-requires : goal.is_turned-requires
 is_turned-requires c =

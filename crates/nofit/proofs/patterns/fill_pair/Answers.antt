@@ -47,9 +47,6 @@ pattern_of-requires c =
       small = pair_small p.job.now c.args.nofit c.args.i c.args.x c.requires.fillable.measures c.requires.pair_of.0;
     }
 
-pub box_at-requires : goal.box_at-requires
-box_at-requires c = omega (arith, fits (goal.at.box_at-requires c).Start)
-
 pub invariant_of-source : goal.invariant_of-source
 invariant_of-source c =
     let j = c.args.prepared.now in

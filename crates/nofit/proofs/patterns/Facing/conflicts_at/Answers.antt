@@ -51,9 +51,6 @@ up_is c = to_z-of_z w16 _ (sfits_of c.away-dy.type_inv) ∙ c.away-dy.ensures
 pub away-dx-requires : goal.away-dx-requires
 away-dx-requires c = across (goal.at.away-dx-requires c).Start
 
-pub away-dy-requires : goal.away-dy-requires
-away-dy-requires c = up (goal.at.away-dy-requires c).Start
-
 pub returns-then-boxes_apart : goal.returns-then-boxes_apart
 unfolding conflict_at_dot
 returns-then-boxes_apart c =

@@ -6,12 +6,6 @@ use Rattle.geometry.specs.Pieces.{Standing, parts_in}
 use Rattle.geometry.specs.declared.pieces.Piece.{Piece}
 use Rattle.nofit.proofs.patterns.Source.facing.Goals as goal
 
-pub turned_to-requires : goal.turned_to-requires
-turned_to-requires c = (c.args.self.now.ready.1.1.turnable.plane, c.requires)
-
-pub box_at-requires : goal.box_at-requires
-box_at-requires c = (c.args.self.now.ready.1.1.kind, c.requires)
-
 pub invariant_of-result : goal.invariant_of-result
 invariant_of-result c =
     let f = c.args.self.now in
