@@ -7,6 +7,3 @@ offset_bounds-plan-level c = omega (arith, few-pieces c.args.job.now c.requires.
 
 pub bounds-plan-level : goal.bounds-plan-level
 bounds-plan-level c = omega (arith, few-pieces c.args.job.now c.requires.0.accepted)
-
-pub returns : goal.returns
-returns c = c.requires.0.copies c.args.level c.args.u c.requires.1 c.requires.2

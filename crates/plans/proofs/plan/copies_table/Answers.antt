@@ -1,8 +1,8 @@
 use mathlib.Core.List.{[]}
-use mathlib.Core.Path.{◌≡◌, refl, ap, ◌∙◌}
+use mathlib.Core.Path.{◌≡◌, ap, ◌∙◌}
 use Prim.Native.Nat.{ℕ, ◌<◌}
 use native.Mathlib.Omega.{arith}
-use borrow.Author.Count.{below_none, below_more}
+use borrow.Author.Count.{below_more}
 use borrow.Author.Rules.{rules}
 use lib.ListN.{length, get_or, length-set}
 use lib.Seq.{get_or-set_same, get_or-set_other}
@@ -11,9 +11,6 @@ use Rattle.model.specs.Search.{copies_left}
 use Rattle.stepping.specs.Levels.{pieces_from}
 use Rattle.stepping.proofs.Limits.{few-pieces}
 use Rattle.plans.proofs.plan.copies_table.Goals as goal
-
-pub loop-l-init : goal.loop-l-init
-loop-l-init c = (refl, below_none _)
 
 pub offset_bounds-copies-l : goal.offset_bounds-copies-l
 offset_bounds-copies-l c = omega (arith, c.requires.0.view.pieces, few-pieces c.args.job.now c.requires.0.accepted)
@@ -31,6 +28,3 @@ loop-l-preserved c =
           (λ i h u k. ap (λ row. get_or row u 0) (get_or-set_other c.loop-l.copies l i c.from_fn.result [] (λ e. omega arith)) ∙ c.loop-l.invariant.1 i h u k)
           (λ u k. ap (λ row. get_or row u 0) (get_or-set_same c.loop-l.copies l c.from_fn.result [] inside) ∙ made u k),
     )
-
-pub returns : goal.returns
-returns c = λ l u h k. c.loop-l.invariant.1 l (omega (arith, c.requires.0.view.pieces)) u k

@@ -1,17 +1,10 @@
-use mathlib.Core.Path.{refl}
 use native.Mathlib.Omega.{arith}
-use borrow.Author.Count.{below_none, below_more}
+use borrow.Author.Count.{below_more}
 use lib.ListN.{length-set}
 use lib.Seq.{get_or-set_same, get_or-set_other}
 use Rattle.shapes.proofs.ViewLaws.{few-kinds}
 use Rattle.plans.specs.Planned.{no_kind}
 use Rattle.plans.proofs.plan.planned_kinds.Goals as goal
-
-pub loop-t-init : goal.loop-t-init
-loop-t-init c = (refl, below_none _)
-
-pub planned_kind-requires : goal.planned_kind-requires
-planned_kind-requires c = (c.requires, omega (arith, c.requires.view.kinds))
 
 pub offset_bounds-all-t : goal.offset_bounds-all-t
 offset_bounds-all-t c = omega (arith, few-kinds c.args.job.now c.args.view c.requires, c.requires.view.kinds)
@@ -26,6 +19,3 @@ loop-t-preserved c = (
       (λ t h. rw (get_or-set_other c.loop-t.all c.loop-t.t t c.planned_kind.result no_kind (λ e. omega arith)) (c.loop-t.invariant.1 t h))
       (rw (get_or-set_same c.loop-t.all c.loop-t.t c.planned_kind.result no_kind (omega (arith, c.loop-t.invariant.0, few-kinds c.args.job.now c.args.view c.requires, c.requires.view.kinds))) c.planned_kind.ensures),
 )
-
-pub returns : goal.returns
-returns c = λ t h. c.loop-t.invariant.1 t (omega (arith, c.requires.view.kinds))
