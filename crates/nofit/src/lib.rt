@@ -1,4 +1,5 @@
-// No-fit patterns: which offsets from a placed piece are blocked for another, as strings of bits that a run fills once and then reads a word at a time.
+// No-fit patterns: which offsets from a placed piece are blocked for another, as strings of bits that a run fills once
+// and then reads a word at a time.
 #![tactic(auto)]
 
 pub mod measures;

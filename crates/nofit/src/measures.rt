@@ -62,7 +62,8 @@ fn columns_over(span: usize, step: usize, columns: usize) -> usize
     span.div_ceil(step).clamp(1, columns)
 }
 
-// How many columns apart two pieces have to stand so that none of the job's pieces, at any rotations that they may have, are in conflict.
+// How many columns apart two pieces have to stand so that none of the job's pieces, at any rotations that they may
+// have, are in conflict.
 pub fn reach_of(job: &[u8], view: View, boxes: Boxes) -> usize
     requires { Viewed job.now view × BoxesOf job.now boxes }
     ensures { Reaching (content job.now) result × ((1 ≤ result) × (result ≤ view.columns)) }
@@ -80,7 +81,8 @@ fn parity_words(rows: usize, columns: usize) -> usize
     (rows * 4).div_ceil(64) + (columns * rows).div_ceil(16)
 }
 
-// So many words has a string: the columns of both sides and the placed piece's own, a word before them and one behind them.
+// So many words has a string: the columns of both sides and the placed piece's own, a word before them and one behind
+// them.
 fn string_words(rows: usize, reach: usize) -> usize
     requires { ((1 ≤ reach) × (1 ≤ rows)) × (reach * rows ≤ 1024) }
     ensures { ((reach * 2 + 1) * rows * 4 + 128 ≤ result * 64) × (result ≤ 200) }

@@ -31,8 +31,9 @@ pub struct Dot {
     pub row: usize,
 }
 
-// What a string is made of: the step from dot to dot, the board's rows, how many columns pieces reach, how many rows under the placed piece's a column
-// begins (`lift`), the number below which all is blocked, the rotations that the other piece may have, and the gap of the two.
+// What a string is made of: the step from dot to dot, the board's rows, how many columns pieces reach, how many rows
+// under the placed piece's a column begins (`lift`), the number below which all is blocked, the rotations that the
+// other piece may have, and the gap of the two.
 #[derive(Clone, Copy)]
 pub struct Pattern {
     pub step: usize,
@@ -44,8 +45,8 @@ pub struct Pattern {
     pub gap: u16,
 }
 
-// Whose string it is: the placed kind and its rotation, the other kind, and whether it is for the rows under the placed piece's, or for its row and
-// those above.
+// Whose string it is: the placed kind and its rotation, the other kind, and whether it is for the rows under the placed
+// piece's, or for its row and those above.
 #[derive(Clone, Copy)]
 pub struct Pair {
     pub kind: usize,
@@ -71,7 +72,8 @@ pub struct Facing<'a> {
     pub ghost ready: { Ready pattern × (Boxed turned.now placed.piece placed.extents × Boxed turned.now other.piece other.extents) } by { Prim.hlevel facts },
 }
 
-// What a string is filled from: the table of turned parts, the placed piece in it, and the other kind with its piece as it stands unturned and the boxes.
+// What a string is filled from: the table of turned parts, the placed piece in it, and the other kind with its piece as
+// it stands unturned and the boxes.
 #[derive(Clone, Copy)]
 pub struct Source<'a> {
     pub turned: &'a [i16],
@@ -145,7 +147,8 @@ impl<'a> Facing<'a> {
         z < self.pattern.below || (d.column < self.pattern.reach * 2 + 1 && self.conflicts_at(d))
     }
 
-    // The bits of the other piece's rotation k in a word behind the first one. The bits of the other rotations stay as they are in w.
+    // The bits of the other piece's rotation k in a word behind the first one. The bits of the other rotations stay as
+    // they are in w.
     fn turn_word(&self, k: usize, word: usize, w: u64) -> u64
         requires rotation { k < 4 }
         requires word_bounds { (1 ≤ word) × (word ≤ 200) }

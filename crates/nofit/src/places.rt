@@ -3,8 +3,9 @@ ghost use Rattle.std.specs.Prelude.{◌&&◌, ◌≡◌, ◌+◌, ◌*◌, ◌�
 ghost use Rattle.nofit.specs.Patterns.{above_string, below_string, string_start};
 ghost use Rattle.nofit.specs.Places.{Sought};
 
-// The table begins with the parities of the columns, in `first` words. Behind them stand strings of `size` words each, `held` of them: those of so many
-// kinds on a board of so many rows. Pieces that stand `reach` columns apart, or further, are never in conflict.
+// The table begins with the parities of the columns, in `first` words. Behind them stand strings of `size` words each,
+// `held` of them: those of so many kinds on a board of so many rows. Pieces that stand `reach` columns apart, or
+// further, are never in conflict.
 #[derive(Clone, Copy)]
 pub struct Nofit {
     pub kinds: usize,

@@ -1,4 +1,5 @@
-// What a run computes of an accepted job once, before its first step, what it looks up there, and how it writes a layout by that.
+// What a run computes of an accepted job once, before its first step, what it looks up there, and how it writes a
+// layout by that.
 #![tactic(auto)]
 
 pub mod lookup;

@@ -1,4 +1,5 @@
-// What follows from the job and the margin and is computed once for a run. It goes through the walk by value, so its numbers are small.
+// What follows from the job and the margin and is computed once for a run. It goes through the walk by value, so its
+// numbers are small.
 ghost use Rattle.std.specs.Prelude.{◌≡◌, ℕ, ◌/◌, ◌%◌, ◌≤◌, ◌<◌, get_or};
 ghost use Rattle.words.specs.Bits.{bits_where};
 ghost use Rattle.model.specs.Content.{kind_count, piece_count};
@@ -20,8 +21,8 @@ use shapes::boxes::{Boxes, box_at};
 use shapes::pieces::piece_of;
 use std::array;
 
-// What is looked up of a kind: its gap, how many parts it has and how many vertices each of them, and where it ends at the first column, turned
-// k quarter turns under k.
+// What is looked up of a kind: its gap, how many parts it has and how many vertices each of them, and where it ends at
+// the first column, turned k quarter turns under k.
 #[derive(Clone, Copy, Default)]
 pub struct PlannedKind {
     pub gap: u8,
@@ -30,9 +31,10 @@ pub struct PlannedKind {
     pub ends: [i16; 4],
 }
 
-// The board's rows and step; the margin, which says whose candidates the live sets hold (no function of the walk looks at it: it is the same in every length, so
-// the walk compares ends); how many kinds and pieces there are, and words in a set; whether kinds t and u share a common cut, in bit
-// t * 8 + u; the kind of each piece; the copies of each kind left at each level; and each kind.
+// The board's rows and step; the margin, which says whose candidates the live sets hold (no function of the walk looks
+// at it: it is the same in every length, so the walk compares ends); how many kinds and pieces there are, and words in
+// a set; whether kinds t and u share a common cut, in bit t * 8 + u; the kind of each piece; the copies of each kind
+// left at each level; and each kind.
 #[derive(Clone, Copy)]
 pub struct Plan {
     pub rows: usize,
@@ -123,7 +125,8 @@ fn planned_kinds(job: &[u8], view: View, boxes: Boxes) -> [PlannedKind; 8]
     all
 }
 
-// Which kinds share a common cut: kinds t and u in bit t * 8 + u. (One number, where a table for the kinds would be copied in each step.)
+// Which kinds share a common cut: kinds t and u in bit t * 8 + u. (One number, where a table for the kinds would be
+// copied in each step.)
 fn shared_cuts(view: View) -> u64
     ensures { result ≡ bits_where 64 (λ x. same_cut (cut_of view (x / 8)) (cut_of view (x % 8))) }
 {
