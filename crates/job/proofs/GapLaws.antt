@@ -1,5 +1,5 @@
--- The best-ranked class, id by id, is the model's, where no id occurs twice; the largest gap is the model's, in whichever order the classes stand; and two kinds
--- share a common cut exactly where what is kept of them says so.
+-- The best-ranked class, id by id, is the model's, where no id occurs twice; the largest gap is the model's, in
+-- whichever order the classes stand; and two kinds share a common cut exactly where what is kept of them says so.
 use mathlib.Core.Bool.{Bool, true, false, cond, ◌&&◌, and-true, and-false}
 use mathlib.Core.List.{List, [], ◌∷◌, ◌++◌, map, map-map}
 use mathlib.Core.Option as M
@@ -46,12 +46,14 @@ unfolding offers
 offers_append b [] ys = refl
 offers_append b (c ∷ xs) ys = offers_append (offered b (kept_of c)) xs ys
 
-offers_best : (c : SpacingClass) (cs : List SpacingClass) → offers (Some (kept_of c)) cs ≡ Some (kept_of (best_from c cs))
+offers_best : (c : SpacingClass) (cs : List SpacingClass)
+    → offers (Some (kept_of c)) cs ≡ Some (kept_of (best_from c cs))
 unfolding offers offered best_from better outranks
 offers_best c [] = refl
 offers_best c (d ∷ cs) = go (ltb d.rank c.rank) (offers_best c cs) (offers_best d cs)
   where
-    go : (b : Bool) → offers (Some (kept_of c)) cs ≡ Some (kept_of (best_from c cs)) → offers (Some (kept_of d)) cs ≡ Some (kept_of (best_from d cs))
+    go : (b : Bool) → offers (Some (kept_of c)) cs ≡ Some (kept_of (best_from c cs))
+        → offers (Some (kept_of d)) cs ≡ Some (kept_of (best_from d cs))
         → offers (Some (cond b (kept_of d) (kept_of c))) cs ≡ Some (kept_of (best_from (cond b d c) cs))
     go true p q = q
     go false p q = p
@@ -78,10 +80,13 @@ module _ (s : List ℕ) (o n : ℕ) (k : Kind) (d : distinct_column s o n ≡ tr
   offer_found i b true e =
       let x = o + index_of s o n i * 3 in
       one_offered k b (class_from s x)
-      ∙ ap (λ m. cond (test_bit k.classes m) (offered b (best_of (byte_at s (x + 1)) (gap_meant (byte_at s (x + 2))) (then_some (marks_cut (byte_at s (x + 2))) m))) b) (found-is s o i n (ltb-true _ _ e))
+      ∙ ap (λ m. cond (test_bit k.classes m)
+      (offered b (best_of (byte_at s (x + 1)) (gap_meant (byte_at s (x + 2)))
+      (then_some (marks_cut (byte_at s (x + 2))) m))) b) (found-is s o i n (ltb-true _ _ e))
   offer_found i b false e = refl
 
-  offer_one : (i : ℕ) (b : Option Best) → offers b (keep (names k) (keep (λ c. eqb c.id i) (classes_from s o n))) ≡ offered_id s o n k.classes i b
+  offer_one : (i : ℕ) (b : Option Best)
+      → offers b (keep (names k) (keep (λ c. eqb c.id i) (classes_from s o n))) ≡ offered_id s o n k.classes i b
   unfolding offered_id
   offer_one i b = rw (found s o i n d) (offer_found i b (ltb (index_of s o n i) n) refl)
 
@@ -98,7 +103,8 @@ module _ (s : List ℕ) (o n : ℕ) (k : Kind) (d : distinct_column s o n ≡ tr
   offered-below (suc i) =
       ap (offered_id s o n k.classes i) (offered-below i)
       ∙ sym (offer_one i (offers None (keep (names k) (risen i))))
-      ∙ sym (offers_append None (keep (names k) (risen i)) (keep (names k) (keep (λ c. eqb c.id i) (classes_from s o n))))
+      ∙ sym (offers_append None (keep (names k) (risen i))
+      (keep (names k) (keep (λ c. eqb c.id i) (classes_from s o n))))
       ∙ ap (offers None) (sym (keep_append (names k) (risen i) (keep (λ c. eqb c.id i) (classes_from s o n))))
       ∙ ap (λ l. offers None (keep (names k) l)) (sym (risen_suc i))
 
@@ -121,7 +127,8 @@ largest_reduced [] = refl
 largest_reduced (x ∷ xs) = largest_folded x xs
 
 pub largest_along : (s : List ℕ) (o n : ℕ)
-    → unwrap_or (reduce max (map (λ i. gap_meant (byte_at s (o + i * 3 + 2))) (range_with_len 0 n))) 0 ≡ largest_gap (classes_from s o n)
+    → unwrap_or (reduce max (map (λ i. gap_meant (byte_at s (o + i * 3 + 2))) (range_with_len 0 n))) 0
+    ≡ largest_gap (classes_from s o n)
 unfolding largest_gap
 largest_along s o n =
     largest_reduced (map (λ i. gap_meant (byte_at s (o + i * 3 + 2))) (range_with_len 0 n))
@@ -150,7 +157,8 @@ module _ (s : List ℕ) (o n mask id : ℕ) (b : Option Best) where
   unfolding offered_id
   offered-absent h = rw (le-ltb (index_of s o n id) n h)
 
-pub best-more : (s : List ℕ) (o n mask i : ℕ) → best_below s o n mask (i + 1) ≡ offered_id s o n mask i (best_below s o n mask i)
+pub best-more : (s : List ℕ) (o n mask i : ℕ)
+    → best_below s o n mask (i + 1) ≡ offered_id s o n mask i (best_below s o n mask i)
 unfolding best_below
 best-more s o n mask i = ap (best_below s o n mask) (add-one i)
 
@@ -180,6 +188,7 @@ same-marked (M.some c) (M.some d) = go c.common_cut d.common_cut
     go false b = sym (ap (λ t. t && b) (and-false ids))
 
 -- What is kept of two kinds says whether they share a common cut.
-pub shared-cut : (cs : List SpacingClass) (k m : Kind) → same_cut (class_cut (best_class cs k)) (class_cut (best_class cs m)) ≡ share_cut cs k m
+pub shared-cut : (cs : List SpacingClass) (k m : Kind)
+    → same_cut (class_cut (best_class cs k)) (class_cut (best_class cs m)) ≡ share_cut cs k m
 unfolding share_cut
 shared-cut cs k m = same-marked (best_class cs k) (best_class cs m)

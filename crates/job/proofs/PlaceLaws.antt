@@ -30,16 +30,21 @@ module _ (list : List ℕ) (from n base : ℕ) where
   placed-none places = record { found = λ i h. absurd (omega arith) }
 
   -- The place of the next part.
-  pub placed-more : (i here c : ℕ) (places : List ℕ) → Reads (many read_part i (drop from list)) (here - from) → PartNext list from i here c
+  pub placed-more : (i here c : ℕ) (places : List ℕ) → Reads (many read_part i (drop from list)) (here - from)
+      → PartNext list from i here c
       → i < length places → Placed list from i base places → Placed list from (i + 1) base (set places i (base + here))
   placed-more i here c places r p l q =
       record {
         found =
-            at_more (λ j P. FoundAt list base (get_or (set places i (base + here)) j 0) P) [] (values_of (many read_part i (drop from list)))
+            at_more (λ j P. FoundAt list base (get_or (set places i (base + here)) j 0) P) []
+            (values_of (many read_part i (drop from list)))
             (values_of (many read_part (i + 1) (drop from list))) _ i p.values (many-length read_part i (drop from list) _ (here - from) r)
-            (λ j h. subst (λ o. FoundAt list base o (get_or (values_of (many read_part i (drop from list))) j [])) (sym (get_or-set_other places i j (base + here) 0 (λ e. omega arith))) (q.found j h))
-            (record { behind = here; place = get_or-set_same places i (base + here) 0 l; reads = p.reads ∙ ap (got (value_of [] (read_part (drop here list)))) (sym (size_is _ _ _ p.reads)) });
+            (λ j h. subst (λ o. FoundAt list base o (get_or (values_of (many read_part i (drop from list))) j []))
+            (sym (get_or-set_other places i j (base + here) 0 (λ e. omega arith))) (q.found j h))
+            (record {
+              behind = here;
+              place = get_or-set_same places i (base + here) 0 l;
+              reads = p.reads
+                  ∙ ap (got (value_of [] (read_part (drop here list)))) (sym (size_is _ _ _ p.reads));
+            });
       }
-
-  pub placed_end : (i : ℕ) (places : List ℕ) → i ≡ n → Placed list from i base places → Placed list from n base places
-  placed_end i places e q = subst (λ m. Placed list from m base places) e q

@@ -25,7 +25,7 @@ use Rattle.job.specs.declared.table.Head.{Head}
 use Rattle.job.proofs.GapLaws.{kept_of, kept, best-is, largest-risen}
 use Rattle.job.proofs.PlaceLaws.{at_more}
 use Rattle.records.proofs.NextLaws.{next_kind, kind-next, kind-values, kind-parts, kind-ends}
-use Rattle.records.proofs.RecordLaws.{reads_none, values_from, size_is}
+use Rattle.records.proofs.RecordLaws.{reads_none, values_from}
 use Rattle.records.proofs.RisingLaws.{ranged, ids_distinct}
 
 module _ (cs : List SpacingClass) (list : List ℕ) (base kinds size : ℕ) (w : Reads (many read_kind kinds list) size) where
@@ -57,7 +57,8 @@ module _ (cs : List SpacingClass) (list : List ℕ) (base kinds size : ℕ) (w :
         cut = kb.1;
         parts = same.2 ∙ sym kp;
         few_parts = let z = f.parts_most in let y = f.part_count in omega arith;
-        part = λ i q. subst (λ ps. FoundAt list base (get_or e.part_at i 0) (get_or ps i [])) vs (pl.found i (omega arith));
+        part = λ i q. subst (λ ps. FoundAt list base (get_or e.part_at i 0) (get_or ps i [])) vs
+            (pl.found i (omega arith));
       } in
       record {
         size = length-set table t e ∙ b.size;
@@ -65,33 +66,33 @@ module _ (cs : List SpacingClass) (list : List ℕ) (base kinds size : ℕ) (w :
         stored =
             at_more (λ j k. Stored cs list base (get_or (set table t e) j blank) k) no_kind
             (values_of (many read_kind t list)) (values_of (many read_kind (t + 1) list)) k t more (many-length read_kind t list _ here b.reads)
-            (λ j q. subst (λ x. Stored cs list base x (get_or (values_of (many read_kind t list)) j no_kind)) (sym (get_or-set_other table t j e blank (λ z. omega arith))) (b.stored j q))
-            (subst (λ x. Stored cs list base x k) (sym (get_or-set_same table t e blank (let z = b.size in omega arith))) stored);
+            (λ j q. subst (λ x. Stored cs list base x (get_or (values_of (many read_kind t list)) j no_kind))
+            (sym (get_or-set_other table t j e blank (λ z. omega arith))) (b.stored j q))
+            (subst (λ x. Stored cs list base x k)
+            (sym (get_or-set_same table t e blank (let z = b.size in omega arith))) stored);
       }
 
-  -- The last kind.
-  pub built_end : (t here : ℕ) (table : List J.Kind) → t ≡ kinds → Built cs list base t here table → Built cs list base kinds size table
-  built_end t here table e b =
-      let q : Built cs list base kinds here table = subst (λ i. Built cs list base i here table) e b in
-      let z : here ≡ size = sym (size_is _ _ _ q.reads) ∙ size_is _ _ _ w in
-      subst (λ m. Built cs list base kinds m table) z q
-
 -- What follows in each of the two cases.
-pub either_then : {A P R : Type 0} {Q S : A → Type 0} (o : Option A) → MatchOption o P Q → (P → R) → ((x : A) → Q x → S x) → MatchOption o R S
+pub either_then : {A P R : Type 0} {Q S : A → Type 0} (o : Option A) → MatchOption o P Q → (P → R)
+    → ((x : A) → Q x → S x) → MatchOption o R S
 either_then None h f g = f h
 either_then (Some x) h f g = g x h
 
 -- What is kept of the best-ranked class that was found for a mask is that of each kind with this mask.
-pub best_of_lem : (s list : List ℕ) (o n here default mask g : ℕ) (x : Option ℕ) (best : Option Best) → classes_unfit s o n ≡ false
+pub best_of_lem : (s list : List ℕ) (o n here default mask g : ℕ) (x : Option ℕ) (best : Option Best)
+    → classes_unfit s o n ≡ false
     → default ≡ largest_gap (classes_from s o n) → best ≡ best_below s o n mask 8 → mask ≡ byte_at list (here + 2)
     → MatchOption best (g ≡ default) (λ b. g ≡ b.gap) → MatchOption best (x ≡ None) (λ b. x ≡ b.cut)
     → (k : Kind) → k.classes ≡ byte_at list (here + 2)
-    → (g ≡ kind_gap (by_rising_id (classes_from s o n)) k) × (x ≡ class_cut (best_class (by_rising_id (classes_from s o n)) k))
+    → (g ≡ kind_gap (by_rising_id (classes_from s o n)) k)
+    × (x ≡ class_cut (best_class (by_rising_id (classes_from s o n)) k))
 unfolding kind_gap kept gap_or class_cut
 best_of_lem s list o n here default mask g x best fit l e m eg ex k q =
-    go (best_class (by_rising_id (classes_from s o n)) k) best (e ∙ ap (λ x. best_below s o n x 8) (m ∙ sym q) ∙ best-is s o n k (ids_distinct s o n fit)) eg ex
+    go (best_class (by_rising_id (classes_from s o n)) k) best (e ∙ ap (λ x. best_below s o n x 8) (m ∙ sym q)
+    ∙ best-is s o n k (ids_distinct s o n fit)) eg ex
   where
-    go : (c : M.Option SpacingClass) (b : Option Best) → b ≡ kept c → MatchOption b (g ≡ default) (λ b. g ≡ b.gap) → MatchOption b (x ≡ None) (λ b. x ≡ b.cut)
+    go : (c : M.Option SpacingClass) (b : Option Best) → b ≡ kept c → MatchOption b (g ≡ default) (λ b. g ≡ b.gap)
+        → MatchOption b (x ≡ None) (λ b. x ≡ b.cut)
         → (g ≡ gap_or (largest_gap (by_rising_id (classes_from s o n))) c) × (x ≡ class_cut c)
     go M.none None e a b = (a ∙ l ∙ largest-risen s o n (ranged s o n fit), b)
     go M.none (Some y) e a b = absurd cc

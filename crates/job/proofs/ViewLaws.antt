@@ -2,7 +2,7 @@
 use mathlib.Core.Bool.{Bool, true, false, cond, ◌||◌}
 use mathlib.Core.List.{List, [], ◌∷◌, map}
 use mathlib.Core.Path.{◌≡◌, refl, sym, ap, ap₂, subst, subst₂, ◌∙◌}
-use Prim.Native.Nat.{ℕ, zero, suc, ◌+◌, ◌*◌, ◌-◌, ◌/◌, ◌<◌, ◌≤◌, min}
+use Prim.Native.Nat.{ℕ, zero, suc, ◌+◌, ◌-◌, ◌/◌, ◌<◌, ◌≤◌, min}
 use native.Mathlib.Numerals.{add-one}
 use native.Mathlib.Omega.{arith}
 use lib.ListN.{length, get_or, take, drop, length-take, length-drop}
@@ -83,21 +83,14 @@ pub cause7-is : (s : List ℕ) → cause7 s ≡ any bad_kind (content s).kinds
 unfolding cause7 bad_kind bad_part content
 cause7-is s = refl
 
--- It has few corners, and they lie within the job.
-pub part_room : {s : List ℕ} {o : ℕ} {P : Part} → PartAt s o P → (byte_at s o ≤ 8) × (o + 1 + byte_at s o * 2 ≤ length s)
-part_room p =
-    let a = p.stated in
-    let b = p.most in
-    let d = p.inside in
-    omega arith
-
 -- The part at its place.
 pub bad-at : (s : List ℕ) (o : ℕ) (P : Part) → PartAt s o P → bad_at s o ≡ bad_part P
 unfolding bad_at
 bad-at s o P p = ap bad_part (ap (λ n. vertices n (drop (o + 1) s)) p.stated ∙ p.read)
 
 -- A test of numbers that tells of each element what p does.
-any-upto : {A : Type 0} (p : A → Bool) (q : ℕ → Bool) (d : A) (xs : List A) (n : ℕ) → n ≤ length xs → ((i : ℕ) → i < n → q i ≡ p (get_or xs i d))
+any-upto : {A : Type 0} (p : A → Bool) (q : ℕ → Bool) (d : A) (xs : List A) (n : ℕ) → n ≤ length xs
+    → ((i : ℕ) → i < n → q i ≡ p (get_or xs i d))
     → any q (below n) ≡ any p (take n xs)
 unfolding any below rising
 any-upto p q d xs zero h f = refl
@@ -106,19 +99,24 @@ any-upto p q d xs (suc n) h f =
     ∙ ap₂ (λ a b. a || b) (any-upto p q d xs n (omega arith) (λ i l. f i (omega arith))) (f n (omega arith))
     ∙ sym (any-take-more p xs d n h) ∙ ap (λ m. any p (take m xs)) (add-one n)
 
-any-places : {A : Type 0} (p : A → Bool) (q : ℕ → Bool) (d : A) (xs : List A) (n : ℕ) → n ≡ length xs → ((i : ℕ) → i < n → q i ≡ p (get_or xs i d)) → any q (below n) ≡ any p xs
+any-places : {A : Type 0} (p : A → Bool) (q : ℕ → Bool) (d : A) (xs : List A) (n : ℕ) → n ≡ length xs
+    → ((i : ℕ) → i < n → q i ≡ p (get_or xs i d)) → any q (below n) ≡ any p xs
 any-places p q d xs n e f = any-upto p q d xs n (omega arith) f ∙ ap (any p) (take_all n xs (omega arith))
 
-pub parts_judged : (s ats : List ℕ) (k : Kind) (n : ℕ) → n ≡ length k.parts → ((i : ℕ) → i < length k.parts → PartAt s (get_or ats i 0) (get_or k.parts i []))
+pub parts_judged : (s ats : List ℕ) (k : Kind) (n : ℕ) → n ≡ length k.parts
+    → ((i : ℕ) → i < length k.parts → PartAt s (get_or ats i 0) (get_or k.parts i []))
     → any (λ i. bad_at s (get_or ats i 0)) (below n) ≡ bad_kind k
 unfolding bad_kind
 parts_judged s ats k n e f =
-    any-places bad_part (λ i. bad_at s (get_or ats i 0)) [] k.parts n e (λ i l. bad-at s (get_or ats i 0) (get_or k.parts i []) (f i (omega arith)))
+    any-places bad_part (λ i. bad_at s (get_or ats i 0)) [] k.parts n e
+    (λ i l. bad-at s (get_or ats i 0) (get_or k.parts i []) (f i (omega arith)))
 
-pub kinds-judged : (s : List ℕ) (n : ℕ) → n ≡ kind_count (content s).kinds → any (λ t. bad_kind (kind_at (content s).kinds t)) (below n) ≡ cause7 s
+pub kinds-judged : (s : List ℕ) (n : ℕ) → n ≡ kind_count (content s).kinds
+    → any (λ t. bad_kind (kind_at (content s).kinds t)) (below n) ≡ cause7 s
 unfolding kind_at kind_count
 kinds-judged s n e =
-    any-places bad_kind (λ t. bad_kind (kind_at (content s).kinds t)) no_kind (content s).kinds n e (λ t l. refl) ∙ sym (cause7-is s)
+    any-places bad_kind (λ t. bad_kind (kind_at (content s).kinds t)) no_kind (content s).kinds n e (λ t l. refl)
+    ∙ sym (cause7-is s)
 
 -- ---- The view
 
@@ -132,7 +130,8 @@ unfolding refusal_to6
 six_none s e = let n = no_cause s e in rw (n.no1, n.no2, n.no3, n.no4, n.no5, n.no6)
 
 -- The demands of the kinds in a table are those of these kinds.
-demands-sum : (table : List J.Kind) (ks : List Kind) → length ks ≤ length table → ((t : ℕ) → t < length ks → (get_or table t blank).demand ≡ (get_or ks t no_kind).demand)
+demands-sum : (table : List J.Kind) (ks : List Kind) → length ks ≤ length table
+    → ((t : ℕ) → t < length ks → (get_or table t blank).demand ≡ (get_or ks t no_kind).demand)
     → S.sum (map (λ e. e.demand) (take (length ks) table)) ≡ sum (map (λ k. k.demand) ks)
 unfolding sum
 demands-sum table [] h f = refl
@@ -174,13 +173,17 @@ module _ (s : List ℕ) (e : refusal_to6 s ≡ 0) where
     classes-risen o m eo em = rw (eo, em, ← (classes-are s))
 
     module _ (o m : ℕ) (eo : o ≡ classes_at s) (em : m ≡ classes_stated s) (table : List J.Kind)
-        (b : Built (classes_from s o m) (take (base + size - base) (drop base s)) base n (length (take (base + size - base) (drop base s))) table) where
+        (b : Built (classes_from s o m) (take (base + size - base) (drop base s)) base n
+        (length (take (base + size - base) (drop base s))) table) where
       kinds-stored : (t : ℕ) → t < kind_count (content s).kinds
-          → Stored (classes_from s o m) (take (base + size - base) (drop base s)) base (get_or table t blank) (kind_at (content s).kinds t)
+          → Stored (classes_from s o m) (take (base + size - base) (drop base s)) base (get_or table t blank)
+          (kind_at (content s).kinds t)
       unfolding kind_at
       kinds-stored t h =
-          let vs : values_of (many read_kind n (take (base + size - base) (drop base s))) ≡ (content s).kinds = values_from _ _ _ got-list in
-          subst (λ l. Stored (classes_from s o m) (take (base + size - base) (drop base s)) base (get_or table t blank) (get_or l t no_kind)) vs
+          let vs : values_of (many read_kind n (take (base + size - base) (drop base s)))
+          ≡ (content s).kinds = values_from _ _ _ got-list in
+          subst (λ l. Stored (classes_from s o m) (take (base + size - base) (drop base s)) base (get_or table t blank)
+          (get_or l t no_kind)) vs
           (b.stored t (let q = kind-count in omega arith))
 
       pub pieces-are : n ≤ length table → S.sum (map (λ e. e.demand) (take n table)) ≡ piece_count (content s).kinds
@@ -190,7 +193,8 @@ module _ (s : List ℕ) (e : refusal_to6 s ≡ 0) where
           ∙ demands-sum table (content s).kinds (let q = kind-count in omega arith) (λ t h. (kinds-stored t h).demand)
 
       -- What was read makes the view.
-      pub view-is : (v : View) → table ≡ v.kind → v.pieces ≡ piece_count (content s).kinds → v.width ≡ (board_of s).W → v.length ≡ (board_of s).L → v.step ≡ (board_of s).g
+      pub view-is : (v : View) → table ≡ v.kind → v.pieces ≡ piece_count (content s).kinds → v.width ≡ (board_of s).W
+          → v.length ≡ (board_of s).L → v.step ≡ (board_of s).g
           → v.rows ≡ v.width / v.step + 1 → v.columns ≡ v.length / v.step + 1 → v.margin ≤ 63 → v.kinds ≡ n → ViewOf s v
       unfolding content rows columns
       view-is v et ep ew el eg er ec hm ek =
@@ -204,15 +208,19 @@ module _ (s : List ℕ) (e : refusal_to6 s ≡ 0) where
             kinds = ek ∙ sym kind-count;
             pieces = ep;
             kind = λ t h.
-                let st = subst (λ l. Stored (classes_from s o m) (take (base + size - base) (drop base s)) base (get_or l t blank) (kind_at (content s).kinds t)) et (kinds-stored t h) in
+                let st = subst (λ l. Stored (classes_from s o m) (take (base + size - base) (drop base s)) base
+                (get_or l t blank) (kind_at (content s).kinds t)) et (kinds-stored t h) in
                 record {
                   demand = st.demand;
                   rotations = st.rotations;
                   gap = st.gap ∙ ap (λ cs. kind_gap cs (kind_at (content s).kinds t)) (classes-risen o m eo em);
-                  cut = st.cut ∙ ap (λ cs. class_cut (best_class cs (kind_at (content s).kinds t))) (classes-risen o m eo em);
+                  cut = st.cut ∙ ap (λ cs. class_cut (best_class cs (kind_at (content s).kinds t)))
+                      (classes-risen o m eo em);
                   parts = st.parts;
                   few_parts = st.few_parts;
-                  part = λ i q. part-at s _ _ (subst₂ (λ l c. FoundAt l c (part_at_of v t i) (get_or (kind_at (content s).kinds t).parts i [])) (list_is s base size eb es) eb (st.part i q));
+                  part = λ i q. part-at s _ _ (subst₂
+                      (λ l c. FoundAt l c (part_at_of v t i) (get_or (kind_at (content s).kinds t).parts i []))
+                      (list_is s base size eb es) eb (st.part i q));
                 };
           }
 
@@ -254,7 +262,8 @@ some_number R.Outline = λ z. omega arith
 pub refusal-six : (s : List ℕ) (r : Refusal) → number r ≡ refusal_to6 s → number r ≡ refusal s
 unfolding refusal_to6
 refusal-six s r e =
-    e ∙ sym (refusal_is s ∙ same (cause1 s) (cause2 s) (cause3 s) (cause4 s) (cause5 s) (cause6 s) (λ z. some_number r (e ∙ z)))
+    e ∙ sym (refusal_is s ∙ same (cause1 s) (cause2 s) (cause3 s) (cause4 s) (cause5 s) (cause6 s)
+    (λ z. some_number r (e ∙ z)))
   where
     same : (a b c d e f : Bool) → (sixth a b c d e f 0 ≡ 0 → ⊥) → sixth a b c d e f (cond (cause7 s) 7 0) ≡ sixth a b c d e f 0
     same true b c d e f h = refl

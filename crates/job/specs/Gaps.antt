@@ -1,4 +1,5 @@
--- The best-ranked class that a mask names, id by id, and what is kept of it: its rank, its gap, and its id if it is marked as common cut.
+-- The best-ranked class that a mask names, id by id, and what is kept of it: its rank, its gap, and its id if it is
+-- marked as common cut.
 use Rattle.std.specs.Prelude.{Bool, false, cond, ◌&&◌, List, ℕ, zero, suc, ◌+◌, ◌*◌, ltb, eqb, Option, Some, None}
 use Rattle.std.specs.Bool.{then_some}
 use Rattle.std.proofs.Math.Option as M
@@ -24,7 +25,8 @@ best_of r g x = record { rank = r; gap = g; cut = x }
 
 -- The class of this id, whose record stands at byte o.
 unfoldable pub best_at : List ℕ → ℕ → ℕ → Best
-best_at s o id = best_of (byte_at s (o + 1)) (gap_meant (byte_at s (o + 2))) (then_some (marks_cut (byte_at s (o + 2))) id)
+best_at s o id = best_of (byte_at s (o + 1)) (gap_meant (byte_at s (o + 2)))
+    (then_some (marks_cut (byte_at s (o + 2))) id)
 
 -- The better of the best so far, if there is one, and one more class.
 unfoldable pub offered : Option Best → Best → Option Best

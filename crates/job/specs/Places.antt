@@ -12,4 +12,5 @@ pub record FoundAt (s : List ℕ) (base o : ℕ) (P : Part) : Type 0 where
 
 -- These are the places of the n parts from byte `from` of the list on.
 pub record Placed (list : List ℕ) (from n base : ℕ) (places : List ℕ) : Type 0 where
-  pub found : (i : ℕ) → i < n → FoundAt list base (get_or places i 0) (get_or (values_of (many read_part n (drop from list))) i [])
+  pub found : (i : ℕ) → i < n → FoundAt list base (get_or places i 0)
+      (get_or (values_of (many read_part n (drop from list))) i [])

@@ -32,4 +32,5 @@ pub record Stored (cs : List SpacingClass) (list : List ℕ) (base : ℕ) (e : J
 pub record Built (cs : List SpacingClass) (list : List ℕ) (base t here : ℕ) (table : List J.Kind) : Type 0 where
   pub size : length table ≡ 8
   pub reads : Reads (many read_kind t list) here
-  pub stored : (j : ℕ) → j < t → Stored cs list base (get_or table j blank) (get_or (values_of (many read_kind t list)) j no_kind)
+  pub stored : (j : ℕ) → j < t → Stored cs list base (get_or table j blank)
+      (get_or (values_of (many read_kind t list)) j no_kind)

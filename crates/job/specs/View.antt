@@ -21,7 +21,8 @@ pub record PartAt (s : List ℕ) (o : ℕ) (P : Part) : Type 0 where
 abbrev pub blank : J.Kind
 blank = record { demand = 0; rotations = 0; gap = 0; cut = None; parts = 0; part_at = [] }
 
--- What a view says of kind t: how many pieces are demanded, the turns, the gap, the class of a common cut, how many parts, and where part i begins.
+-- What a view says of kind t: how many pieces are demanded, the turns, the gap, the class of a common cut, how many
+-- parts, and where part i begins.
 module _ (v : View) (t : ℕ) where
   abbrev pub demand_of : ℕ
   demand_of = (get_or v.kind t blank).demand

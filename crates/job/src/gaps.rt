@@ -1,5 +1,5 @@
-// What the gap of a pair turns on: the best-ranked class of a type, which is the one with the smallest rank number; and the gap of a type in no class, which is
-// the largest of the class list.
+// What the gap of a pair turns on: the best-ranked class of a type, which is the one with the smallest rank number; and
+// the gap of a type in no class, which is the largest of the class list.
 ghost use Rattle.std.specs.Prelude.{◌≡◌, ◌+◌, ◌*◌, ◌≤◌, ◌<◌, Some, length};
 ghost use Rattle.model.specs.Gap.{largest_gap};
 ghost use Rattle.records.specs.Classes.{classes_from};

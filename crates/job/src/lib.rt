@@ -15,8 +15,8 @@ mod gaps;
 mod places;
 mod table;
 
-// What the layers above use of a kind: how many pieces of it are demanded, the turns that it may have, its gap, the id of its best-ranked class if that
-// is marked as common cut, how many parts it has, and where the bytes of each begin.
+// What the layers above use of a kind: how many pieces of it are demanded, the turns that it may have, its gap, the id of
+// its best-ranked class if that is marked as common cut, how many parts it has, and where the bytes of each begin.
 #[derive(Clone, Copy)]
 pub struct Kind {
     pub demand: usize,

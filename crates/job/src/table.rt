@@ -29,8 +29,8 @@ fn read_head(list: &[u8], here: usize) -> Head
     }
 }
 
-// The kinds of the type records in `list`, a piece of the job that begins at byte `base`; n classes stand from byte `at` on. A type in no class has the
-// largest gap of the class list.
+// The kinds of the type records in `list`, a piece of the job that begins at byte `base`; n classes stand from byte `at`
+// on. A type in no class has the largest gap of the class list.
 pub fn read_kinds(
     job: &[u8],
     at: usize,

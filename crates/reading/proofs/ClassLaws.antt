@@ -21,7 +21,8 @@ use Rattle.writing.proofs.NumberLaws.{numbers_none, numbers_then, length-row, nu
 
 -- ---- Gap and mark
 
-pub gap-written : (at b g m : ℕ) (t : Bool) (a u v : List ℕ) → g ≡ gap_meant b → m ≡ bool_byte t → t ≡ marks_cut b → u ≡ with_numbers_at at (g ∷ []) a
+pub gap-written : (at b g m : ℕ) (t : Bool) (a u v : List ℕ) → g ≡ gap_meant b → m ≡ bool_byte t → t ≡ marks_cut b
+    → u ≡ with_numbers_at at (g ∷ []) a
     → v ≡ with_numbers_at (at + 1) (m ∷ []) u → v ≡ with_numbers_at at (gap_numbers b) a
 gap-written at b g m t a u v eg em et eu ev =
     numbers_then at (at + 1) (g ∷ []) (m ∷ []) a u v refl eu ev
@@ -67,8 +68,10 @@ module _ (s places : List ℕ) where
       numbers_then at (at + k * 4) (numbers_to k) (class_numbers (class_from s (get_or places k 0))) a u v (omega arith) eu ev
       ∙ ap (λ r. with_numbers_at at r a) (sym (concat-below-more (λ i. class_from s (get_or places i 0)) class_numbers k))
 
-  pub classes-all : (all : List ℕ) (at o n k : ℕ) (a u : List ℕ) → k ≡ n → places ≡ take n all → ByRisingId s o n all → u ≡ with_numbers_at at (numbers_to k) a
+  pub classes-all : (all : List ℕ) (at o n k : ℕ) (a u : List ℕ) → k ≡ n → places ≡ take n all → ByRisingId s o n all
+      → u ≡ with_numbers_at at (numbers_to k) a
       → u ≡ with_numbers_at at (classes_numbers (by_rising_id (classes_from s o n))) a
   classes-all all at o n k a u e t r eu =
-      eu ∙ ap (λ m. with_numbers_at at (numbers_to m) a) e ∙ ap (λ ps. with_numbers_at at (classes_numbers (classes_at_first s ps n)) a) t
+      eu ∙ ap (λ m. with_numbers_at at (numbers_to m) a) e
+      ∙ ap (λ ps. with_numbers_at at (classes_numbers (classes_at_first s ps n)) a) t
       ∙ ap (λ cs. with_numbers_at at (classes_numbers cs) a) (first-taken s all n ∙ r.classes)

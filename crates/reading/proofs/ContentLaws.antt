@@ -16,8 +16,7 @@ use Rattle.model.specs.Services as Services
 use Rattle.model.specs.Refusal.{number, numbered}
 use Rattle.model.specs.declared.Refusal.{Refusal}
 use Rattle.model.specs.declared.Refusal.TheVariants as R
-use Rattle.model.proofs.Readers.{many-sum, many-least}
-use Rattle.model.proofs.Records.{kind-read}
+use Rattle.model.proofs.Readers.{many-sum}
 use Rattle.model.proofs.Saving.Kept.{classes-count}
 use Rattle.records.specs.Classes.{classes_from}
 use Rattle.reading.specs.Write.{front_numbers, back_numbers, classes_numbers, kinds_numbers}
@@ -72,15 +71,6 @@ module _ (s : List ℕ) (e : refusal s ≡ 0) where
       let l = kinds-length in
       length-append (kind_count (content s).kinds ∷ concat (map kind_numbers (content s).kinds)) (piece_count (content s).kinds ∷ []) ∙ (omega arith)
 
-  -- There is a type, and it takes some bytes.
-  pub kinds-some : 4 ≤ kinds_length s
-  unfolding kinds_got
-  kinds-some =
-      let k = kinds-in s (six_none s e) in
-      let l = k.least in
-      let m = many-least read_kind 4 (λ t a j q. (kind-read t a j q).head) (kinds_stated s) (kind_bytes s) _ _ k.reads in
-      omega arith
-
   module _ (base size n : ℕ) (eb : base ≡ kinds_at s) (es : size ≡ kinds_length s) (en : n ≡ kinds_stated s) where
     abbrev list : List ℕ
     list = take (base + size - base) (drop base s)
@@ -114,12 +104,14 @@ module _ (s : List ℕ) (e : refusal s ≡ 0) where
       let b = back_length in
       ap length content-is ∙ length-append (front_numbers (content s)) (back_numbers (content s)) ∙ (omega arith)
 
-  pub content-few : (out : List ℕ) → length out / 2 < length (content_numbers (content s)) → read_content (content s) out ≡ write_outcome (Err R.Answer) out
+  pub content-few : (out : List ℕ) → length out / 2 < length (content_numbers (content s))
+      → read_content (content s) out ≡ write_outcome (Err R.Answer) out
   unfolding read_content numbers_in count
   content-few out h = rw (lt-ltb _ _ h)
 
   pub content-fits : (out : List ℕ) → length (content_numbers (content s)) ≤ length out / 2
-      → read_content (content s) out ≡ write_outcome (Ok (length (content_numbers (content s)))) (with_numbers (content_numbers (content s)) out)
+      → read_content (content s) out
+      ≡ write_outcome (Ok (length (content_numbers (content s)))) (with_numbers (content_numbers (content s)) out)
   unfolding read_content numbers_in count
   content-fits out h = rw (le-ltb _ _ h)
 
@@ -135,7 +127,11 @@ module _ (s out : List ℕ) where
   pub read-refused : (r : Refusal) → number r ≡ refusal s → Services.read s out ≡ write_outcome (Err r) out
   unfolding Services.read
   read-refused r e =
-      rw (ne_eqb (refusal s) 0 (λ z. some_number r (e ∙ z)), Services.read) (ap (λ q. write_outcome (Err q) out) (ap numbered (sym e) ∙ numbered_number r))
+      rw (
+        ne_eqb (refusal s) 0 (λ z. some_number r (e
+            ∙ z)),
+        Services.read,
+      ) (ap (λ q. write_outcome (Err q) out) (ap numbered (sym e) ∙ numbered_number r))
 
   pub read-accepted : refusal s ≡ 0 → Services.read s out ≡ read_content (content s) out
   unfolding Services.read

@@ -60,10 +60,6 @@ parts_more list from i here c at a u v w l r p ec eu ev ew =
     (omega arith) r p.values (part-numbers list here c _ _ p.reads ec) eu
     (numbers_then (at + here) (at + here + 1) (c ∷ []) (bytes_from true (here + 1) (c * 2) list) u v w refl ev ew)
 
-pub parts-done : (list : List ℕ) (from n i at : ℕ) (a u : List ℕ) → i ≡ n → u ≡ with_numbers_at (at + from) (parts_numbers i (drop from list)) a
-    → u ≡ with_numbers_at (at + from) (parts_numbers n (drop from list)) a
-parts-done list from n i at a u e eu = eu ∙ ap (λ m. with_numbers_at (at + from) (parts_numbers m (drop from list)) a) e
-
 -- ---- Kinds
 
 pub kind-each : (s : List ℕ) (k : Kind) (m : ℕ) → read_kind s ≡ got k m → length (kind_numbers k) ≡ m

@@ -51,7 +51,8 @@ module _ (s places : List ℕ) (at : ℕ) where
       ∙ ap (λ r. sets a at (list_to k ++ r)) (sym (class-copied s (get_or places k 0) h))
       ∙ ap (sets a at) (sym (concat-below-more (λ i. class_from s (get_or places i 0)) class_record k))
 
-  pub classes-all : (all : List ℕ) (o n k : ℕ) (a u : List ℕ) → k ≡ n → places ≡ take n all → ByRisingId s o n all → u ≡ sets a at (list_to k) → u ≡ sets a at (class_list (by_rising_id (classes_from s o n)))
+  pub classes-all : (all : List ℕ) (o n k : ℕ) (a u : List ℕ) → k ≡ n → places ≡ take n all → ByRisingId s o n all
+      → u ≡ sets a at (list_to k) → u ≡ sets a at (class_list (by_rising_id (classes_from s o n)))
   classes-all all o n k a u e t r eu =
       eu ∙ ap (λ m. sets a at (list_to m)) e ∙ ap (λ ps. sets a at (class_list (classes_at_first s ps n))) t
       ∙ ap (λ cs. sets a at (class_list cs)) (first-taken s all n ∙ r.classes)
@@ -135,11 +136,13 @@ module _ (s : List ℕ) (b : AreBytes s) (e : refusal s ≡ 0) where
       (e3 ∙ ap (sets u2 (6 + nc * 3 + size)) (trailer_is nc nk size enc enk es))
       ∙ ap (λ r. sets a 0 (r ++ T)) (append_assoc B C K)
 
-pub save-short : (j : Job) (out : List ℕ) → length out < length (written j) → save_content j out ≡ write_outcome (Err R.Answer) out
+pub save-short : (j : Job) (out : List ℕ) → length out < length (written j)
+    → save_content j out ≡ write_outcome (Err R.Answer) out
 unfolding save_content
 save-short j out h = rw (lt-ltb _ _ h)
 
-pub save-fits : (j : Job) (out : List ℕ) → length (written j) ≤ length out → save_content j out ≡ write_outcome (Ok (length (written j))) (sets out 0 (written j))
+pub save-fits : (j : Job) (out : List ℕ) → length (written j) ≤ length out
+    → save_content j out ≡ write_outcome (Ok (length (written j))) (sets out 0 (written j))
 unfolding save_content with_bytes
 save-fits j out h = rw (le-ltb _ _ h, sets-front (written j) out h)
 
@@ -147,7 +150,11 @@ module _ (s out : List ℕ) where
   pub save-refused : (r : Refusal) → number r ≡ refusal s → Services.save s out ≡ write_outcome (Err r) out
   unfolding Services.save
   save-refused r e =
-      rw (ne_eqb (refusal s) 0 (λ z. some_number r (e ∙ z)), Services.save) (ap (λ q. write_outcome (Err q) out) (ap numbered (sym e) ∙ numbered_number r))
+      rw (
+        ne_eqb (refusal s) 0 (λ z. some_number r (e
+            ∙ z)),
+        Services.save,
+      ) (ap (λ q. write_outcome (Err q) out) (ap numbered (sym e) ∙ numbered_number r))
 
   pub save-accepted : refusal s ≡ 0 → Services.save s out ≡ save_content (content s) out
   unfolding Services.save

@@ -22,6 +22,7 @@ returns-clause-refusal_value c =
 pub returns-clause-viewed : goal.returns-clause-viewed
 returns-clause-viewed c =
     record {
-      accepted = refusal-seven c.args.job.now _ (sym c.in_ok-first_of_six.ensures) (sym c.unsound.ensures ∙ c.if-unsound.false);
+      accepted = refusal-seven c.args.job.now _ (sym c.in_ok-first_of_six.ensures) (sym c.unsound.ensures
+          ∙ c.if-unsound.false);
       view = c.view_of-view.ensures;
     }

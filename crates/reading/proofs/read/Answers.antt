@@ -9,9 +9,6 @@ returns-in_err-view c =
     let q = read-refused c.args.job.now c.args.answer.now _ c.in_err-view.ensures.refusal_value in
     record { value = rw (p.1, p.2) (sym (ap (λ o. o.answer) q)); answer_after = sym (ap (λ o. o.buffer) q) }
 
-pub read_content-requires : goal.read_content-requires
-read_content-requires c = (sym c.in_ok-view.ensures.refusal_value, c.in_ok-view.ensures.viewed.view.pieces)
-
 pub returns : goal.returns
 returns c =
     let q = read-accepted c.args.job.now c.args.answer.now (sym c.in_ok-view.ensures.refusal_value) in

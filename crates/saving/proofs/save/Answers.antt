@@ -9,9 +9,6 @@ returns-in_err-open c =
     let q = save-refused c.args.job.now c.args.answer.now _ c.in_err-open.ensures.refusal_value in
     record { value = rw (p.1, p.2) (sym (ap (λ o. o.answer) q)); answer_after = sym (ap (λ o. o.buffer) q) }
 
-pub save_content-requires : goal.save_content-requires
-save_content-requires c = sym c.in_ok-open.ensures.refusal_value
-
 pub returns : goal.returns
 returns c =
     let q = save-accepted c.args.job.now c.args.answer.now (sym c.in_ok-open.ensures.refusal_value) in

@@ -10,5 +10,6 @@ use Rattle.job.proofs.accepted.unsound.Goals as goal
 
 pub returns : goal.returns
 returns c =
-    any_below (λ t. bad_kind (kind_at (content c.args.job.now).kinds t)) c.args.view.kinds _ _ c.any.ensures.ran (YieldsList-from_range 0 _ _ refl (omega arith)) (λ x b q k. search rules)
+    any_below (λ t. bad_kind (kind_at (content c.args.job.now).kinds t)) c.args.view.kinds _ _ c.any.ensures.ran
+    (YieldsList-from_range 0 _ _ refl (omega arith)) (λ x b q k. search rules)
     ∙ kinds-judged c.args.job.now _ c.requires.0.kinds

@@ -31,21 +31,26 @@ pub multiples-requires-2 : goal.multiples-requires-2
 multiples-requires-2 c = omega (arith, board-in c.args.job.now c.requires, board-read c.args.job.now _ _ c.read_trailer-t.ensures.board c.read_board-b.ensures)
 
 pub slice_bounds-kind-end : goal.slice_bounds-kind-end
-slice_bounds-kind-end c = let k = kinds-in c.args.job.now c.requires in omega (arith, c.read_kinds-kind.ensures.size, c.read_trailer-t.ensures.kind_count)
+slice_bounds-kind-end c = let k = kinds-in c.args.job.now c.requires in omega
+    (arith, c.read_kinds-kind.ensures.size, c.read_trailer-t.ensures.kind_count)
 
 pub slice_bounds-iter-end : goal.slice_bounds-iter-end
 slice_bounds-iter-end c =
     let k = kinds-in c.args.job.now c.requires in
-    sym (length-take-le c.read_trailer-t.result.kind_count c.read_kinds-kind.result (omega (arith, c.read_kinds-kind.ensures.size, c.read_trailer-t.ensures.kind_count)))
+    sym (length-take-le c.read_trailer-t.result.kind_count c.read_kinds-kind.result
+    (omega (arith, c.read_kinds-kind.ensures.size, c.read_trailer-t.ensures.kind_count)))
 
 pub sum-requires-clause-fits : goal.sum-requires-clause-fits
 sum-requires-clause-fits c =
     let s = c.args.job.now in
     let t = c.read_trailer-t.ensures in
     let k = kinds-in s c.requires in
-    let pieces = pieces-are s c.requires _ _ _ t.kinds t.kinds_length t.kind_count _ _ t.classes t.class_count _ c.read_kinds-kind.ensures (omega (arith, c.read_kinds-kind.ensures.size, t.kind_count)) in
+    let pieces = pieces-are s c.requires _ _ _ t.kinds t.kinds_length t.kind_count _ _ t.classes t.class_count _
+    c.read_kinds-kind.ensures (omega (arith, c.read_kinds-kind.ensures.size, t.kind_count)) in
     fits_from_yields_list c.map.result _
-    (YieldsList-from_map _ (λ (e : J.Kind). e.demand) (YieldsList-from_slice (take c.read_trailer-t.result.kind_count c.read_kinds-kind.result) (cc)) c.map.ensures.closure (λ x r q k. search rules))
+    (YieldsList-from_map _ (λ (e : J.Kind). e.demand)
+    (YieldsList-from_slice (take c.read_trailer-t.result.kind_count c.read_kinds-kind.result) (cc))
+    c.map.ensures.closure (λ x r q k. search rules))
     (omega arith)
 
 pub returns : goal.returns
@@ -54,9 +59,13 @@ returns c =
     let t = c.read_trailer-t.ensures in
     let b = board-read s _ _ t.board c.read_board-b.ensures in
     let k = kinds-in s c.requires in
-    let pieces = pieces-are s c.requires _ _ _ t.kinds t.kinds_length t.kind_count _ _ t.classes t.class_count _ c.read_kinds-kind.ensures (omega (arith, c.read_kinds-kind.ensures.size, t.kind_count)) in
-    view-is s c.requires _ _ _ t.kinds t.kinds_length t.kind_count _ _ t.classes t.class_count _ c.read_kinds-kind.ensures _ refl
+    let pieces = pieces-are s c.requires _ _ _ t.kinds t.kinds_length t.kind_count _ _ t.classes t.class_count _
+    c.read_kinds-kind.ensures (omega (arith, c.read_kinds-kind.ensures.size, t.kind_count)) in
+    view-is s c.requires _ _ _ t.kinds t.kinds_length t.kind_count _ _ t.classes t.class_count _
+    c.read_kinds-kind.ensures _ refl
     (sum_from_yields_List c.map.result _ c.sum.ensures.ran
-    (YieldsList-from_map _ (λ (e : J.Kind). e.demand) (YieldsList-from_slice (take c.read_trailer-t.result.kind_count c.read_kinds-kind.result) (cc)) c.map.ensures.closure (λ x r q k. search rules))
+    (YieldsList-from_map _ (λ (e : J.Kind). e.demand)
+    (YieldsList-from_slice (take c.read_trailer-t.result.kind_count c.read_kinds-kind.result) (cc))
+    c.map.ensures.closure (λ x r q k. search rules))
     ∙ pieces)
     b.0 b.1 b.2 c.multiples.ensures.0 c.multiples-2.ensures.0 (omega arith) refl

@@ -25,9 +25,6 @@ returns-then-misplaced c =
     (passed _ _ _ _ (sym c.wrong_mark.ensures ∙ c.if-wrong_mark.false)
     (stopped _ _ _ (sym c.misplaced.ensures ∙ c.if-misplaced.true)))
 
-pub first_within-requires : goal.first_within-requires
-first_within-requires c = (sym c.wrong_size.ensures ∙ c.if-wrong_size.false, sym c.misplaced.ensures ∙ c.if-misplaced.false)
-
 pub returns : goal.returns
 unfolding refusal_to6
 returns c =

@@ -14,6 +14,7 @@ returns c =
     ∙ ap (λ o. unwrap_or o 0)
     (sym (option_map_id c.max.result)
     ∙ max_from_yields_List _ _ c.max.ensures.ran
-    (YieldsList-from_map _ (λ i. gap_meant (byte_at c.args.job.now (c.args.at + i * 3 + 2))) (YieldsList-from_range 0 _ c.args.n c.map.ensures.source (omega arith))
+    (YieldsList-from_map _ (λ i. gap_meant (byte_at c.args.job.now (c.args.at + i * 3 + 2)))
+    (YieldsList-from_range 0 _ c.args.n c.map.ensures.source (omega arith))
     c.map.ensures.closure (λ x r q k. search rules)))
     ∙ largest_along c.args.job.now c.args.at c.args.n

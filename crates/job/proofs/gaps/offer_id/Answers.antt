@@ -1,15 +1,12 @@
 use Rattle.std.proofs.Common.{sym, ◌∙◌}
-use native.Mathlib.Omega.{arith}
 use Rattle.records.proofs.ClassLaws.{some-found, none-found}
 use Rattle.job.proofs.GapLaws.{offered-yes, offered-unnamed, offered-absent}
 use Rattle.job.proofs.gaps.offer_id.Goals as goal
 
-pub class_at-requires : goal.class_at-requires
-class_at-requires c = let f = some-found _ _ _ _ c.find.ensures c.in-Some.is in omega arith
-
 pub returns-in-Some : goal.returns-in-Some
 returns-in-Some c =
-    offered-yes c.args.job.now _ _ _ _ _ _ _ _ (some-found _ _ _ _ c.find.ensures c.in-Some.is) (sym c.names.ensures ∙ c.if-names.true)
+    offered-yes c.args.job.now _ _ _ _ _ _ _ _ (some-found _ _ _ _ c.find.ensures c.in-Some.is) (sym c.names.ensures
+    ∙ c.if-names.true)
     c.class_at.ensures c.offer.ensures
 
 pub returns-in_default : goal.returns-in_default

@@ -7,4 +7,5 @@ use Rattle.records.specs.Records.{Reads}
 use Rattle.job.proofs.places.place_parts.Given as goal
 
 abbrev pub invariant-loop-i : goal.invariant-loop-i
-invariant-loop-i l = (l.from ≤ l.here) × (length l.places ≡ 6) × Reads (many read_part l.i (drop l.from l.list)) (l.here - l.from) × Placed l.list l.from l.i l.base l.places
+invariant-loop-i l = (l.from ≤ l.here) × (length l.places ≡ 6)
+    × Reads (many read_part l.i (drop l.from l.list)) (l.here - l.from) × Placed l.list l.from l.i l.base l.places

@@ -1,36 +1,33 @@
 use Rattle.std.proofs.Common.{◌≡◌, refl, sym, take, length, length-take-le}
 use native.Mathlib.Omega.{arith}
-use Rattle.records.proofs.RisingLaws.{at_most-eight, inside-taken}
+use Rattle.records.proofs.RisingLaws.{at_most-eight}
 use Rattle.reading.proofs.ClassLaws.{classes-none, classes-more, classes-all}
 use Rattle.reading.proofs.classes.put_classes.Goals as goal
 
-pub places-places-requires : goal.places-places-requires
-places-places-requires c = (c.requires.0.0, c.requires.1)
-
 pub slice_bounds-places-end : goal.slice_bounds-places-end
-slice_bounds-places-end c = omega (arith, at_most-eight c.args.job.now c.args.from c.args.n c.requires.1, c.places-places.ensures.size)
+slice_bounds-places-end c = omega
+    (arith, at_most-eight c.args.job.now c.args.from c.args.n c.requires.1, c.places-places.ensures.size)
 
 pub slice_bounds-place-items-end : goal.slice_bounds-place-items-end
 slice_bounds-place-items-end c =
-    sym (length-take-le c.args.n c.places-places.result (omega (arith, at_most-eight c.args.job.now c.args.from c.args.n c.requires.1, c.places-places.ensures.size)))
+    sym (length-take-le c.args.n c.places-places.result
+    (omega (arith, at_most-eight c.args.job.now c.args.from c.args.n c.requires.1, c.places-places.ensures.size)))
 
 pub loop-k-init : goal.loop-k-init
 loop-k-init c = classes-none c.args.job.now (take c.args.n c.places-places.result) c.args.at _
 
-pub put_class-requires : goal.put_class-requires
-put_class-requires c =
-    let l : length (take c.args.n c.places-places.result) ≡ c.args.n =
-    length-take-le c.args.n c.places-places.result (omega (arith, at_most-eight c.args.job.now c.args.from c.args.n c.requires.1, c.places-places.ensures.size)) in
-    (inside-taken c.args.job.now c.places-places.result c.args.n c.places-places.ensures.inside c.loop-k.k (omega arith), omega arith)
-
 pub loop-k-preserved : goal.loop-k-preserved
 loop-k-preserved c =
     let l : length (take c.args.n c.places-places.result) ≡ c.args.n =
-    length-take-le c.args.n c.places-places.result (omega (arith, at_most-eight c.args.job.now c.args.from c.args.n c.requires.1, c.places-places.ensures.size)) in
-    classes-more c.args.job.now (take c.args.n c.places-places.result) c.args.at c.loop-k.k _ _ _ c.loop-k.invariant c.put_class.ensures
+    length-take-le c.args.n c.places-places.result
+    (omega (arith, at_most-eight c.args.job.now c.args.from c.args.n c.requires.1, c.places-places.ensures.size)) in
+    classes-more c.args.job.now (take c.args.n c.places-places.result) c.args.at c.loop-k.k _ _ _ c.loop-k.invariant
+    c.put_class.ensures
 
 pub returns : goal.returns
 returns c =
     let l : length (take c.args.n c.places-places.result) ≡ c.args.n =
-    length-take-le c.args.n c.places-places.result (omega (arith, at_most-eight c.args.job.now c.args.from c.args.n c.requires.1, c.places-places.ensures.size)) in
-    classes-all c.args.job.now _ c.places-places.result c.args.at c.args.from c.args.n c.loop-k.k _ _ (omega arith) refl c.places-places.ensures c.loop-k.invariant
+    length-take-le c.args.n c.places-places.result
+    (omega (arith, at_most-eight c.args.job.now c.args.from c.args.n c.requires.1, c.places-places.ensures.size)) in
+    classes-all c.args.job.now _ c.places-places.result c.args.at c.args.from c.args.n c.loop-k.k _ _ (omega arith) refl
+    c.places-places.ensures c.loop-k.invariant

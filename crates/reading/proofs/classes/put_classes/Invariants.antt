@@ -5,4 +5,5 @@ use Rattle.writing.specs.Numbers.{with_numbers_at}
 use Rattle.reading.proofs.classes.put_classes.Given as goal
 
 abbrev pub invariant-loop-k : goal.invariant-loop-k
-invariant-loop-k l = l.answer ≡ with_numbers_at l.at (classes_numbers (classes_at_first l.job l.place-items l.k)) l.initial.answer
+invariant-loop-k l = l.answer ≡ with_numbers_at l.at
+    (classes_numbers (classes_at_first l.job l.place-items l.k)) l.initial.answer

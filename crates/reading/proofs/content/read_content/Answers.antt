@@ -5,7 +5,7 @@ use native.Mathlib.Omega.{arith}
 use lib.ListN.{length}
 use Rattle.model.specs.Format.{content}
 use Rattle.model.specs.Services.{content_numbers}
-use Rattle.reading.proofs.ContentLaws.{kinds-some, content-length, content-few, content-fits, content-written}
+use Rattle.reading.proofs.ContentLaws.{content-length, content-few, content-fits, content-written}
 use Rattle.job.proofs.ViewLaws.{six_none, inside}
 use Rattle.reading.proofs.content.read_content.Goals as goal
 
@@ -33,12 +33,6 @@ returns c =
 
 pub read_trailer-t-requires : goal.read_trailer-t-requires
 read_trailer-t-requires c = (inside _ (six_none _ c.requires.0)).least
-
-pub put_front-requires : goal.put_front-requires
-put_front-requires c =
-    let t = c.read_trailer-t.ensures in
-    let k = kinds-some c.args.job.now c.requires.0 in
-    (c.requires.0, omega arith)
 
 pub overflow_cast-result : goal.overflow_cast-result
 overflow_cast-result c =

@@ -24,4 +24,6 @@ put_trailer-requires c = omega (arith, inside c.args.job.now (six_none c.args.jo
 pub returns : goal.returns
 returns c =
     let t = c.read_trailer-t.ensures in
-    job-written c.args.job.now (λ i. (c.type_inv.job i).fits) c.requires.0 _ _ _ _ _ _ c.args.answer.now _ _ _ _ t.board t.classes t.kinds t.class_count t.kind_count t.kinds_length c.copy.ensures c.put_classes.ensures c.copy-2.ensures c.put_trailer.ensures
+    job-written c.args.job.now (λ i. (c.type_inv.job i).fits) c.requires.0 _ _ _ _ _ _ c.args.answer.now _ _ _
+    _ t.board t.classes t.kinds t.class_count t.kind_count t.kinds_length c.copy.ensures c.put_classes.ensures
+    c.copy-2.ensures c.put_trailer.ensures

@@ -20,9 +20,6 @@ returns-then-answer-count c =
     let q = save-short (content c.args.job.now) c.args.answer.now few in
     record { value = sym (ap (λ o. o.answer) q); answer_after = sym (ap (λ o. o.buffer) q) }
 
-pub put_job-requires : goal.put_job-requires
-put_job-requires c = (c.requires, omega (arith, c.read_trailer-t.ensures.class_count, c.read_trailer-t.ensures.kinds_length))
-
 pub overflow_cast-result : goal.overflow_cast-result
 overflow_cast-result c = omega (arith, c.read_trailer-t.ensures, inside c.args.job.now (six_none c.args.job.now c.requires))
 
