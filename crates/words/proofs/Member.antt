@@ -169,7 +169,8 @@ count-le s k words l =
 -- ---- words that became zero
 
 -- Zeros in the place of their bytes (`s[..words * 8].fill(0)` in code).
-pub cleared-is : (words : ℕ) (s zeros : List ℕ) → words * 8 ≤ length s → zeros ≡ replicate (length (take (words * 8) s)) 0
+pub cleared-is : (words : ℕ) (s zeros : List ℕ) → words * 8 ≤ length s
+    → zeros ≡ replicate (length (take (words * 8) s)) 0
     → zeros ++ drop (words * 8) s ≡ cleared_words words s
 unfolding cleared_words filled
 cleared-is words s zeros fits e =

@@ -1,4 +1,5 @@
--- Words built by a test of their bits' numbers (`words::bits::word_of`), and words whose bits are tested one by one (`words::bits::keep`).
+-- Words built by a test of their bits' numbers (`words::bits::word_of`), and words whose bits are tested one by one
+-- (`words::bits::keep`).
 use mathlib.Core.Bool.{Bool, true, false, ◌&&◌}
 use mathlib.Core.Logic.{◌⊎◌, inl, inr}
 use mathlib.Core.Path.{◌≡◌, refl, sym, ap, ◌∙◌, subst}
@@ -10,7 +11,8 @@ use Rattle.std.proofs.lemmas.Bool.{true≢false}
 use Rattle.words.specs.Bits.{test_bit, bits_where, without_bit, assigned_bit}
 use Rattle.words.specs.Sets.{first_from}
 use Rattle.words.proofs.Cases.{eq_or_ne, le_or_lt}
-use Rattle.words.proofs.Bit.{bits-same, bits_where-lt, test_bit-above, test_bit-bits_where, test_bit-none, test_bit-with_same, test_bit-with_other, test_bit-without_same, test_bit-without_other}
+use Rattle.words.proofs.Bit.{bits-same, bits_where-lt, test_bit-above, test_bit-bits_where, test_bit-none}
+use Rattle.words.proofs.Bit.{test_bit-with_same, test_bit-with_other, test_bit-without_same, test_bit-without_other}
 use Rattle.words.proofs.First.{lowest}
 
 -- ---- one bit assigned: that bit, and every other
@@ -32,13 +34,15 @@ not_both p q = true≢false (sym p ∙ q)
 -- One bit more is told.
 pub told-more : (P : ℕ → Bool → Type 0) (i w v : ℕ) (on : Bool) → i < 64 → v ≡ assigned_bit on w (i % 64)
     → ((k : ℕ) → k < i → P k (test_bit w k)) → P i on → (k : ℕ) → k < i + 1 → P k (test_bit v k)
-told-more P i w v on l e told p k h = subst (λ (b : Bool). P k b) (sym (ap (λ (x : ℕ). test_bit x k) assigned)) (go (eq_or_ne i k))
+told-more P i w v on l e told p k h = subst (λ (b : Bool). P k b) (sym (ap (λ (x : ℕ). test_bit x k) assigned))
+    (go (eq_or_ne i k))
   where
     assigned : v ≡ assigned_bit on w i
     assigned = e ∙ ap (assigned_bit on w) (mod-eq_of_lt l)
 
     go : (i ≡ k) ⊎ (i ≡ k → ⊥) → P k (test_bit (assigned_bit on w i) k)
-    go (inl q) = subst (λ (k : ℕ). P k (test_bit (assigned_bit on w i) k)) q (subst (λ (b : Bool). P i b) (sym (assigned_same on w i)) p)
+    go (inl q) = subst (λ (k : ℕ). P k (test_bit (assigned_bit on w i) k)) q
+        (subst (λ (b : Bool). P i b) (sym (assigned_same on w i)) p)
     go (inr q) = subst (λ (b : Bool). P k b) (sym (assigned_other on w i k q)) (told k (omega arith))
 
 -- A bit that is set is one of the 64.
@@ -68,18 +72,21 @@ pub kept-begin : (P : ℕ → Bool → Type 0) (w : ℕ) → w < 2 ^ 64 → Kept
 kept-begin P w h = record { small = h; among = λ i e. e; tested = λ i e q. absurd (not_both e q); untested = λ i e. e }
 
 -- At the end all are.
-pub kept-end : (P : ℕ → Bool → Type 0) (w left kept : ℕ) → Kept P w left kept → left ≡ 0 → (i : ℕ) → test_bit w i ≡ true → P i (test_bit kept i)
+pub kept-end : (P : ℕ → Bool → Type 0) (w left kept : ℕ) → Kept P w left kept → left ≡ 0 → (i : ℕ)
+    → test_bit w i ≡ true → P i (test_bit kept i)
 kept-end P w left kept r z i e = r.tested i e (ap (λ (x : ℕ). test_bit x i) z ∙ test_bit-none i)
 
 -- The lowest bit that is left is one of the 64.
-pub lowest-left : (left b : ℕ) → left < 2 ^ 64 → (left ≡ 0 → ⊥) → b ≡ first_from (test_bit left) 64 0 → (b < 64) × (test_bit left b ≡ true)
+pub lowest-left : (left b : ℕ) → left < 2 ^ 64 → (left ≡ 0 → ⊥) → b ≡ first_from (test_bit left) 64 0
+    → (b < 64) × (test_bit left b ≡ true)
 lowest-left left b h q e =
     let f = lowest 64 left h q in
     let same : b ≡ f.0 = e ∙ f.1 in
     (omega (arith, f.2), subst (λ (i : ℕ). test_bit left i ≡ true) (sym same) f.4)
 
 -- A word without one of its bits is smaller.
-pub without_smaller : (left b rest : ℕ) → b < 64 → test_bit left b ≡ true → rest ≡ without_bit left (b % 64) → rest < left
+pub without_smaller : (left b rest : ℕ) → b < 64 → test_bit left b ≡ true → rest ≡ without_bit left (b % 64)
+    → rest < left
 unfolding without_bit
 without_smaller left b rest l e r = rw (r, mod-eq_of_lt l, e) (omega (arith, pow_pos b, positive (eq_or_ne left 0)))
   where
@@ -88,7 +95,8 @@ without_smaller left b rest l e r = rw (r, mod-eq_of_lt l, e) (omega (arith, pow
     positive (inr p) = omega arith
 
 -- One bit more is tested.
-pub kept-next : (P : ℕ → Bool → Type 0) (w left kept b : ℕ) (on : Bool) (rest next : ℕ) → Kept P w left kept → b < 64 → test_bit left b ≡ true → P b on
+pub kept-next : (P : ℕ → Bool → Type 0) (w left kept b : ℕ) (on : Bool) (rest next : ℕ) → Kept P w left kept → b < 64
+    → test_bit left b ≡ true → P b on
     → rest ≡ without_bit left (b % 64) → next ≡ assigned_bit on kept (b % 64) → Kept P w rest next
 kept-next P w left kept b on rest next r l e p without assigned =
     record {
@@ -126,7 +134,8 @@ kept-next P w left kept b on rest next r l e p without assigned =
     untested i z (inr s) = next_other i s ∙ r.untested i z
 
 -- Where the test says what p does of the bits that are set, they are kept by p.
-pub kept-is : (p : ℕ → Bool) (w v : ℕ) → ((i : ℕ) → i < 64 → test_bit w i ≡ true → test_bit v i ≡ p i) → ((i : ℕ) → test_bit w i ≡ false → test_bit v i ≡ false)
+pub kept-is : (p : ℕ → Bool) (w v : ℕ) → ((i : ℕ) → i < 64 → test_bit w i ≡ true → test_bit v i ≡ p i)
+    → ((i : ℕ) → test_bit w i ≡ false → test_bit v i ≡ false)
     → w < 2 ^ 64 → (i : ℕ) → test_bit v i ≡ (test_bit w i && p i)
 kept-is p w v set clear h i = go (test_bit w i) refl
   where

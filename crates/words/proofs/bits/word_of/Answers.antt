@@ -5,5 +5,6 @@ use Rattle.words.proofs.bits.word_of.Goals as goal
 
 pub loop-i-preserved : goal.loop-i-preserved
 loop-i-preserved g c =
-    told-more (goal.F-post g c.args.test) c.loop-i.i c.loop-i.word _ c.test.result (omega arith) c.assign_bit-word.ensures c.loop-i.invariant
+    told-more (goal.F-post g c.args.test) c.loop-i.i c.loop-i.word _ c.test.result (omega arith)
+    c.assign_bit-word.ensures c.loop-i.invariant
     c.test.ensures

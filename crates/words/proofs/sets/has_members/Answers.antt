@@ -20,7 +20,13 @@ returns-then-wanted-count c =
     ap₂ ◌+◌ c.loop-k.invariant.counted (c.count_bits-count.ensures.0 ∙ ap ones c.get_u64-w.ensures)
     ∙ sym (count_word s k (λ i. (c.type_inv.s i).fits)) in
     let all = count_members (c.args.words * 64) s in
-    let enough : c.args.wanted ≤ all = omega (arith, c.if-wanted-count.true, counted, count-le s (k + 1) c.args.words (omega arith)) in
+    let enough : c.args.wanted ≤ all = omega (
+      arith,
+      c.if-wanted-count.true,
+      counted,
+      count-le s (k + 1) c.args.words
+          (omega arith),
+    ) in
     sym (le-leb c.args.wanted all enough)
 
 pub loop-k-preserved : goal.loop-k-preserved
@@ -29,7 +35,8 @@ loop-k-preserved c =
     let k = c.loop-k.k in
     elim c.if-w-ne0.branch [
       | then-w-ne0+else-wanted-count w ↦ record {
-        counted = w.count-is ∙ ap₂ ◌+◌ c.loop-k.invariant.counted (w.count_bits-count.ensures.0 ∙ ap ones c.get_u64-w.ensures)
+        counted = w.count-is ∙ ap₂ ◌+◌ c.loop-k.invariant.counted
+            (w.count_bits-count.ensures.0 ∙ ap ones c.get_u64-w.ensures)
             ∙ sym (count_word s k (λ i. (c.type_inv.s i).fits));
         few = omega (arith, w.count-is, w.count_bits-count.ensures.1, c.loop-k.invariant.few);
       }
