@@ -4,6 +4,8 @@ use Rattle.std.specs.Prelude.{Bool, true, false, cond, ◌&&◌, ◌||◌, List,
 use mir.Val.{bool_byte}
 use Rattle.words.specs.Bits.{test_bit}
 use Rattle.words.specs.Sets.{member}
+use Rattle.model.specs.Content.{kind_at}
+use Rattle.model.specs.Format.{content}
 use Rattle.model.specs.Geometry.{pieces_conflict}
 use Rattle.model.specs.Lists.{concat}
 use Rattle.polygons.specs.Boxes.{extents_of}
@@ -18,7 +20,7 @@ use Rattle.shapes.specs.Pieces.{turned_to, Turnable}
 use Rattle.shapes.specs.declared.boxes.Boxes.{Boxes}
 use Rattle.candidates.specs.Conflicts.{view_gap}
 use Rattle.candidates.specs.declared.prepared.PreparedJob.{PreparedJob}
-use Rattle.nofit.specs.Patterns.{from_middle, above_string, below_string, MeasuresOf}
+use Rattle.nofit.specs.Patterns.{from_middle, blocked, above_string, below_string, MeasuresOf}
 use Rattle.nofit.specs.declared.places.Nofit.{Nofit}
 use Rattle.nofit.specs.declared.patterns.Dot.{Dot}
 use Rattle.nofit.specs.declared.patterns.Pair.{Pair}
@@ -136,6 +138,13 @@ pub record Small (w : Nofit) (x : Pair) : Type 0 where
 pub record Fillable (p : PreparedJob) (w : Nofit) (room : ℕ) : Type 0 where
   pub measures : MeasuresOf p.job.now w
   pub fits : (w.first + w.held * w.size + 1) * 8 ≤ room
+
+-- Which bits of a pair's string are asked for, and what they say.
+abbrev pub asked_of : PreparedJob → Pair → ℕ → Bool
+asked_of p x = allowed (kind_at (content p.job.now).kinds x.other).rotations
+
+abbrev pub blocked_pair : PreparedJob → Nofit → Pair → ℕ → Bool
+blocked_pair p w x = blocked (content p.job.now) w x.kind x.turn x.other (under_of x)
 
 -- ---- parities
 

@@ -1,7 +1,6 @@
 // The strings of the no-fit patterns and the parities of the columns, filled once for a run.
 ghost use Rattle.std.specs.Prelude.{true, ◌≡◌, ◌+◌, ◌*◌, ◌/◌, ◌%◌, ◌≤◌, ◌<◌, length, get_or};
 ghost use Rattle.words.specs.Bits.{test_bit, bits_where};
-ghost use Rattle.model.specs.Content.{kind_at};
 ghost use Rattle.model.specs.Format.{content};
 ghost use Rattle.job.specs.View.{Viewed, rotations_of};
 ghost use Rattle.shapes.specs.Boxes.{BoxesOf};
@@ -9,9 +8,9 @@ ghost use Rattle.shapes.specs.Pieces.{turned_to};
 ghost use Rattle.shapes.specs.Turned.{TurnedOf};
 ghost use Rattle.candidates.specs.Facts.{facts};
 ghost use Rattle.candidates.specs.Placements.{Bounded};
-ghost use Rattle.nofit.specs.Patterns.{from_middle, blocked, StringsOf, ParitiesOf, MeasuresOf, NofitOf};
-ghost use Rattle.nofit.specs.Filling.{dot_of, conflict_at_dot, blocked_at_dot, blocked_turned, blocked_bit, Ready, Boxed, BoxesIn, TurnSet, FirstWord, WordSet, Written, allowed};
-ghost use Rattle.nofit.specs.Filling.{PairOf, under_of, bound_of, pattern_of, Small, Fillable, parity_bits, ParitiesTo};
+ghost use Rattle.nofit.specs.Patterns.{from_middle, StringsOf, ParitiesOf, MeasuresOf, NofitOf};
+ghost use Rattle.nofit.specs.Filling.{dot_of, Ready, Boxed, BoxesIn, TurnSet, FirstWord, WordSet, Written, allowed};
+ghost use Rattle.nofit.specs.Filling.{PairOf, bound_of, pattern_of, Small, Fillable, asked_of, blocked_pair, parity_bits, ParitiesTo};
 
 use crate::places::Nofit;
 use candidates::conflicts::pair_gap;
@@ -123,10 +122,12 @@ fn next_dot(rows: usize, d: Dot, n: usize) -> Dot
 }
 
 impl<'a> Facing<'a> {
+    ghost use Rattle.nofit.specs.Sources.{conflict_facing, blocked_facing, bit_facing};
+
     // Whether the pieces are in conflict at the offset of a dot. Boxes that are apart decide most dots.
     fn conflicts_at(&self, d: Dot) -> bool
         requires { (d.column < self.now.pattern.reach * 2 + 1) × (d.row < self.now.pattern.rows) }
-        ensures { result ≡ conflict_at_dot self.now.turned.now self.now.pattern self.now.placed.piece self.now.other.piece d }
+        ensures { result ≡ conflict_facing self.now d }
     {
         let s = self.pattern;
         let placed = self.placed;
@@ -142,7 +143,7 @@ impl<'a> Facing<'a> {
     // Whether bit z of the string is set, which belongs to the dot d and to the other piece as it stands turned.
     fn blocks(&self, z: usize, d: Dot) -> bool
         requires { d.row < self.now.pattern.rows }
-        ensures { result ≡ blocked_at_dot self.now.turned.now self.now.pattern self.now.placed.piece self.now.other.piece z d }
+        ensures { result ≡ blocked_facing self.now z d }
     {
         z < self.pattern.below || (d.column < self.pattern.reach * 2 + 1 && self.conflicts_at(d))
     }
@@ -152,7 +153,7 @@ impl<'a> Facing<'a> {
     fn turn_word(&self, k: usize, word: usize, w: u64) -> u64
         requires rotation { k < 4 }
         requires word_bounds { (1 ≤ word) × (word ≤ 200) }
-        ensures { TurnSet k 16 (λ i. blocked_turned self.now.turned.now self.now.pattern self.now.placed.piece self.now.other.piece (word * 64 + i)) w result }
+        ensures { TurnSet k 16 (λ i. bit_facing self.now (word * 64 + i)) w result }
     {
         let rows = self.pattern.rows;
         let first = (word - 1) * 16;
@@ -175,6 +176,8 @@ fn first_word(below: usize) -> u64
 }
 
 impl<'a> Source<'a> {
+    ghost use Rattle.nofit.specs.Sources.{source_bit};
+
     // The other piece at rotation k, and the placed one.
     fn facing(&self, k: usize) -> Facing<'a>
         requires { k < 4 }
@@ -195,7 +198,7 @@ impl<'a> Source<'a> {
     // Word number `word` of the string. Rotations that the other kind may not have cost no test.
     fn word(&self, word: usize) -> u64
         requires { word ≤ 200 }
-        ensures { WordSet (allowed self.now.pattern.mask) (λ i. blocked_bit self.now.turned.now self.now.pattern self.now.placed.piece self.now.other (word * 64 + i)) result }
+        ensures { WordSet (allowed self.now.pattern.mask) (λ i. source_bit self.now (word * 64 + i)) result }
     {
         if word == 0 {
             return first_word(self.pattern.below);
@@ -213,7 +216,7 @@ impl<'a> Source<'a> {
     fn fill(&self, at: usize, size: usize, bits: &mut [u8])
         requires sizes { (size ≤ 200) × (at ≤ 100000) }
         requires size_in_bounds { (at + size) * 8 ≤ length bits.old }
-        ensures { Written at size (allowed self.now.pattern.mask) (blocked_bit self.now.turned.now self.now.pattern self.now.placed.piece self.now.other) bits.old bits.new }
+        ensures { Written at size (allowed self.now.pattern.mask) (source_bit self.now) bits.old bits.new }
     {
         for k in 0..size {
             numbers::put_u64(bits, (at + k) * 8, self.word(k));
@@ -277,7 +280,7 @@ fn pair_of(nofit: Nofit, i: usize) -> Pair
 fn fill_pair(prepared: &PreparedJob, nofit: Nofit, x: Pair, i: usize, bits: &mut [u8])
     requires fillable { Fillable prepared.now nofit (length bits.old) }
     requires pair_of { PairOf nofit i x × (i < nofit.held) }
-    ensures { Written (nofit.first + i * nofit.size) nofit.size (allowed (kind_at (content prepared.now.job.now).kinds x.other).rotations) (blocked (content prepared.now.job.now) nofit x.kind x.turn x.other (under_of x)) bits.old bits.new }
+    ensures { Written (nofit.first + i * nofit.size) nofit.size (asked_of prepared.now x) (blocked_pair prepared.now nofit x) bits.old bits.new }
 {
     let view = prepared.view;
     let source = Source {
