@@ -8,10 +8,12 @@ use Rattle.model.specs.Demand3.{Fit, Demand3}
 use Rattle.model.specs.Format.{content}
 use Rattle.model.specs.Problem.{under}
 use Rattle.model.specs.Services.{given_layout, run_outcome, run}
-use Rattle.model.specs.declared.RunAnswer.{RunAnswer}
+use Rattle.std.specs.Prelude.{Result}
+use Rattle.model.specs.declared.Outcome.{Outcome}
+use Rattle.model.specs.declared.Refusal.{Refusal}
 use Rattle.model.proofs.Search.Demand3.{demand3}
 
-pub run-meets-demand3 : (job : List ℕ) (margin budget : ℕ) (given work answer work' answer' : List ℕ) (r : RunAnswer) → Fit job margin given work answer
+pub run-meets-demand3 : (job : List ℕ) (margin budget : ℕ) (given work answer work' answer' : List ℕ) (r : Result Outcome Refusal) → Fit job margin given work answer
     → r ≡ (run job margin budget given work answer).answer → work' ≡ (run job margin budget given work answer).work → answer' ≡ (run job margin budget given work answer).out
     → Demand3 (under margin (content job)) (given_layout (under margin (content job)) given) budget (run_outcome r work' answer')
 run-meets-demand3 job margin budget given work answer work' answer' r fit told cleared held = rw (told, cleared, held) (demand3 job margin budget given work answer fit)

@@ -15,8 +15,14 @@ use Rattle.model.specs.Format.{content}
 use Rattle.model.specs.Layout.{Layout, layout_length}
 use Rattle.model.specs.Problem.{Problem, under}
 use Rattle.model.specs.Services.{RunOutcome, run_outcome, words_in, numbers_in, work_words, with_words, cleared, with_layout, held_as, finished_as, refusal_under, given_layout, given_unfit, run_from, run_content, run}
-use Rattle.model.specs.declared.RunAnswer.{RunAnswer}
-use Rattle.model.specs.declared.RunAnswer.TheVariants as R
+use Rattle.std.specs.Prelude.{Ok, Err}
+use Rattle.model.specs.Refusal.{number, numbered}
+use Rattle.model.specs.declared.Outcome.{Outcome}
+use Rattle.model.specs.declared.Outcome.TheVariants as O
+use Rattle.model.specs.declared.Refusal.{Refusal}
+use Rattle.model.specs.declared.Refusal.TheVariants as R
+use Rattle.model.proofs.Numbered.{numbered_number}
+use Rattle.job.proofs.ViewLaws.{some_number}
 use Rattle.stepping.specs.Levels.{walk_spent, go_on_level}
 use Rattle.stepping.specs.LiveSets.{bound_of}
 use Rattle.stepping.specs.Spending.{Spent, answer_of}
@@ -39,12 +45,12 @@ cleared-same j words work work' e b =
 
 -- The answer by what is held.
 told-held : (j : Problem) (out : List ℕ) (steps : ℕ) (s f : Bool) (h : Option Layout) → held_of j f out ≡ h
-    → told s f (bound_of j h + j.margin) steps ≡ cond s (R.Stopped (held_as j h) steps) (finished_as j h steps)
+    → told s f (bound_of j h + j.margin) steps ≡ cond s (O.Stopped (held_as j h) steps) (finished_as j h steps)
 unfolding held_as finished_as bound_of layout_length
 told-held j out steps s f h e =
-    subst (λ (h : Option Layout). told s f (bound_of j h + j.margin) steps ≡ cond s (R.Stopped (held_as j h) steps) (finished_as j h steps)) e (go s f)
+    subst (λ (h : Option Layout). told s f (bound_of j h + j.margin) steps ≡ cond s (O.Stopped (held_as j h) steps) (finished_as j h steps)) e (go s f)
   where
-    go : (s f : Bool) → told s f (bound_of j (held_of j f out) + j.margin) steps ≡ cond s (R.Stopped (held_as j (held_of j f out)) steps) (finished_as j (held_of j f out) steps)
+    go : (s f : Bool) → told s f (bound_of j (held_of j f out) + j.margin) steps ≡ cond s (O.Stopped (held_as j (held_of j f out)) steps) (finished_as j (held_of j f out) steps)
     go true true = refl
     go true false = refl
     go false true = refl
@@ -75,35 +81,36 @@ met o r e = (ap (λ (o : RunOutcome). o.answer) e, (ap (λ (o : RunOutcome). o.w
 
 -- ---- From a layout that passes, or from none
 
+-- Enough of both.
+pub from-room : (j : Problem) (work out : List ℕ) (words numbers : ℕ) → words ≡ work_words j → numbers ≡ 4 * piece_count j.kinds
+    → ltb (length work / 8) words ≡ false → ltb (length out / 2) numbers ≡ false → RoomFor j work out
+unfolding numbers_in count
+from-room j work out words numbers w n enough enough' =
+    record {
+      work-fits = omega (arith, w, ltb-false (length work / 8) words enough);
+      out-fits = omega (arith, n, ltb-false (length out / 2) numbers enough');
+    }
+
 module _ (j : Problem) (begin : Option Layout) (budget : ℕ) (work out : List ℕ) (words : ℕ) (words_are : words ≡ work_words j) where
   -- Too few words.
-  pub from-few-words : ltb (length work / 8) words ≡ true → Met (run_outcome (R.Refused 8) work out) (run_from j begin budget work out)
+  pub from-few-words : ltb (length work / 8) words ≡ true → Met (run_outcome (Err R.Work) work out) (run_from j begin budget work out)
   unfolding run_from words_in count
   from-few-words h = met _ (run_from j begin budget work out) (sym (rw (subst (λ (n : ℕ). ltb (length work / 8) n ≡ true) words_are h, run_from)))
 
   module _ (numbers : ℕ) (numbers_are : numbers ≡ 4 * piece_count j.kinds) (enough : ltb (length work / 8) words ≡ false) where
     -- Too few numbers.
-    pub from-few-numbers : ltb (length out / 2) numbers ≡ true → Met (run_outcome (R.Refused 9) work out) (run_from j begin budget work out)
+    pub from-few-numbers : ltb (length out / 2) numbers ≡ true → Met (run_outcome (Err R.Answer) work out) (run_from j begin budget work out)
     unfolding run_from words_in numbers_in count
     from-few-numbers h =
         met _ (run_from j begin budget work out)
         (sym (rw (subst (λ (n : ℕ). ltb (length work / 8) n ≡ false) words_are enough, subst (λ (n : ℕ). ltb (length out / 2) n ≡ true) numbers_are h, run_from)))
 
     module _ (enough' : ltb (length out / 2) numbers ≡ false) where
-      -- Enough of both.
-      pub from-room : RoomFor j work out
-      unfolding numbers_in count
-      from-room =
-          record {
-            work-fits = omega (arith, words_are, ltb-false (length work / 8) words enough);
-            out-fits = omega (arith, numbers_are, ltb-false (length out / 2) numbers enough');
-          }
-
       -- What the walk leaves once the given layout stood in the answer numbers, with the needed words cleared.
       pub from-done : 0 < piece_count j.kinds → Entries (piece_count j.kinds) begin
-          → (answer : RunAnswer) (out₁ work' work'' out' : List ℕ) (st : Progress) → out₁ ≡ with_layout begin out → Walked j begin budget work out₁ work' out' st
+          → (answer : Outcome) (out₁ work' work'' out' : List ℕ) (st : Progress) → out₁ ≡ with_layout begin out → Walked j begin budget work out₁ work' out' st
           → answer ≡ told st.stopped st.found (st.bound + j.margin) (budget - st.left) → work'' ≡ cleared_words words work'
-          → Met (run_outcome answer work'' out') (run_from j begin budget work out)
+          → Met (run_outcome (Ok answer) work'' out') (run_from j begin budget work out)
       unfolding words_in numbers_in count
       from-done pieced entries answer out₁ work' work'' out' st o w a c =
           let t : answer ≡ answer_of j budget (walk_spent j begin budget) = a ∙ told_is j begin budget work out₁ work' out' st w in
@@ -129,25 +136,26 @@ module _ (j : Problem) (begin : Option Layout) (budget : ℕ) (work out : List �
 
 module _ (s : List ℕ) (m budget : ℕ) (given work out : List ℕ) where
   -- The job or the margin is refused.
-  pub run-refuses : (number : ℕ) → number ≡ refusal_under m s → (number ≡ 0 → ⊥) → Met (run_outcome (R.Refused number) work out) (run s m budget given work out)
+  pub run-refuses : (r : Refusal) → number r ≡ refusal_under m s → Met (run_outcome (Err r) work out) (run s m budget given work out)
   unfolding run
-  run-refuses number e h =
-      met _ (run s m budget given work out) (ap (λ (n : ℕ). run_outcome (R.Refused n) work out) e ∙ sym (rw (ne_eqb (refusal_under m s) 0 (λ q. h (e ∙ q)), run)))
+  run-refuses r e =
+      met _ (run s m budget given work out)
+      (ap (λ (r : Refusal). run_outcome (Err r) work out) (sym (numbered_number r) ∙ ap numbered e)
+      ∙ sym (rw (ne_eqb (refusal_under m s) 0 (λ q. some_number r (e ∙ q)), run)))
 
   module _ (accepted : refusal_under m s ≡ 0) where
     -- The given layout is refused.
-    pub run-unfit : (number : ℕ) → number ≡ cond (given_unfit (under m (content s)) given) 11 0 → (number ≡ 0 → ⊥) → Met (run_outcome (R.Refused number) work out) (run s m budget given work out)
+    pub run-unfit : given_unfit (under m (content s)) given ≡ true → (r : Refusal) → r ≡ R.Layout
+        → Met (run_outcome (Err r) work out) (run s m budget given work out)
     unfolding run run_content
-    run-unfit number e h = go (given_unfit (under m (content s)) given) refl e
-      where
-        go : (b : Bool) → given_unfit (under m (content s)) given ≡ b → number ≡ cond b 11 0 → Met (run_outcome (R.Refused number) work out) (run s m budget given work out)
-        go true u e = met _ (run s m budget given work out) (ap (λ (n : ℕ). run_outcome (R.Refused n) work out) e ∙ sym (rw (eq-eqb (refusal_under m s) 0 accepted, u, run, run_content)))
-        go false u e = absurd (h e)
+    run-unfit u r e =
+        met _ (run s m budget given work out)
+        (ap (λ (r : Refusal). run_outcome (Err r) work out) e ∙ sym (rw (eq-eqb (refusal_under m s) 0 accepted, u, run, run_content)))
 
-    -- It is not, or there is none: what the run from it answers and leaves, under the margin of a view, which is the one given.
-    pub run-goes : (v : ℕ) → v ≡ m → given_unfit (under m (content s)) given ≡ false → (o : RunOutcome)
-        → Met o (run_from (under v (content s)) (given_layout (under v (content s)) given) budget work out) → Met o (run s m budget given work out)
+    -- It is not, or there is none: what the run from it answers and leaves.
+    pub run-goes : given_unfit (under m (content s)) given ≡ false → (o : RunOutcome)
+        → Met o (run_from (under m (content s)) (given_layout (under m (content s)) given) budget work out) → Met o (run s m budget given work out)
     unfolding run run_content
-    run-goes v e u o w =
+    run-goes u o w =
         let q : run s m budget given work out ≡ run_from (under m (content s)) (given_layout (under m (content s)) given) budget work out = rw (eq-eqb (refusal_under m s) 0 accepted, u, run, run_content) in
-        subst (Met o) (sym q) (subst (λ (v : ℕ). Met o (run_from (under v (content s)) (given_layout (under v (content s)) given) budget work out)) e w)
+        subst (Met o) (sym q) w

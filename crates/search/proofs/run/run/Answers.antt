@@ -1,56 +1,44 @@
 -- `search::run::run` meets its contract: it answers and leaves what the model says, at all inputs.
-use mathlib.Core.Path.{◌≡◌, refl, sym, ◌∙◌, subst}
+use borrow.Author.Rules.{rules}
+use mathlib.Core.Bool.{true, false}
+use mathlib.Core.List.{List}
 use Prim.Native.Nat.{ℕ}
+use mathlib.Core.Path.{◌≡◌, sym, ap, ap₂, ◌∙◌, subst}
 use Rattle.model.specs.Format.{content}
-use Rattle.model.specs.Problem.{under}
-use Rattle.model.specs.Services.{refusal_under, run_outcome}
-use Rattle.job.specs.View.{Viewed}
-use Rattle.search.specs.Begin.{GivenBy}
-use Rattle.search.proofs.Beginning.{not_unfit}
-use Rattle.search.proofs.Running.{run-refuses, run-unfit, run-goes}
+use Rattle.model.specs.Problem.{Problem, under}
+use Rattle.model.specs.Services.{run_from, given_layout, given_unfit, run_outcome}
+use Rattle.job.specs.declared.View.{View}
+use Rattle.search.proofs.Running.{Met, run-refuses, run-unfit, run-goes}
 use Rattle.search.proofs.run.run.Goals as goal
 
-pub returns-then-refusal-ne0 : goal.returns-then-refusal-ne0
-returns-then-refusal-ne0 c =
-    let m = run-refuses c.args.job.now c.args.margin c.args.budget c.args.layout.now c.args.work.now c.args.answer.now c.open_under-opened.result.refusal c.open_under-opened.ensures.refusal_value c.if-refusal-ne0.true in
-    record { told = m.0; cleared = m.1.0; held = m.1.1 }
+-- The problem of a job prepared under a margin is the job's content under it.
+problem_is : (s t : List ℕ) (v w : View) (m : ℕ) → w ≡ v → v.margin ≡ m → t ≡ s → under w.margin (content t) ≡ under m (content s)
+problem_is s t v w m q e p = ap₂ under (ap (λ (v : View). v.margin) q ∙ e) (ap content p)
 
-pub turn_all-requires : goal.turn_all-requires
-turn_all-requires c =
-    let viewed : Viewed c.args.job.now c.open_under-opened.result.view = (c.open_under-opened.ensures.viewed c.if-refusal-ne0.false).0 in
-    (viewed, refl)
+pub returns-in_err-view : goal.returns-in_err-view
+returns-in_err-view c =
+    let m = run-refuses _ _ c.args.budget c.args.layout.now c.args.work.now c.args.answer.now _ c.in_err-view.ensures.refusal_value in
+    record { told = search rules ∙ m.0; cleared = m.1.0; held = m.1.1 }
 
-pub boxes_of-boxes-requires : goal.boxes_of-boxes-requires
-boxes_of-boxes-requires c =
-    let viewed : Viewed c.args.job.now c.open_under-opened.result.view = (c.open_under-opened.ensures.viewed c.if-refusal-ne0.false).0 in
-    (viewed, c.turn_all.ensures)
-
-pub given_layout-given-requires : goal.given_layout-given-requires
-given_layout-given-requires c =
-    let viewed : Viewed c.args.job.now c.open_under-opened.result.view = (c.open_under-opened.ensures.viewed c.if-refusal-ne0.false).0 in
-    record { viewed = viewed; turned = c.turn_all.ensures; boxes = c.boxes_of-boxes.ensures }
-
-pub returns-then-unfit-ne0 : goal.returns-then-unfit-ne0
-returns-then-unfit-ne0 c =
-    let accepted : refusal_under c.args.margin c.args.job.now ≡ 0 = sym c.open_under-opened.ensures.refusal_value ∙ c.if-refusal-ne0.false in
-    let given_by : GivenBy (under c.args.margin (content c.args.job.now)) c.args.layout.now c.given_layout-given.result = (let margin_is : c.open_under-opened.result.view.margin ≡ c.args.margin = (c.open_under-opened.ensures.viewed c.if-refusal-ne0.false).1 in
-    subst (λ (m : ℕ). GivenBy (under m (content c.args.job.now)) c.args.layout.now c.given_layout-given.result) margin_is c.given_layout-given.ensures) in
-    let m = run-unfit c.args.job.now c.args.margin c.args.budget c.args.layout.now c.args.work.now c.args.answer.now accepted c.given_layout-given.result.refusal given_by.refused c.if-unfit-ne0.true in
-    record { told = m.0; cleared = m.1.0; held = m.1.1 }
+pub returns-in_err-best : goal.returns-in_err-best
+returns-in_err-best c =
+    let p = problem_is _ _ _ _ _ c.new-prepared.ensures.of_view c.in_ok-view.ensures.viewed.1 c.new-prepared.ensures.of_job in
+    let m = run-unfit c.args.job.now c.args.margin c.args.budget c.args.layout.now c.args.work.now c.args.answer.now
+    (sym c.in_ok-view.ensures.refusal_value)
+    (subst (λ (j : Problem). given_unfit j c.args.layout.now ≡ true) p c.in_err-best.ensures.0) _ c.in_err-best.ensures.1 in
+    record { told = search rules ∙ m.0; cleared = m.1.0; held = m.1.1 }
 
 pub run_from-requires : goal.run_from-requires
-run_from-requires c =
-    let viewed : Viewed c.args.job.now c.open_under-opened.result.view = (c.open_under-opened.ensures.viewed c.if-refusal-ne0.false).0 in
-    record {
-      prepared = record { viewed = viewed; turned = c.turn_all.ensures; boxes = c.boxes_of-boxes.ensures };
-      given_by = (c.given_layout-given.ensures, c.if-unfit-ne0.false);
-    }
+run_from-requires c = record { begins = c.in_ok-best.ensures }
 
 pub returns : goal.returns
 returns c =
-    let accepted : refusal_under c.args.margin c.args.job.now ≡ 0 = sym c.open_under-opened.ensures.refusal_value ∙ c.if-refusal-ne0.false in
-    let margin_is : c.open_under-opened.result.view.margin ≡ c.args.margin = (c.open_under-opened.ensures.viewed c.if-refusal-ne0.false).1 in
-    let given_by : GivenBy (under c.args.margin (content c.args.job.now)) c.args.layout.now c.given_layout-given.result = (subst (λ (m : ℕ). GivenBy (under m (content c.args.job.now)) c.args.layout.now c.given_layout-given.result) margin_is c.given_layout-given.ensures) in
+    let p = problem_is _ _ _ _ _ c.new-prepared.ensures.of_view c.in_ok-view.ensures.viewed.1 c.new-prepared.ensures.of_job in
     let f = c.run_from.ensures in
-    let m = run-goes c.args.job.now c.args.margin c.args.budget c.args.layout.now c.args.work.now c.args.answer.now accepted c.open_under-opened.result.view.margin margin_is (not_unfit _ c.args.layout.now c.given_layout-given.result given_by c.if-unfit-ne0.false) (run_outcome c.run_from.result c.run_from.new.work c.run_from.new.answer) (f.told, (f.cleared, f.held)) in
+    let o = run_outcome c.run_from.result c.run_from.new.work c.run_from.new.answer in
+    let m = run-goes c.args.job.now c.args.margin c.args.budget c.args.layout.now c.args.work.now c.args.answer.now
+    (sym c.in_ok-view.ensures.refusal_value)
+    (subst (λ (j : Problem). given_unfit j c.args.layout.now ≡ false) p c.in_ok-best.ensures.fit) o
+    (subst (λ (j : Problem). Met o (run_from j (given_layout j c.args.layout.now) c.args.budget c.args.work.now c.args.answer.now)) p
+    (f.told, (f.cleared, f.held))) in
     record { told = m.0; cleared = m.1.0; held = m.1.1 }
