@@ -67,7 +67,8 @@ pub fn trim(job: &[u8], plan: Plan, bound: usize, span: usize, work: &mut [u8])
     requires admitted { (work_words (planned job.now plan) * 8 ≤ length work.old) × Admitted (planned job.now plan) span work.old }
     ensures { Trimmed (planned job.now plan) bound span (piece_count (content job.now).kinds * kind_count (content job.now).kinds) work.old work.new }
 {
-    for i in 0..plan.pieces * plan.types {
+    let sets = plan.pieces * plan.types;
+    for i in 0..sets {
         trim_next(job, plan, bound, span, i, work);
     }
 }

@@ -48,7 +48,8 @@ fn next_in(
     None
 }
 
-// The first live candidate of the branch's next piece, from a number on: the next member of its set. None is where what is placed does not end below the bound.
+// The first live candidate of the branch's next piece, from a number on: the next member of its set. None is where what
+// is placed does not end below the bound.
 pub fn next_live(
     fixed: &Fixed,
     branch: &Branch,

@@ -26,7 +26,8 @@ fn sift_word(fixed: &Fixed, latest: &Latest, u: usize, first: usize, w: u64) -> 
     bits::keep(w, |i| board::still_live(fixed, latest, u, first + i))
 }
 
-// Of the 64 numbers from `first` on, those that stand in this row or above it: such a number has the same column as the number that is so many rows less.
+// Of the 64 numbers from `first` on, those that stand in this row or above it: such a number has the same column as the
+// number that is so many rows less.
 fn rows_from(nofit: &Nofit, strings: &[u8], row: usize, first: usize) -> u64
     requires { Rowed nofit.now strings.now row first }
     ensures { (i : ℕ) → i < 64 → test_bit result i ≡ leb row ((first + i) / 4 % nofit.now.rows) }
@@ -35,9 +36,9 @@ fn rows_from(nofit: &Nofit, strings: &[u8], row: usize, first: usize) -> u64
     !(bits_at(strings, at) ^ bits_at(strings, at - row * 4))
 }
 
-// Of the 64 numbers from `first` on, those of candidates that go once the latest piece is placed, by the strings of both kinds: one
-// string for the rows from the placed one's on, and one for the rows under it.
-// Strings do not know the margin: what is promised speaks of the candidates at margin 0, which every candidate is.
+// Of the 64 numbers from `first` on, those of candidates that go once the latest piece is placed, by the strings of
+// both kinds: one string for the rows from the placed one's on, and one for the rows under it. Strings do not know the
+// margin: what is promised speaks of the candidates at margin 0, which every candidate is.
 fn blocked_word(fixed: &Fixed, latest: &Latest, u: usize, first: usize) -> u64
     requires { Laid fixed.now.job.now fixed.now.nofit fixed.now.strings.now latest.now.kind latest.now.number latest.now.place u first × Near fixed.now.nofit latest.now.place.column first }
     ensures { (i : ℕ) → i < 64 → is_candidate (under 0 (content fixed.now.job.now)) u (first + i) ≡ true → test_bit result i ≡ not (stays (under 0 (content fixed.now.job.now)) latest.now.kind latest.now.number u (first + i)) }
@@ -59,7 +60,8 @@ fn blocked_word(fixed: &Fixed, latest: &Latest, u: usize, first: usize) -> u64
     (above & here) | (below & !here)
 }
 
-// The bits of a word whose candidates stay, by the strings of both kinds. Out of reach of the placed piece nothing is in conflict with it.
+// The bits of a word whose candidates stay, by the strings of both kinds. Out of reach of the placed piece nothing is
+// in conflict with it.
 fn strain_word(fixed: &Fixed, latest: &Latest, u: usize, first: usize, w: u64) -> u64
     requires { Laid fixed.now.job.now fixed.now.nofit fixed.now.strings.now latest.now.kind latest.now.number latest.now.place u first × BitsAdmitted (under 0 (content fixed.now.job.now)) u first w }
     ensures { (i : ℕ) → test_bit result i ≡ (test_bit w i && stays (under 0 (content fixed.now.job.now)) latest.now.kind latest.now.number u (first + i)) }
@@ -96,6 +98,7 @@ fn narrow_word(fixed: &Fixed, latest: &Latest, u: usize, first: usize, w: u64) -
 }
 
 // The set at word `to`: the members of the set at word `from` that stay once the latest piece is placed.
+// Where the sets stand are plain numbers: this alone takes all three, and a struct of them would be taken apart at once.
 pub fn narrow(
     fixed: &Fixed,
     latest: &Latest,

@@ -16,7 +16,7 @@ pub struct Fixed<'a> {
     pub strings: &'a [u8],
 }
 
-// The pieces that are placed: the numbers of their candidates, how many pieces that are, and where the last of them ends.
+// The pieces that are placed: the numbers of their candidates, how many pieces that are, and how far they reach.
 #[derive(Clone, Copy)]
 pub struct Branch {
     pub numbers: [usize; 12],

@@ -1,4 +1,5 @@
-// The live sets of a level behind the first, one for each kind with copies left, and look-ahead: whether each has members for its copies.
+// The live sets of a level behind the first, one for each kind with copies left, and look-ahead: whether each has
+// members for its copies.
 ghost use Rattle.std.specs.Prelude.{◌≡◌, ◌+◌, ◌*◌, ◌≤◌, ◌<◌, leb, length, drop};
 ghost use Rattle.words.specs.Sets.{count_members};
 ghost use Rattle.model.specs.Content.{kind_count};
@@ -24,7 +25,8 @@ pub fn has_members(work: &[u8], at: usize, words: usize, copies: u8) -> bool
     sets::has_members(&work[at * 8..], words as u32, copies as u64)
 }
 
-// The set of the branch's level and of this kind, at word `to`: what is left of the set of the level before once the latest piece is placed.
+// The set of the branch's level and of this kind, at word `to`: what is left of the set of the level before once the
+// latest piece is placed.
 fn make_set(
     fixed: &Fixed,
     branch: &Branch,

@@ -1,4 +1,5 @@
-// The live sets of the first level: the candidates of each kind that end below the bound, and look-ahead before the first step.
+// The live sets of the first level: the candidates of each kind that end below the bound, and look-ahead before the
+// first step.
 ghost use Rattle.std.specs.Prelude.{[], ◌≡◌, ◌+◌, ◌*◌, ◌≤◌, ◌<◌, length, replicate};
 ghost use Rattle.words.specs.Bits.{bits_where};
 ghost use Rattle.model.specs.Candidate.{is_candidate};
@@ -6,67 +7,82 @@ ghost use Rattle.model.specs.Content.{kind_count};
 ghost use Rattle.model.specs.Format.{content};
 ghost use Rattle.model.specs.Grid.{set_words};
 ghost use Rattle.model.specs.Services.{work_words};
-ghost use Rattle.candidates.specs.Prepared.{problem_in};
+ghost use Rattle.job.specs.View.{problem_of, Viewed};
+ghost use Rattle.shapes.specs.Boxes.{BoxesOf};
 ghost use Rattle.stepping.specs.LiveSets.{set_of};
 ghost use Rattle.plans.specs.Planned.{PlanOf, planned};
 ghost use Rattle.live_sets.specs.Narrowing.{Filled, Fillable};
 ghost use Rattle.lookahead.specs.Settled.{Settled};
 
 use bounding::trimming::trim_set;
-use candidates::prepared::PreparedJob;
+use candidates::placements::is_candidate;
+use job::View;
 use lookahead::settling::has_members;
 use plans::lookup::{copies_left, set_start};
 use plans::plan::Plan;
+use shapes::boxes::Boxes;
 use words::{bits, numbers};
 
 // The bits of a word whose candidates exist.
-fn fill_word(prepared: &PreparedJob, u: usize, first: usize) -> u64
-    requires u_bound { (u < kind_count (content prepared.now.job.now).kinds) × (first < 65536) }
-    ensures { result ≡ bits_where 64 (λ i. is_candidate (problem_in prepared.now) u (first + i)) }
+fn fill_word(job: &[u8], view: View, boxes: Boxes, u: usize, first: usize) -> u64
+    requires viewed { Viewed job.now view × BoxesOf job.now boxes }
+    requires u_bound { (u < kind_count (content job.now).kinds) × (first < 65536) }
+    ensures { result ≡ bits_where 64 (λ i. is_candidate (problem_of job.now view) u (first + i)) }
 {
-    bits::word_of(|i| prepared.is_candidate(u, first + i))
+    bits::word_of(|i| is_candidate(view, boxes, u, first + i))
 }
 
 // The set at word `to`: all candidates of kind u.
-fn fill(prepared: &PreparedJob, u: usize, work: &mut [u8], to: usize, words: usize)
-    requires fillable { Fillable (problem_in prepared.now) u to words work.old }
-    ensures { Filled to words (is_candidate (problem_in prepared.now) u) work.old work.new }
+fn fill(job: &[u8], view: View, boxes: Boxes, u: usize, work: &mut [u8], to: usize, words: usize)
+    requires viewed { Viewed job.now view × BoxesOf job.now boxes }
+    requires fillable { Fillable (problem_of job.now view) u to words work.old }
+    ensures { Filled to words (is_candidate (problem_of job.now view) u) work.old work.new }
 {
     for k in 0..words {
-        let w = fill_word(prepared, u, k * 64);
+        let w = fill_word(job, view, boxes, u, k * 64);
         numbers::put_u64(work, (to + k) * 8, w);
     }
 }
 
-// The set at word `to`: the candidates of kind u that end below the bound. Without a given layout all do, and no end is looked at.
+// The set at word `to`: the candidates of kind u that end below the bound. Without a given layout all do, and no end is
+// looked at.
 fn fill_below(
-    prepared: &PreparedJob,
+    job: &[u8],
+    view: View,
+    boxes: Boxes,
     plan: Plan,
     u: usize,
     bound: usize,
     work: &mut [u8],
     to: usize,
 )
-    requires planned { PlanOf prepared.now.job.now plan × (plan.margin ≡ prepared.now.view.margin) }
-    requires fillable { Fillable (planned prepared.now.job.now plan) u to plan.words work.old }
-    ensures { Filled to plan.words (set_of (planned prepared.now.job.now plan) [] bound u) work.old work.new }
+    requires viewed { (Viewed job.now view × BoxesOf job.now boxes × PlanOf job.now plan) × (plan.margin ≡ view.margin) }
+    requires fillable { Fillable (planned job.now plan) u to plan.words work.old }
+    ensures { Filled to plan.words (set_of (planned job.now plan) [] bound u) work.old work.new }
 {
-    fill(prepared, u, work, to, plan.words);
-    if bound <= prepared.view.length {
-        trim_set(prepared.job, plan, u, bound, work, to, plan.words);
+    fill(job, view, boxes, u, work, to, plan.words);
+    if bound <= view.length {
+        trim_set(job, plan, u, bound, work, to, plan.words);
     }
 }
 
 // The sets of the first level, and look-ahead. It ends at the first kind with too few members.
-pub fn settle_first(prepared: &PreparedJob, plan: Plan, bound: usize, work: &mut [u8]) -> bool
-    requires planned { PlanOf prepared.now.job.now plan × (plan.margin ≡ prepared.now.view.margin) }
-    requires work_in_bounds { work_words (planned prepared.now.job.now plan) * 8 ≤ length work.old }
-    ensures { Settled (planned prepared.now.job.now plan) (replicate 12 0) 0 bound (set_words (content prepared.now.job.now).sheet) work.old work.new result }
+// Not of a `PreparedJob`: that would ask for the turned parts too, which nothing here reads.
+pub fn settle_first(
+    job: &[u8],
+    view: View,
+    boxes: Boxes,
+    plan: Plan,
+    bound: usize,
+    work: &mut [u8],
+) -> bool
+    requires viewed { (Viewed job.now view × BoxesOf job.now boxes × PlanOf job.now plan) × (plan.margin ≡ view.margin) }
+    requires work_in_bounds { work_words (planned job.now plan) * 8 ≤ length work.old }
+    ensures { Settled (planned job.now plan) (replicate 12 0) 0 bound (set_words (content job.now).sheet) work.old work.new result }
 {
-    let job = prepared.job;
     for u in 0..plan.types {
         let to = set_start(job, plan, 0, u);
-        fill_below(prepared, plan, u, bound, work, to);
+        fill_below(job, view, boxes, plan, u, bound, work, to);
         if !has_members(work, to, plan.words, copies_left(job, plan, 0, u)) {
             return false;
         }

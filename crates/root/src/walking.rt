@@ -17,8 +17,8 @@ use plans::plan::{Plan, make_plan};
 use runs::progress::{Progress, begin};
 use walks::walk::try_piece;
 
-// How many words the no-fit strings may take. The fewer the steps, the fewer strings are worth their price; 25,399 words, with the parities and a word more,
-// fill the larger of the two tables.
+// How many words the no-fit strings may take. The fewer the steps, the fewer strings are worth their price; 25,399
+// words, with the parities and a word more, fill the larger of the two tables.
 fn room_for(budget: u32) -> usize
     ensures { result ≤ 25399 }
 {
@@ -88,8 +88,9 @@ fn walk_with_table(
     walk_over(prepared, plan, nofit, &mut strings, work, answer, start)
 }
 
-// The walk of an accepted job, in buffers that are large enough, from the layout that the answer numbers hold, if `best` says where one ends that they hold.
-// What holds for the whole walk is computed first; the table of no-fit strings only where look-ahead lets the walk begin.
+// The walk of an accepted job, in buffers that are large enough, from the layout that the answer numbers hold, if
+// `best` says where one ends that they hold. What holds for the whole walk is computed first; the table of no-fit
+// strings only where look-ahead lets the walk begin.
 pub fn walk(
     prepared: &PreparedJob,
     budget: u32,
@@ -103,7 +104,14 @@ pub fn walk(
     let bound = best.unwrap_or(prepared.view.length + 1);
     let found = best.is_some();
     let plan = make_plan(prepared.job, prepared.view, prepared.boxes);
-    if !settle_first(prepared, plan, bound, work) {
+    if !settle_first(
+        prepared.job,
+        prepared.view,
+        prepared.boxes,
+        plan,
+        bound,
+        work,
+    ) {
         return begin(budget, bound, found, plan.words);
     }
     let span = shrink(prepared.job, plan, work, plan.words);

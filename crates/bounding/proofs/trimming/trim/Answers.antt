@@ -19,8 +19,8 @@ sets-are c =
     let e = ap₂ ◌*◌ c.requires.plan_of.0.pieces c.requires.plan_of.0.types in
     (e, omega (arith, e, mul-le-mul (few-pieces _ c.requires.plan_of.0.accepted) (kinds-few _ _ c.requires.plan_of.0)))
 
-pub overflow_mul-i-end : goal.overflow_mul-i-end
-overflow_mul-i-end c = omega (arith, (sets-are (goal.at.overflow_mul-i-end c).Start).1)
+pub overflow_mul-sets : goal.overflow_mul-sets
+overflow_mul-sets c = omega (arith, (sets-are (goal.at.overflow_mul-sets c).Start).1)
 
 pub loop-i-init : goal.loop-i-init
 loop-i-init c = trimmed-none _ _ _ _

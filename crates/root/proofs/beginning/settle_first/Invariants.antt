@@ -8,5 +8,5 @@ use Rattle.root.proofs.beginning.settle_first.Given as goal
 
 abbrev pub invariant-loop-u : goal.invariant-loop-u
 invariant-loop-u l =
-    Settling (planned l.prepared.job.now l.plan) (replicate 12 0) 0 l.bound (set_words (content l.prepared.job.now).sheet) l.u
+    Settling (planned l.job l.plan) (replicate 12 0) 0 l.bound (set_words (content l.job).sheet) l.u
     l.initial.work l.work

@@ -37,7 +37,7 @@ make_plan-plan-requires c = (c.args.prepared.now.prepared.viewed, c.args.prepare
 
 pub settle_first-requires : goal.settle_first-requires
 settle_first-requires c = record {
-  planned = c.make_plan-plan.ensures;
+  viewed = ((c.args.prepared.now.prepared.viewed, c.args.prepared.now.prepared.boxes, c.make_plan-plan.ensures.0), c.make_plan-plan.ensures.1);
   work_in_bounds = (room_at _ _ _ c.make_plan-plan.ensures.1 _ _ c.requires.room_for.0).work-fits;
 }
 
