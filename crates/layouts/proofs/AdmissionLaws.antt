@@ -20,7 +20,8 @@ pub layout_is : (j : Problem) (s : List ℕ) (n : ℕ) → n ≡ piece_count j.k
 unfolding entries_in layout_in
 layout_is j s n e = ap (λ (m : ℕ). map (entry_in s) (below m)) e
 
-pub entries_at : (p : Entry → Bool) (s : List ℕ) (n i : ℕ) → all p (entries_in s n) ≡ true → i < n → p (entry_in s i) ≡ true
+pub entries_at : (p : Entry → Bool) (s : List ℕ) (n i : ℕ) → all p (entries_in s n) ≡ true → i < n
+    → p (entry_in s i) ≡ true
 unfolding entries_in
 entries_at p s n i e h =
     subst (λ (x : Entry). p x ≡ true) (get_or-map-below (entry_in s) n i no_entry h)
@@ -42,7 +43,8 @@ pub largest-none : (f : Entry → ℕ) (s : List ℕ) → 0 ≡ largest (map f (
 unfolding largest entries_in below rising
 largest-none f s = refl
 
-pub largest-next : (f : Entry → ℕ) (s : List ℕ) (i m k r : ℕ) → m ≡ largest (map f (entries_in s i)) → k ≡ f (entry_in s i) → r ≡ max m k
+pub largest-next : (f : Entry → ℕ) (s : List ℕ) (i m k r : ℕ) → m ≡ largest (map f (entries_in s i)) → k
+    ≡ f (entry_in s i) → r ≡ max m k
     → r ≡ largest (map f (entries_in s (i + 1)))
 unfolding entries_in
 largest-next f s i m k r e g q = q ∙ ap₂ max e g ∙ sym (largest-below-more (entry_in s) f i)

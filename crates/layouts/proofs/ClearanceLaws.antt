@@ -27,7 +27,8 @@ module _ (j : Problem) where
   apart-last [] f = refl
   apart-last (e ∷ es) f =
       ap₂ ◌&&◌ (all_more (λ g. not (conflict j e g)) es f) (apart-last es f)
-      ∙ middle (all (λ g. not (conflict j e g)) es) (not (conflict j e f)) (apart j es) (all (λ g. not (conflict j g f)) es)
+      ∙ middle (all (λ g. not (conflict j e g)) es) (not (conflict j e f)) (apart j es) (all (λ g. not (conflict j g
+      f)) es)
 
   -- Entry k is clear of those before it.
   abbrev pub clear_at : List ℕ → ℕ → Bool

@@ -23,19 +23,23 @@ module _ (p : Entry → Bool) (f : ℕ → Entry) where
   counted i zero = refl
   counted i (suc k) = go (counted (suc i) k) (p (f i)) refl
     where
-      go : length (filter (λ m. p (f m)) (range_with_len (suc i) k)) ≡ count_of p (map f (rising (suc i) k)) → (b : Bool) → p (f i) ≡ b
-          → length (filter (λ m. p (f m)) (range_with_len i (suc k))) ≡ cond (p (f i)) 1 0 + count_of p (map f (rising (suc i) k))
+      go : length (filter (λ m. p (f m)) (range_with_len (suc i) k)) ≡ count_of p (map f (rising (suc i) k))
+          → (b : Bool) → p (f i) ≡ b
+          → length (filter (λ m. p (f m)) (range_with_len i (suc k)))
+          ≡ cond (p (f i)) 1 0 + count_of p (map f (rising (suc i) k))
       go rest true e = let n : i + 1 ≡ suc i = omega arith in rw (e, n) (omega (arith, rest))
       go rest false e = let n : i + 1 ≡ suc i = omega arith in rw (e, n) (omega (arith, rest))
 
-pub copies_counted : (t : ℕ) (s : List ℕ) (n : ℕ) → length (filter (λ i. eqb (entry_in s i).kind t) (range_with_len 0 n)) ≡ copies t (entries_in s n)
+pub copies_counted : (t : ℕ) (s : List ℕ) (n : ℕ) → length (filter (λ i. eqb (entry_in s i).kind t) (range_with_len 0
+    n)) ≡ copies t (entries_in s n)
 unfolding copies entries_in below
 copies_counted t s n = counted (λ e. eqb e.kind t) (entry_in s) 0 n
 
 -- ---- the number of an entry
 
 pub product_small : (a b : ℕ) → a < 65536 → b ≤ 1001 → a * b ≤ 65601536
-product_small a b h l = let p : a * b ≤ 65536 * 1001 = mul-le-mul {n₂ = 65536} {m₂ = 1001} (omega arith) l in omega arith
+product_small a b h l = let p : a * b ≤ 65536 * 1001 = mul-le-mul {n₂ = 65536} {m₂ = 1001} (omega arith) l in omega
+    arith
 
 -- ---- two entries
 

@@ -45,7 +45,8 @@ all-below-same p q n h = go (all p (below n)) (all q (below n)) refl refl
 
 module _ (j : Problem) where
   -- each entry before the next, entry by entry
-  ordered-rising : (f : ℕ → Entry) (i k : ℕ) → ordered j (map f (rising i (suc k))) ≡ list_all (λ m. in_order j (f (m - 1)) (f (m - 1 + 1))) (range_with_len (suc i) k)
+  ordered-rising : (f : ℕ → Entry) (i k : ℕ) → ordered j (map f (rising i (suc k)))
+      ≡ list_all (λ m. in_order j (f (m - 1)) (f (m - 1 + 1))) (range_with_len (suc i) k)
   unfolding ordered rising
   ordered-rising f i zero = refl
   ordered-rising f i (suc k) =
@@ -53,14 +54,17 @@ module _ (j : Problem) where
       let b : suc i ≡ suc i - 1 + 1 = omega arith in
       let c : suc (suc i) ≡ suc i + 1 = omega arith in
       ap₂ ◌&&◌ (ap₂ (λ m n. in_order j (f m) (f n)) a b)
-      (ordered-rising f (suc i) k ∙ ap (λ n. list_all (λ m. in_order j (f (m - 1)) (f (m - 1 + 1))) (range_with_len n k)) c)
+      (ordered-rising f (suc i) k ∙ ap (λ n. list_all (λ m. in_order j (f (m - 1)) (f (m - 1 + 1))) (range_with_len n
+          k)) c)
 
-  ordered-entries : (s : List ℕ) (n : ℕ) → list_all (λ m. in_order j (entry_in s (m - 1)) (entry_in s (m - 1 + 1))) (range_with_len 1 (n - 1)) ≡ ordered j (entries_in s n)
+  ordered-entries : (s : List ℕ) (n : ℕ) → list_all (λ m. in_order j (entry_in s (m - 1)) (entry_in s (m - 1 + 1)))
+      (range_with_len 1 (n - 1)) ≡ ordered j (entries_in s n)
   unfolding ordered entries_in below rising
   ordered-entries s zero = refl
   ordered-entries s (suc n) =
       let k : suc n - 1 ≡ n = omega arith in
-      ap (λ m. list_all (λ m. in_order j (entry_in s (m - 1)) (entry_in s (m - 1 + 1))) (range_with_len 1 m)) k ∙ sym (ordered-rising (entry_in s) 0 n)
+      ap (λ m. list_all (λ m. in_order j (entry_in s (m - 1)) (entry_in s (m - 1 + 1))) (range_with_len 1 m)) k
+          ∙ sym (ordered-rising (entry_in s) 0 n)
 
   -- The tests of the entries before the last, each with the next.
   pub order_is : (r : ℕ) (s : List ℕ) (n : ℕ) → r ≡ rows j.sheet → n ≡ piece_count j.kinds
@@ -78,12 +82,14 @@ pub few-pieces : (s : List ℕ) → refusal s ≡ 0 → piece_count (content s).
 unfolding piece_count content cause6 kinds_unfit kinds_in
 few-pieces s e = go (kinds_got s) (or_right (not (between 1 8 (kinds_stated s))) _ (no_cause s e).no6)
   where
-    go : (g : Got (List Kind)) → kinds_unfit (classes_of s) (kinds_length s) g ≡ false → sum (map (λ k. k.demand) (kinds_in g)) ≤ 12
+    go : (g : Got (List Kind)) → kinds_unfit (classes_of s) (kinds_length s) g ≡ false
+        → sum (map (λ k. k.demand) (kinds_in g)) ≤ 12
     go bad u = absurd (not_both refl u)
     go (got ks m) u = ltb-false _ _ (or_right (not (eqb m (kinds_length s))) _ (or_left _ _ u))
 
 -- The copies of each kind of the view are those that the job demands.
-pub demand-is : (s : List ℕ) (v : View) → Viewed s v → (es : Layout) → all (λ t. eqb (copies t es) (demand_of v t)) (below v.kinds) ≡ demand_met (problem_of s v) es
+pub demand-is : (s : List ℕ) (v : View) → Viewed s v → (es : Layout)
+    → all (λ t. eqb (copies t es) (demand_of v t)) (below v.kinds) ≡ demand_met (problem_of s v) es
 unfolding demand_met
 demand-is s v x es =
     ap (λ m. all (λ t. eqb (copies t es) (demand_of v t)) (below m)) x.view.kinds
@@ -117,7 +123,8 @@ module _ (j : Problem) (s : List ℕ) where
     unfolding check_content cause11
     not_passed p = rw (right-count, p)
 
-    pub passed : (r : ℕ) → passes j (layout_in j s) ≡ true → r ≡ layout_length j (layout_in j s) → Ok r ≡ check_content j s
+    pub passed : (r : ℕ) → passes j (layout_in j s) ≡ true → r ≡ layout_length j (layout_in j s) → Ok r
+        ≡ check_content j s
     unfolding check_content cause11
     passed r p q = rw (right-count, p) (ap Ok q)
 

@@ -21,7 +21,9 @@ module _ (h : Handed) where
   at_most_12 = omega (arith, few-pieces h.prepared.now.job.now h.prepared.now.prepared.viewed.accepted, pieces_are)
 
   -- Entry i of a layout of candidates is one.
-  pub entry_stands : all (is_entry (problem_for h)) (layout_for h) ≡ true → (i : ℕ) (e : Entry) → i < h.prepared.now.view.pieces → EntryAt h.layout.now i e
+  pub entry_stands : all (is_entry (problem_for h)) (layout_for h) ≡ true → (i : ℕ) (e : Entry)
+      → i < h.prepared.now.view.pieces → EntryAt h.layout.now i e
       → is_entry (problem_for h) (as_entry e) ≡ true
   entry_stands a i e l at =
-      ap (is_entry (problem_for h)) at.same ∙ each_of (problem_for h) h.layout.now h.prepared.now.view.pieces pieces_are (is_entry (problem_for h)) a i l
+      ap (is_entry (problem_for h)) at.same ∙ each_of (problem_for h) h.layout.now h.prepared.now.view.pieces
+          pieces_are (is_entry (problem_for h)) a i l

@@ -25,16 +25,20 @@ use Rattle.candidates.proofs.PlacementLaws.{on_dots}
 
 module _ (s : List ℕ) (v : View) (x : Viewed s v) where
   -- what the tests of the kinds say
-  pub kinds-exist : (t u : ℕ) → (leb v.kinds t || leb v.kinds u) ≡ false → (t < kind_count (content s).kinds) × (u < kind_count (content s).kinds)
+  pub kinds-exist : (t u : ℕ) → (leb v.kinds t || leb v.kinds u) ≡ false → (t < kind_count (content s).kinds)
+      × (u < kind_count (content s).kinds)
   kinds-exist t u e = on_dots t (kind_count (content s).kinds) u (kind_count (content s).kinds) (rw x.view.kinds at e)
 
   pub kind-absent : (t n u : ℕ) → (leb v.kinds t || leb v.kinds u) ≡ true → cause12 (problem_of s v) t n u ≡ true
   unfolding cause12
   kind-absent t n u e = go (leb (kind_count (content s).kinds) t) refl (rw x.view.kinds at e)
     where
-      go : (w : Bool) → leb (kind_count (content s).kinds) t ≡ w → (w || leb (kind_count (content s).kinds) u) ≡ true → not (ltb t (kind_count (content s).kinds) && is_candidate (problem_of s v) t n && ltb u (kind_count (content s).kinds)) ≡ true
+      go : (w : Bool) → leb (kind_count (content s).kinds) t ≡ w → (w || leb (kind_count (content s).kinds) u)
+          ≡ true → not (ltb t (kind_count (content s).kinds) && is_candidate (problem_of s v) t n && ltb u
+              (kind_count (content s).kinds)) ≡ true
       go true d g = rw (le-ltb t (kind_count (content s).kinds) (leb-true _ _ d))
-      go false d g = rw (le-ltb u (kind_count (content s).kinds) (leb-true _ _ g)) (last (ltb t (kind_count (content s).kinds) && is_candidate (problem_of s v) t n))
+      go false d g = rw (le-ltb u (kind_count (content s).kinds) (leb-true _ _ g)) (last (ltb t (kind_count (content
+          s).kinds) && is_candidate (problem_of s v) t n))
         where
           last : (a : Bool) → not (a && false) ≡ true
           last true = refl
@@ -48,7 +52,8 @@ candidate-absent j t n u e = rw e (go (ltb t (kind_count j.kinds)))
     go true = refl
     go false = refl
 
-pub all-exist : (j : Problem) (t n u : ℕ) → t < kind_count j.kinds → is_candidate j t n ≡ true → u < kind_count j.kinds → cause12 j t n u ≡ false
+pub all-exist : (j : Problem) (t n u : ℕ) → t < kind_count j.kinds → is_candidate j t n ≡ true
+    → u < kind_count j.kinds → cause12 j t n u ≡ false
 unfolding cause12
 all-exist j t n u h e g = rw (lt-ltb t (kind_count j.kinds) h, e, lt-ltb u (kind_count j.kinds) g)
 
@@ -59,18 +64,21 @@ module _ (j : Problem) (t n u : ℕ) (out : List ℕ) where
   unfolding row_content
   row-absent e = rw (e, row_content)
 
-  pub row-short : cause12 j t n u ≡ false → length out / 8 < set_words j.sheet → row_content j t n u out ≡ write_outcome (Err R.Answer) out
+  pub row-short : cause12 j t n u ≡ false → length out / 8 < set_words j.sheet → row_content j t n u out
+      ≡ write_outcome (Err R.Answer) out
   unfolding row_content words_in count
   row-short e h = rw (e, lt-ltb (length out / 8) (set_words j.sheet) h, row_content)
 
-  pub row_written : cause12 j t n u ≡ false → set_words j.sheet ≤ length out / 8 → row_content j t n u out ≡ write_outcome (Ok (set_words j.sheet)) (with_words (row_words j t n u) out)
+  pub row_written : cause12 j t n u ≡ false → set_words j.sheet ≤ length out / 8 → row_content j t n u out
+      ≡ write_outcome (Ok (set_words j.sheet)) (with_words (row_words j t n u) out)
   unfolding row_content words_in count
   row_written e h = rw (e, le-ltb (length out / 8) (set_words j.sheet) h, row_content)
 
 -- ---- the refusals of the job and of the margin
 
 module _ (s : List ℕ) (m t n u : ℕ) (out : List ℕ) where
-  pub row-refused : (r : Refusal) → number r ≡ refusal_under m s → conflict_row s m t n u out ≡ write_outcome (Err r) out
+  pub row-refused : (r : Refusal) → number r ≡ refusal_under m s → conflict_row s m t n u out
+      ≡ write_outcome (Err r) out
   unfolding conflict_row
   row-refused r e =
       rw (ne_eqb (refusal_under m s) 0 (λ q. some_number r (e ∙ q)), conflict_row)

@@ -20,7 +20,8 @@ pub fill_none : (f : ℕ → ℕ) (s : List ℕ) → s ≡ filled 8 (map f (belo
 unfolding below rising
 fill_none f s = sym (filled_none 8 s)
 
-pub fill_more : (f : ℕ → ℕ) (s : List ℕ) (w : ℕ) → filled 8 (map f (below (w + 1))) s ≡ with_number 8 (filled 8 (map f (below w)) s) (w * 8) (f w)
+pub fill_more : (f : ℕ → ℕ) (s : List ℕ) (w : ℕ) → filled 8 (map f (below (w + 1))) s
+    ≡ with_number 8 (filled 8 (map f (below w)) s) (w * 8) (f w)
 fill_more f s w =
     ap (λ (ns : List ℕ). filled 8 ns s) (map-below-more f w)
     ∙ filled_more 8 (map f (below w)) s (f w)

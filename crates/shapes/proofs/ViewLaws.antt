@@ -1,7 +1,7 @@
 -- What an accepted job and its view give together. Assumes nothing.
 use mathlib.Core.List.{List, []}
 use mathlib.Core.Path.{◌≡◌, ap, ◌∙◌}
-use Prim.Native.Nat.{ℕ, ◌+◌, ◌*◌, ◌≤◌, ◌<◌}
+use Prim.Native.Nat.{ℕ, ◌+◌, ◌≤◌, ◌<◌}
 use lib.ListN.{length, get_or, drop}
 use Rattle.model.specs.Content.{Part, kind_at, kind_count}
 use Rattle.model.specs.Format.{byte_at, vertices, content}

@@ -1,6 +1,5 @@
 use mathlib.Core.List.{[]}
 use Rattle.job.specs.View.{part_at_of}
-use Prim.Native.Nat.{◌+◌, ◌*◌}
 use native.Mathlib.Omega.{arith}
 use borrow.Author.Rules.{rules}
 use lib.ListN.{get_or}

@@ -9,12 +9,14 @@ use Rattle.candidates.proofs.prepared.PreparedJob.in_conflict.Goals as goal
 pub piece_of-p-requires : goal.piece_of-p-requires
 piece_of-p-requires c =
     let j = c.args.self.now in
-    (j.prepared.viewed, of_kind j.job.now j.view j.prepared.viewed (entry c.args.kind (placement_at c.args.place)) c.requires.first)
+    (j.prepared.viewed, of_kind j.job.now j.view j.prepared.viewed (entry c.args.kind (placement_at c.args.place))
+        c.requires.first)
 
 pub piece_of-q-requires : goal.piece_of-q-requires
 piece_of-q-requires c =
     let j = c.args.self.now in
-    (j.prepared.viewed, of_kind j.job.now j.view j.prepared.viewed (entry c.args.other (placement_at c.args.at)) c.requires.second)
+    (j.prepared.viewed, of_kind j.job.now j.view j.prepared.viewed (entry c.args.other (placement_at c.args.at))
+        c.requires.second)
 
 pub pair_gap-gap-requires : goal.pair_gap-gap-requires
 pair_gap-gap-requires c =
@@ -36,11 +38,13 @@ conflict_between-requires c =
     let e = entry c.args.kind (placement_at c.args.place) in
     let f = entry c.args.other (placement_at c.args.at) in (
       (
-        piece_turnable s j.turned.now c.args.kind c.piece_of-p.result j.prepared.turned c.piece_of-p.ensures (of_kind s v x e c.requires.first),
+        piece_turnable s j.turned.now c.args.kind c.piece_of-p.result j.prepared.turned c.piece_of-p.ensures (of_kind
+            s v x e c.requires.first),
         near s v x e c.requires.first,
       ),
       (
-        piece_turnable s j.turned.now c.args.other c.piece_of-q.result j.prepared.turned c.piece_of-q.ensures (of_kind s v x f c.requires.second),
+        piece_turnable s j.turned.now c.args.other c.piece_of-q.result j.prepared.turned c.piece_of-q.ensures
+            (of_kind s v x f c.requires.second),
         near s v x f c.requires.second,
       ),
     )
@@ -58,6 +62,8 @@ returns c =
     let ht = of_kind s v x e c.requires.first in
     let hu = of_kind s v x f c.requires.second in
     c.conflict_between.ensures
-    ∙ ap (conflict_between j.turned.now v.step p c.args.place q c.args.at) (c.pair_gap-gap.ensures ∙ gap_is s v x c.args.kind c.args.other ht hu)
-    ∙ conflict-is s v j.turned.now x j.prepared.turned c.args.kind c.args.other ht hu p q c.piece_of-p.ensures c.piece_of-q.ensures v.margin
+    ∙ ap (conflict_between j.turned.now v.step p c.args.place q c.args.at) (c.pair_gap-gap.ensures
+    ∙ gap_is s v x c.args.kind c.args.other ht hu)
+    ∙ conflict-is s v j.turned.now x j.prepared.turned c.args.kind c.args.other ht hu p q c.piece_of-p.ensures
+    c.piece_of-q.ensures v.margin
     c.args.place c.args.at (turned-once s v x e c.requires.first) (turned-once s v x f c.requires.second)

@@ -13,10 +13,12 @@ pub returns-then-kind-self : goal.returns-then-kind-self
 returns-then-kind-self c =
     let j = c.args.self.now in
     c.is_placement.ensures
-    ∙ placement-is j.job.now j.view j.boxes j.prepared.viewed j.prepared.boxes (entry c.args.kind (placement_at c.args.place)) c.if-kind-self.true
+    ∙ placement-is j.job.now j.view j.boxes j.prepared.viewed j.prepared.boxes (entry c.args.kind (placement_at
+    c.args.place)) c.if-kind-self.true
 
 pub returns-else-kind-self : goal.returns-else-kind-self
 returns-else-kind-self c =
     let j = c.args.self.now in
     le-ltb _ _ c.if-kind-self.false
-    ∙ none_beyond j.job.now j.view j.boxes j.prepared.viewed j.prepared.boxes (entry c.args.kind (placement_at c.args.place)) c.if-kind-self.false
+    ∙ none_beyond j.job.now j.view j.boxes j.prepared.viewed j.prepared.boxes (entry c.args.kind (placement_at
+    c.args.place)) c.if-kind-self.false

@@ -12,5 +12,6 @@ use Rattle.layouts.proofs.handed.Handed.clear_of_earlier.Goals as goal
 pub returns : goal.returns
 returns c =
     let h = c.args.self.now in
-    all_below (λ i. not (conflict (problem_for h) (entry_in h.layout.now i) (entry_in h.layout.now c.args.k))) c.args.k _ _ c.all.ensures.ran
+    all_below (λ i. not (conflict (problem_for h) (entry_in h.layout.now i) (entry_in h.layout.now c.args.k)))
+        c.args.k _ _ c.all.ensures.ran
     (YieldsList-from_range 0 _ _ refl (omega arith)) (λ x b q k. search rules)

@@ -16,7 +16,8 @@ loop-i-init c = (omega arith, largest-none _ _)
 pub loop-i-preserved : goal.loop-i-preserved
 loop-i-preserved c = (
   omega (arith, c.max-longest.ensures, c.end_of.ensures),
-  largest-next (entry_extent (problem_for c.args.self.now)) c.args.self.now.layout.now c.loop-i.i _ _ _ c.loop-i.invariant.1 c.end_of.ensures.end c.max-longest.ensures,
+  largest-next (entry_extent (problem_for c.args.self.now)) c.args.self.now.layout.now c.loop-i.i _ _ _
+      c.loop-i.invariant.1 c.end_of.ensures.end c.max-longest.ensures,
 )
 
 pub returns : goal.returns
@@ -28,6 +29,7 @@ returns c =
       length = ap (λ (k : ℕ). k + h.prepared.now.view.margin)
           (c.loop-i.invariant.1
           ∙ ap (λ (m : ℕ). largest (map (entry_extent (problem_for h)) (entries_in h.layout.now m))) n
-          ∙ ap (λ (es : Layout). largest (map (entry_extent (problem_for h)) es)) (layout_is (problem_for h) h.layout.now _ (pieces_are h)));
+          ∙ ap (λ (es : Layout). largest (map (entry_extent (problem_for h)) es)) (layout_is (problem_for h)
+          h.layout.now _ (pieces_are h)));
       most = omega (arith, c.loop-i.invariant.0, h.prepared.now.prepared.viewed.view.margin);
     }

@@ -9,4 +9,5 @@ use Rattle.layouts.specs.Handed.{problem_for}
 use Rattle.layouts.proofs.handed.Handed.length.Given as goal
 
 abbrev pub invariant-loop-i : goal.invariant-loop-i
-invariant-loop-i l = (l.longest ≤ 1000) × (l.longest ≡ largest (map (entry_extent (problem_for l.self)) (entries_in l.self.layout.now l.i)))
+invariant-loop-i l = (l.longest ≤ 1000) × (l.longest ≡ largest (map (entry_extent (problem_for l.self)) (entries_in
+    l.self.layout.now l.i)))

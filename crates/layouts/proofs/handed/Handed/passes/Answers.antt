@@ -9,10 +9,12 @@ use Rattle.layouts.proofs.handed.Handed.passes.Goals.{Joined-demand_met, then-in
 
 -- the first three tests
 three : (c : Joined-demand_met) → c.if-demand_met.value
-    ≡ (ordered (problem_for c.args.self.now) (layout_for c.args.self.now) && demand_met (problem_for c.args.self.now) (layout_for c.args.self.now)
+    ≡ (ordered (problem_for c.args.self.now) (layout_for c.args.self.now) && demand_met (problem_for c.args.self.now)
+        (layout_for c.args.self.now)
     && all (is_entry (problem_for c.args.self.now)) (layout_for c.args.self.now))
 three c =
-    let two : c.if-in_order.value ≡ (ordered (problem_for c.args.self.now) (layout_for c.args.self.now) && demand_met (problem_for c.args.self.now) (layout_for c.args.self.now)) =
+    let two : c.if-in_order.value ≡ (ordered (problem_for c.args.self.now) (layout_for c.args.self.now) && demand_met
+        (problem_for c.args.self.now) (layout_for c.args.self.now)) =
     elim c.if-in_order.branch [
       | then-in_order w ↦ both_tests _ _ _ _ _ c.in_order.ensures w.if-in_order.true w.demand_met.ensures w.value-is
       | else-in_order w ↦ first_test _ _ _ _ c.in_order.ensures w.if-in_order.false w.value-is
@@ -24,8 +26,10 @@ three c =
 
 pub returns-then-all_admitted : goal.returns-then-all_admitted
 unfolding passes
-returns-then-all_admitted c = both_tests _ _ _ _ _ (three (goal.at.returns-then-all_admitted c).Joined-demand_met) c.if-all_admitted.true c.all_apart.ensures refl
+returns-then-all_admitted c = both_tests _ _ _ _ _ (three (goal.at.returns-then-all_admitted c).Joined-demand_met)
+    c.if-all_admitted.true c.all_apart.ensures refl
 
 pub returns-else-all_admitted : goal.returns-else-all_admitted
 unfolding passes
-returns-else-all_admitted c = first_test _ _ _ _ (three (goal.at.returns-else-all_admitted c).Joined-demand_met) c.if-all_admitted.false refl
+returns-else-all_admitted c = first_test _ _ _ _ (three (goal.at.returns-else-all_admitted c).Joined-demand_met)
+    c.if-all_admitted.false refl

@@ -25,7 +25,8 @@ conflict_between-requires c =
       ),
       (
         piece_turnable j.job.now j.turned.now a.other a.second j.prepared.turned a.row.second a.row.other,
-        subst (Near j.view.step) (sym c.placed_of.ensures) (near a.other c.args.m (sym c.is_candidate.ensures ∙ c.if-is_candidate.true)),
+        subst (Near j.view.step) (sym c.placed_of.ensures) (near a.other c.args.m (sym c.is_candidate.ensures
+            ∙ c.if-is_candidate.true)),
       ),
     )
 
@@ -34,9 +35,12 @@ returns-then-is_candidate c =
     let a = c.args.self.now in
     let j = a.prepared.now in
     c.conflict_between.ensures
-    ∙ ap₂ (λ (p q : Placed). conflict_between j.turned.now j.view.step a.first p a.second q a.gap) a.row.place c.placed_of.ensures
-    ∙ ap (conflict_between j.turned.now j.view.step a.first (placed_of j.view.rows a.number) a.second (placed_of j.view.rows c.args.m)) a.row.apart
-    ∙ numbers_conflict j.job.now j.view j.turned.now j.prepared.viewed j.prepared.turned a.kind a.other a.row.kind a.row.other a.first a.second
+    ∙ ap₂ (λ (p q : Placed). conflict_between j.turned.now j.view.step a.first p a.second q a.gap) a.row.place
+    c.placed_of.ensures
+    ∙ ap (conflict_between j.turned.now j.view.step a.first (placed_of j.view.rows a.number) a.second (placed_of
+    j.view.rows c.args.m)) a.row.apart
+    ∙ numbers_conflict j.job.now j.view j.turned.now j.prepared.viewed j.prepared.turned a.kind a.other a.row.kind
+    a.row.other a.first a.second
     a.row.first a.row.second j.view.margin a.number c.args.m
     ∙ bit_is (problem_in j) a.kind a.number a.other c.args.m (sym c.is_candidate.ensures ∙ c.if-is_candidate.true)
 
@@ -44,4 +48,5 @@ pub returns-else-is_candidate : goal.returns-else-is_candidate
 returns-else-is_candidate c =
     let a = c.args.self.now in
     c.if-is_candidate.false
-    ∙ bit_clear (problem_in a.prepared.now) a.kind a.number a.other c.args.m (sym c.is_candidate.ensures ∙ c.if-is_candidate.false)
+    ∙ bit_clear (problem_in a.prepared.now) a.kind a.number a.other c.args.m (sym c.is_candidate.ensures
+    ∙ c.if-is_candidate.false)

@@ -27,4 +27,5 @@ unfolding with_words row_words
 returns c =
     let n : c.loop-w.w ≡ c.set_words-w-end.result = omega arith in
     c.loop-w.invariant.1
-    ∙ ap (λ m. filled 8 (map (λ w. bits_where 64 (λ i. bit_for c.args.self.now (w * 64 + i))) (below m)) c.args.row.now) (n ∙ c.set_words-w-end.ensures.words)
+    ∙ ap (λ m. filled 8 (map (λ w. bits_where 64 (λ i. bit_for c.args.self.now (w * 64 + i))) (below m))
+    c.args.row.now) (n ∙ c.set_words-w-end.ensures.words)
