@@ -59,7 +59,8 @@ module _ (f : ℕ → ℕ) where
   row-none at a = sym (numbers_none at a)
 
   -- One number more: the law of a loop that writes them.
-  pub row_more : (at k n : ℕ) (a u v : List ℕ) → (at + k + 1) * 2 ≤ length u → n ≡ f k → u ≡ with_numbers_at at (map f (below k)) a
+  pub row_more : (at k n : ℕ) (a u v : List ℕ) → (at + k + 1) * 2 ≤ length u → n ≡ f k
+      → u ≡ with_numbers_at at (map f (below k)) a
       → v ≡ with_number 2 u ((at + k) * 2) n → v ≡ with_numbers_at at (map f (below (k + 1))) a
   row_more at k n a u v fits en eu ev =
       let l = length-row k in

@@ -30,7 +30,8 @@ fn to_number(b: u8, coordinate: bool) -> u16
 fn put_numbers<F: Fn(usize) -> u16>(answer: &mut [u8], at: usize, n: usize, number: F)
     requires room { (at + n) * 2 ≤ length answer.old }
     requires given { (k : ℕ) → k < n → F.pre number k }
-    ensures { (f : ℕ → ℕ) → ((k x : ℕ) → k < n → F.post number k x → x ≡ f k) → answer.new ≡ with_numbers_at at (map f (below n)) answer.old }
+    ensures { (f : ℕ → ℕ) → ((k x : ℕ) → k < n → F.post number k x → x ≡ f k)
+        → answer.new ≡ with_numbers_at at (map f (below n)) answer.old }
 {
     for k in 0..n {
         numbers::put_u16(answer, (at + k) * 2, number(k));

@@ -6,4 +6,5 @@ use Rattle.writing.proofs.put_bytes.Goals as goal
 
 pub returns : goal.returns
 unfolding byte_at
-returns c = c.put_numbers.ensures (λ i. as_number c.args.coordinates (byte_at c.args.s.now (c.args.from + i))) (λ k x l e. search (rules, e))
+returns c = c.put_numbers.ensures (λ i. as_number c.args.coordinates (byte_at c.args.s.now (c.args.from + i)))
+    (λ k x l e. search (rules, e))

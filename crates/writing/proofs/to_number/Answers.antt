@@ -12,7 +12,8 @@ pub returns-then-coordinate : goal.returns-then-coordinate
 unfolding as_number
 returns-then-coordinate c =
     rw c.if-coordinate.true
-    (c.cast_unsigned.ensures ∙ ap (of_z w16) (to_z-of_z w16 c.byte_to_i16.result (sfits_of c.byte_to_i16.type_inv) ∙ c.byte_to_i16.ensures)
+    (c.cast_unsigned.ensures ∙ ap (of_z w16) (to_z-of_z w16 c.byte_to_i16.result (sfits_of c.byte_to_i16.type_inv)
+    ∙ c.byte_to_i16.ensures)
     ∙ coordinate-bits (signed c.args.b))
 
 pub returns-else-coordinate : goal.returns-else-coordinate

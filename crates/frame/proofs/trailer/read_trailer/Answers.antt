@@ -1,6 +1,7 @@
 use mathlib.Core.Path.{refl, ◌∙◌}
 use Rattle.frame.proofs.TrailerLaws.{marked-is}
-use Rattle.model.specs.Format.{trailer_at, board_at, classes_at, kinds_at, kinds_length, classes_stated, kinds_stated, length_stated}
+use Rattle.model.specs.Format.{trailer_at, board_at, classes_at, kinds_at}
+use Rattle.model.specs.Format.{kinds_length, classes_stated, kinds_stated, length_stated}
 use Rattle.frame.proofs.trailer.read_trailer.Goals as goal
 
 pub returns : goal.returns
