@@ -38,11 +38,11 @@ fn largest_gap(view: View) -> usize
     requires { Bounded view }
     ensures { (result ≤ 63) × NoLarger (gap_of view) view.kinds result }
 {
-    let mut r = 0;
+    let mut largest = 0;
     for t in 0..view.kinds {
-        r = r.max(view.kind[t].gap);
+        largest = largest.max(view.kind[t].gap);
     }
-    r
+    largest
 }
 
 // How far apart two pieces have to stand that each lie from low to high, with the gap between them.

@@ -129,15 +129,16 @@ impl<'a> Facing<'a> {
         requires { (d.column < self.now.pattern.reach * 2 + 1) × (d.row < self.now.pattern.rows) }
         ensures { result ≡ conflict_facing self.now d }
     {
-        let s = self.pattern;
+        let pattern = self.pattern;
+        let gap = pattern.gap;
         let placed = self.placed;
         let other = self.other;
-        let dx = away(s.step, s.reach, d.column);
-        let dy = away(s.step, s.lift, d.row);
-        if boxes_apart(placed.extents, other.extents, dx, dy, s.gap) {
+        let dx = away(pattern.step, pattern.reach, d.column);
+        let dy = away(pattern.step, pattern.lift, d.row);
+        if boxes_apart(placed.extents, other.extents, dx, dy, gap) {
             return false;
         }
-        pieces_conflict(self.turned, placed.piece, other.piece, dx, dy, s.gap)
+        pieces_conflict(self.turned, placed.piece, other.piece, dx, dy, gap)
     }
 
     // Whether bit z of the string is set, which belongs to the dot d and to the other piece as it stands turned.
@@ -335,7 +336,7 @@ fn fill_parities(rows: usize, first: usize, bits: &mut [u8])
     }
 }
 
-// Fills the table.
+// Fills the table. (Its parameters are the contract that the crates above prove at their call: what may not change.)
 pub fn make_nofit(
     job: &[u8],
     view: View,

@@ -1,4 +1,5 @@
-// What the walk looks up in the plan of a run.
+// What the walk looks up in the plan of a run. (The job stands beside the plan: the fact that they belong together speaks
+// of both, and the contracts are what may not change.)
 ghost use Rattle.std.specs.Prelude.{true, ◌≡◌, ◌<◌};
 ghost use Rattle.model.specs.Candidate.{is_candidate};
 ghost use Rattle.model.specs.Content.{kind_at, kind_count, piece_count};
@@ -17,7 +18,7 @@ use candidates::conflicts::{Placed, gap_between, placed_of};
 use candidates::placements;
 use geometry::pieces::Piece;
 
-// The piece of a kind.
+// The piece of a kind. (A loop: an array's `map` goes through an iterator by value, on the walk's way.)
 pub fn piece_in(job: &[u8], plan: Plan, kind: usize) -> Piece
     requires { PlanOf job.now plan × (kind < kind_count (content job.now).kinds) }
     ensures { PieceOf job.now kind result }
