@@ -7,19 +7,25 @@ use native.Mathlib.Omega.{arith}
 use borrow.Author.Tests.{eqb-true}
 use lib.Dec.{eqb}
 use lib.ListN.{length, drop}
+use Rattle.std.specs.Prelude.{Result, Ok, Err, IfOk, MatchResult}
 use Rattle.words.specs.Number.{count}
 use Rattle.model.specs.Format.{refusal, content}
 use Rattle.model.specs.Demand3.{Fit}
 use Rattle.model.specs.Output.{layout_lines, printed, program}
 use Rattle.model.specs.Problem.{under}
+use Rattle.model.specs.Refusal.{refused_by}
 use Rattle.model.specs.Services.{numbers_in, words_in, refusal_under, given_unfit, run}
-use Rattle.model.specs.declared.RunAnswer.{RunAnswer}
+use Rattle.model.specs.declared.Outcome.{Outcome}
+use Rattle.model.specs.declared.Refusal.{Refusal}
 use Rattle.model.proofs.AcceptedKinds.{pieces-most}
 use Rattle.model.proofs.Margin.{accepted-under}
 use Rattle.model.proofs.Program.{program-prints, program-refuses}
+use Rattle.job.specs.View.{Viewed}
+use Rattle.job.specs.declared.View.{View}
+use Rattle.job.proofs.ViewLaws.{some_number}
 use Rattle.stepping.proofs.Limits.{few-work}
 use Rattle.report.specs.Text.{rendered}
-use Rattle.report.proofs.Whole.{rendered-printed}
+use Rattle.report.proofs.Lines.{rendered-printed}
 use Rattle.command.specs.Shown.{Shown}
 
 text-is : (s : List ℕ) (n m budget : ℕ) (given work out : List ℕ) → Shown s n
@@ -33,11 +39,11 @@ text-is s n m budget given work out shown = go (eqb (refusal_under m s) 0) refl
     go false e = rw (e, run)
 
 -- The same of the answer and the answer numbers that the run left.
-pub text-told : (s : List ℕ) (n m budget : ℕ) (given work out left : List ℕ) (a : RunAnswer) → Shown s n
+pub text-told : (s : List ℕ) (n m budget : ℕ) (given work out left : List ℕ) (a : Result Outcome Refusal) → Shown s n
     → a ≡ (run s m budget given work out).answer → left ≡ (run s m budget given work out).out
     → rendered a left n ≡ printed (under m (content s)) (run s m budget given work out)
 text-told s n m budget given work out left a shown told kept =
-    ap (λ (b : RunAnswer). rendered b left n) told
+    ap (λ (b : Result Outcome Refusal). rendered b left n) told
     ∙ ap (λ (l : List ℕ). rendered (run s m budget given work out).answer l n) kept
     ∙ text-is s n m budget given work out shown
 
@@ -66,3 +72,14 @@ prints-program s given work out n w o = subst (λ (g : List ℕ). printed (under
     go : (c : Bool) → eqb (refusal s) 0 ≡ c → printed (under 0 (content s)) (run s 0 1000000 [] work out) ≡ program s
     go true e = program-prints s work out (buffers_fit s work out w o (eqb-true (refusal s) 0 e))
     go false e = program-refuses s work out e
+
+-- How many entries are shown, by what opening the job said.
+pub shown_by : (s : List ℕ) (r : Result View Refusal) (n : ℕ) → refused_by r ≡ refusal s → IfOk r (λ v. Viewed s v)
+    → MatchResult r (λ v. n ≡ v.pieces) (λ _. n ≡ 0) → Shown s n
+shown_by s (Ok v) n refused viewed is =
+    record {
+      exact = λ _. is ∙ viewed.view.pieces;
+      few = omega (arith, is, viewed.view.pieces, pieces-most s viewed.accepted);
+    }
+shown_by s (Err r) n refused viewed is =
+    record { exact = λ e. absurd (some_number r (refused ∙ e)); few = omega (arith, is) }

@@ -13,10 +13,7 @@ ghost use Rattle.command.specs.Shown.{Shown};
 fn pieces_shown(bytes: &[u8]) -> usize
     ensures { Shown bytes.now result }
 {
-    let opened = job::open(bytes);
-    let refusal = opened.refusal;
-    let view = opened.view;
-    if refusal == 0 { view.pieces } else { 0 }
+    job::open(bytes).map_or(0, |view| view.pieces)
 }
 
 // Runs a job under a margin and a budget, from the layout in a buffer or from none, and puts the text of its answer at the front of `text`; says how long the
@@ -57,7 +54,7 @@ pub fn program(bytes: &[u8], text: &mut [u8]) -> usize
         bytes,
         0,
         1000000,
-        &bytes[0..0],
+        &[],
         &mut work,
         &mut answer,
         text,

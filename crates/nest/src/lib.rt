@@ -43,7 +43,7 @@ pub extern "C" fn nest_row(
 pub extern "C" fn nest_check(job: &[u8], margin: usize, layout: &[u8]) -> u64
     ensures { result ≡ check_word (Services.check job.now margin layout.now) }
 {
-    answers::check_word(checking::check(job, margin, layout))
+    answers::written_word(checking::check(job, margin, layout))
 }
 
 // The walk under a step budget, from the layout in the buffer, or from none if that has no bytes.
