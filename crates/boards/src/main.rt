@@ -4,108 +4,117 @@
 
 ghost use Rattle.std.specs.Prelude.{IfOk, ◌≤◌, length};
 
-use input::Numbers;
 use std::io;
 use std::io::Read;
 
 mod input;
 mod show;
 
-// The budget of a run: the one that is given, or else the command program's.
-fn budget_of(given: usize, number: u8) -> u32 {
-    if given == 0 { 1000000 } else { number as u32 }
+// What is asked of a job under a margin, or of an outline.
+#[derive(Clone, Copy)]
+enum Question {
+    Read,
+    Write,
+    Split,
+    Row,
+    Check,
+    // Run from the layout that is given behind the budget.
+    RunGiven,
+    Run,
 }
 
-// The bytes that save or cut is lent: as many as are given, or else enough for every job and outline.
-fn room_of(given: usize, number: u8) -> usize
-    ensures { result ≤ 1024 }
-{
-    if given == 0 { 1024 } else { number as usize }
-}
-
-// Where the layout begins that a run is given behind its budget.
-fn behind_budget(given: usize) -> usize
-    ensures { result ≤ given }
-{
-    if given == 0 { 0 } else { 1 }
-}
-
-// The question of this word about a job under a margin: read, write, row, check, run from a given layout or run from none; or, where the bytes are an
-// outline, split it into triangles. It is told by its second letter.
-fn ask(rt: &impl Print, word: u8, margin: usize, job: Numbers, asked: Numbers) -> io::Result<()>
-    requires { (job.count ≤ length job.bytes) × (asked.count ≤ length asked.bytes) }
-{
-    let bytes = job.bytes;
-    let size = job.count;
-    let given = asked.bytes;
-    let count = asked.count;
-    let job = &bytes[0..size];
-    match word {
-        b'e' => show::read(rt, job),
-        b'r' => show::save(rt, job, room_of(count, given[0])),
-        b'p' => show::cut(rt, job, room_of(count, given[0])),
-        b'o' => show::row(rt, job, margin, given[0]),
-        b'h' => show::check(rt, job, margin, &given[0..count]),
-        b'i' => show::run(
-            rt,
-            job,
-            margin,
-            given[0] as u32,
-            &given[behind_budget(count)..count],
-        ),
-        _ => show::run(rt, job, margin, budget_of(count, given[0]), &given[0..0]),
+impl Question {
+    // The question of a word, which its second letter tells: read, write, split, row, check, given, run.
+    fn told_by(letter: u8) -> Option<Question> {
+        Some(match letter {
+            b'e' => Question::Read,
+            b'r' => Question::Write,
+            b'p' => Question::Split,
+            b'o' => Question::Row,
+            b'h' => Question::Check,
+            b'i' => Question::RunGiven,
+            b'u' => Question::Run,
+            _ => return None,
+        })
     }
 }
 
-// The answer to the question at `at`, behind the name of its board. The bytes of the job are in the line below the name.
+// The bytes that save or cut is lent: as many as are given, or else enough for every job and outline.
+fn room(given: Option<u8>) -> usize
+    ensures { result ≤ 1024 }
+{
+    given.map_or(1024, usize::from)
+}
+
+// The answer to a question about a job, or about an outline. A run with no budget has the command program's.
+fn ask(
+    rt: &impl Print,
+    question: Question,
+    margin: usize,
+    job: &[u8],
+    numbers: &[u8],
+) -> io::Result<()> {
+    let given = numbers.first().copied();
+    match question {
+        Question::Read => show::read(rt, job),
+        Question::Write => show::save(rt, job, room(given)),
+        Question::Split => show::cut(rt, job, room(given)),
+        Question::Row => show::row(rt, job, margin, given.unwrap_or(0)),
+        Question::Check => show::check(rt, job, margin, numbers),
+        Question::RunGiven => {
+            let layout = numbers.get(1..).unwrap_or(&[]);
+            show::run(rt, job, margin, u32::from(given.unwrap_or(0)), layout)
+        }
+        Question::Run => show::run(rt, job, margin, given.map_or(1000000, u32::from), &[]),
+    }
+}
+
+// The answer to the question with which `asked` begins, behind the name of its board. The name is in the first line
+// of the board, and the bytes of the job in the one below it.
 fn answer(
     rt: &impl Print,
-    text: &[u8],
-    name: usize,
+    question: Question,
     margin: usize,
-    at: usize,
-    word: u8,
-) -> io::Result<()>
-    requires { (name ≤ length text.now) × (at ≤ length text.now) }
-{
-    let end = input::line_end(text, name);
-    if name + 5 <= end {
-        rt.write_all(&text[name + 5..end])?;
-        ask(
-            rt,
-            word,
-            margin,
-            input::numbers_at(text, end + 6),
-            input::numbers_at(text, at + 5),
-        )?;
+    board: &[u8],
+    asked: &[u8],
+) -> io::Result<()> {
+    let (line, behind) = input::split_line(board);
+    if let Some(name) = line.get(5..) {
+        rt.write_all(name)?;
+        let job = input::numbers_at(behind, 6);
+        let numbers = input::numbers_at(asked, 5);
+        ask(rt, question, margin, &job, &numbers)?;
     }
     Ok(())
 }
 
 // Each line is the name of a board, the bytes of its job, the margin by which it is clamped from here on, a question, or a remark. A new board is not clamped.
 fn answer_all(rt: &impl Print, text: &[u8]) -> io::Result<()> {
-    let mut name = 0;
+    let mut board = text;
     let mut margin = 0;
-    let mut at = 0;
-    while at + 1 < text.len() {
-        let word = text[at + 1];
-        match word {
+    let mut rest = text;
+    while let Some(letter) = rest.get(1) {
+        match *letter {
             b'a' => {
-                name = at;
+                board = rest;
                 margin = 0;
             }
-            b'l' => margin = input::margin_at(text, at + 5),
-            b'e' | b'r' | b'p' | b'o' | b'h' | b'i' | b'u' => {
-                answer(rt, text, name, margin, at, word)?;
+            b'l' => margin = input::numbers_at(rest, 5)
+                .first()
+                .map_or(0, |n| usize::from(*n)),
+            letter => {
+                if let Some(question) = Question::told_by(letter) {
+                    answer(rt, question, margin, board, rest)?;
+                }
             }
-            _ => (),
         }
-        at = input::line_end(text, at) + 1;
+        rest = input::split_line(rest).1.get(1..).unwrap_or(&[]);
     }
     Ok(())
 }
 
-// Reads until the buffer is full or the input ends, and tells how many bytes it read.
+// Reads until the buffer is full or the input ends, and tells how many bytes it read. (A loop, as the command
+// program's: no method of the library reads so without a heap.)
 fn read_full<R: Read>(from: &mut R, buffer: &mut [u8]) -> io::Result<usize>
     ensures { IfOk result (λ n. n ≤ length buffer.new) }
 {
