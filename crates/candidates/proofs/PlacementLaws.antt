@@ -7,14 +7,12 @@ use Prim.Native.Nat.{ℕ, zero, suc, ◌%◌, ◌^◌, ◌≤◌, ◌<◌}
 use native.Mathlib.Nat.{le_trans, lt_of_le_of_lt}
 use native.Mathlib.Omega.{arith}
 use borrow.Author.Tests.{lt-ltb, le-ltb, le-leb, lt-leb, leb-false, not-true, not-false}
-use lib.Dec.{T, leb, ltb, lit≤, lit<}
+use lib.Dec.{leb, ltb, lit≤, lit<}
 use lib.IntN.{ℤ, pos, negsuc, nat_abs, ◌+ℤ◌, ◌-ℤ◌}
-use lib.Signed.{lt_z, non_neg}
 use mir.Syntax.{w16, w64}
 use mir.Val.{Fits, SFits, to_z, of_z}
 use mir.ValLaws.{to_z-of_z, to_z_pos}
 use Rattle.std.specs.Int.{int_max}
-use Rattle.integers.proofs.Order.{lt_z_false}
 use Rattle.integers.proofs.Products.{widened}
 use Rattle.integers.proofs.Sizes.{bounded, size_of, fits-64}
 use Rattle.integers.proofs.Solver.{◌⊞◌, ◌⊟◌}
@@ -75,10 +73,6 @@ natural-most : (z : ℤ) → natural z ≤ nat_abs z
 unfolding natural
 natural-most (pos n) = omega arith
 natural-most (negsuc n) = omega arith
-
-pub end-nonneg : (z : ℤ) → lt_z z (pos 0) ≡ false → T (non_neg z)
-end-nonneg (pos n) e = tt
-end-nonneg (negsuc n) e = absurd (lt_z_false (negsuc n) (pos 0) e).le
 
 -- ---- a placement refused early
 

@@ -279,9 +279,6 @@ module _ (P : Part) (q : ℕ) (few : length P ≤ 8) (small : q < 48) where
             ∙ t.kept r l d i g;
       }
 
-pub turned-all : (P : Part) (q : ℕ) (old new : List ℤ) (k : ℕ) → 4 ≤ k → PlanesTurned P q old new k → PartTurned P q old new
-turned-all P q old new k h t = record { held = λ i l. t.held i (omega arith); kept = t.kept }
-
 -- ---- all parts of a kind, one after the other
 
 -- what a slot holds it holds as long as it is kept
@@ -315,9 +312,6 @@ module _ (s : List ℕ) (t : ℕ) where
             (λ k l. subst (λ (Q : Part). Holds new k (t * 6 + n) (map (rotated k) Q)) e (p.held k l));
         kept = λ r h k l. p.kept r (omega arith) (λ d. omega arith) k l ∙ b.kept r h k l;
       }
-
-  pub kind-all : (old new : List ℤ) (n : ℕ) → length (kind_at (content s).kinds t).parts ≤ n → KindTurnedTo old new n → KindTurned s t old new
-  kind-all old new n h b = record { held = λ i k l g. b.held i (omega arith) k g; kept = b.kept }
 
 -- ---- all kinds, one after the other
 
