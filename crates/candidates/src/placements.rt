@@ -8,7 +8,8 @@ use job::View;
 use polygons::extents::Extents;
 use shapes::boxes::{Boxes, box_at};
 
-// Whether what lies from low to high stays, moved by this much, between the margin and the limit less the margin.
+// Whether what lies from low to high stays, moved by this much, between the margin and the limit less the margin. (By
+// `as`: a size has no `From` into a signed number.)
 fn stays_within(low: i16, high: i16, by: usize, margin: usize, limit: usize) -> bool
     requires { (by ≤ 1000) × ((margin ≤ 63) × (limit ≤ 1000)) }
     ensures { result ≡ within low high by margin limit }

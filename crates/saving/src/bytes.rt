@@ -3,7 +3,7 @@ ghost use Rattle.std.specs.Prelude.{[], ◌∷◌, ◌≡◌, ◌+◌, ◌≤◌
 ghost use Rattle.std.proofs.lemmas.List.Edits.{sets};
 ghost use Rattle.words.specs.Number.{bytes};
 
-// One byte.
+// One byte. (By its place, here and below, and no slice in its stead: the contracts say where in the answer it stands.)
 pub fn put_byte(answer: &mut [u8], at: usize, n: usize)
     requires { (at < length answer.old) × (n < 256) }
     ensures { answer.new ≡ sets answer.old at (n ∷ []) }

@@ -65,7 +65,8 @@ pub fn word_of<F: Fn(usize) -> bool>(test: F) -> u64
     word
 }
 
-// w with those of its bits that pass the test. Only the bits that are set are tested.
+// w with those of its bits that pass the test. Only the bits that are set are tested. (A loop: no iterator of the library
+// goes over the bits that are set, and one over all 64 places would test more than that.)
 pub fn keep<F: Fn(usize) -> bool>(w: u64, test: F) -> u64
     requires { (i : ℕ) → i < 64 → test_bit w i ≡ true → F.pre test i }
     ensures tested { (i : ℕ) → i < 64 → test_bit w i ≡ true → F.post test i (test_bit result i) }

@@ -38,7 +38,8 @@ fn put_numbers<F: Fn(usize) -> u16>(answer: &mut [u8], at: usize, n: usize, numb
     }
 }
 
-// The n bytes from byte `from` on, a number for each. They are coordinates, or plain.
+// The n bytes from byte `from` on, a number for each. They are coordinates, or plain. (A flag, as the definition
+// `bytes_from` in the contract has it.)
 pub fn put_bytes(s: &[u8], from: usize, n: usize, coordinates: bool, answer: &mut [u8], at: usize)
     requires { (from + n ≤ length s.now) × ((at + n) * 2 ≤ length answer.old) }
     ensures { answer.new ≡ with_numbers_at at (bytes_from coordinates from n s.now) answer.old }

@@ -8,15 +8,19 @@ use Rattle.candidates.proofs.prepared.PreparedJob.in_conflict.Goals as goal
 
 pub piece_of-p-requires : goal.piece_of-p-requires
 piece_of-p-requires c =
-    let j = c.args.self.now in
-    (j.prepared.viewed, of_kind j.job.now j.view j.prepared.viewed (entry c.args.kind (placement_at c.args.place))
-        c.requires.first)
+    let j = c.args.self.now in (
+      j.prepared.viewed,
+      of_kind j.job.now j.view j.prepared.viewed (entry c.args.kind (placement_at c.args.place))
+          c.requires.first,
+    )
 
 pub piece_of-q-requires : goal.piece_of-q-requires
 piece_of-q-requires c =
-    let j = c.args.self.now in
-    (j.prepared.viewed, of_kind j.job.now j.view j.prepared.viewed (entry c.args.other (placement_at c.args.at))
-        c.requires.second)
+    let j = c.args.self.now in (
+      j.prepared.viewed,
+      of_kind j.job.now j.view j.prepared.viewed (entry c.args.other (placement_at c.args.at))
+          c.requires.second,
+    )
 
 pub pair_gap-gap-requires : goal.pair_gap-gap-requires
 pair_gap-gap-requires c =

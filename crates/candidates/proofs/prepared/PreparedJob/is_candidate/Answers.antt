@@ -10,4 +10,4 @@ returns c =
     let j = c.args.self.now in
     let x = j.prepared.viewed in
     c.is_candidate.ensures ∙ offered-is j.job.now j.view j.boxes x j.prepared.boxes c.args.kind (rw x.view.kinds at
-        c.requires) c.args.number
+    c.requires) c.args.number
