@@ -50,13 +50,5 @@ pub fn program(bytes: &[u8], text: &mut [u8]) -> usize
 {
     let mut work = [0u8; 49152];
     let mut answer = [0u8; 96];
-    respond(
-        bytes,
-        0,
-        1000000,
-        &[],
-        &mut work,
-        &mut answer,
-        text,
-    )
+    respond(bytes, 0, 1000000, &[], &mut work, &mut answer, text)
 }
