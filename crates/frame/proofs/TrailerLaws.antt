@@ -39,7 +39,7 @@ last-two s n e =
     drop-cons s n 0 (omega arith)
     ∙ ap (λ (r : List ℕ). get_or s n 0 ∷ r)
     (drop-cons s (suc n) 0 (omega arith) ∙ ap (λ (r : List ℕ). get_or s (suc n) 0 ∷ r)
-        (drop_all (suc (suc n)) s (omega arith)))
+    (drop_all (suc (suc n)) s (omega arith)))
 
 pub marked-is : (s : List ℕ) → 14 ≤ length s → ends_with eqb s (0x44 ∷ 0x42 ∷ []) ≡ marked s
 unfolding marked byte_at trailer_at

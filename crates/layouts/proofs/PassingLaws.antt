@@ -55,7 +55,7 @@ module _ (j : Problem) where
       let c : suc (suc i) ≡ suc i + 1 = omega arith in
       ap₂ ◌&&◌ (ap₂ (λ m n. in_order j (f m) (f n)) a b)
       (ordered-rising f (suc i) k ∙ ap (λ n. list_all (λ m. in_order j (f (m - 1)) (f (m - 1 + 1))) (range_with_len n
-          k)) c)
+      k)) c)
 
   ordered-entries : (s : List ℕ) (n : ℕ) → list_all (λ m. in_order j (entry_in s (m - 1)) (entry_in s (m - 1 + 1)))
       (range_with_len 1 (n - 1)) ≡ ordered j (entries_in s n)
@@ -64,7 +64,7 @@ module _ (j : Problem) where
   ordered-entries s (suc n) =
       let k : suc n - 1 ≡ n = omega arith in
       ap (λ m. list_all (λ m. in_order j (entry_in s (m - 1)) (entry_in s (m - 1 + 1))) (range_with_len 1 m)) k
-          ∙ sym (ordered-rising (entry_in s) 0 n)
+      ∙ sym (ordered-rising (entry_in s) 0 n)
 
   -- The tests of the entries before the last, each with the next.
   pub order_is : (r : ℕ) (s : List ℕ) (n : ℕ) → r ≡ rows j.sheet → n ≡ piece_count j.kinds

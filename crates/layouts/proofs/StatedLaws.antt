@@ -26,4 +26,4 @@ module _ (h : Handed) where
       → is_entry (problem_for h) (as_entry e) ≡ true
   entry_stands a i e l at =
       ap (is_entry (problem_for h)) at.same ∙ each_of (problem_for h) h.layout.now h.prepared.now.view.pieces
-          pieces_are (is_entry (problem_for h)) a i l
+      pieces_are (is_entry (problem_for h)) a i l

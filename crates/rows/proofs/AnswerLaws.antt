@@ -35,7 +35,7 @@ module _ (s : List ℕ) (v : View) (x : Viewed s v) where
     where
       go : (w : Bool) → leb (kind_count (content s).kinds) t ≡ w → (w || leb (kind_count (content s).kinds) u)
           ≡ true → not (ltb t (kind_count (content s).kinds) && is_candidate (problem_of s v) t n && ltb u
-              (kind_count (content s).kinds)) ≡ true
+          (kind_count (content s).kinds)) ≡ true
       go true d g = rw (le-ltb t (kind_count (content s).kinds) (leb-true _ _ d))
       go false d g = rw (le-ltb u (kind_count (content s).kinds) (leb-true _ _ g)) (last (ltb t (kind_count (content
           s).kinds) && is_candidate (problem_of s v) t n))

@@ -27,7 +27,7 @@ pub returns-then-not-is_candidate : goal.returns-then-not-is_candidate
 returns-then-not-is_candidate c =
     let q = row-absent (problem_in c.args.prepared.now) c.args.kind c.args.number c.args.other c.args.row.now
     (candidate-absent (problem_in c.args.prepared.now) c.args.kind c.args.number c.args.other (sym
-        c.is_candidate.ensures ∙ c.if-not-is_candidate.true)) in
+    c.is_candidate.ensures ∙ c.if-not-is_candidate.true)) in
     record { value = sym (ap (λ o. o.answer) q); row_after = sym (ap (λ o. o.buffer) q) }
 
 pub returns-then-row-n : goal.returns-then-row-n
@@ -36,7 +36,7 @@ returns-then-row-n c =
     let h = exist (goal.at.returns-then-row-n c).Else-kind-view in
     let q = row-short (problem_in j) c.args.kind c.args.number c.args.other c.args.row.now
     (all-exist (problem_in j) c.args.kind c.args.number c.args.other h.0 (sym c.is_candidate.ensures
-        ∙ c.if-not-is_candidate.false) h.1)
+    ∙ c.if-not-is_candidate.false) h.1)
     (rw c.set_words-n.ensures.words at c.if-row-n.true) in
     record { value = sym (ap (λ o. o.answer) q); row_after = sym (ap (λ o. o.buffer) q) }
 
@@ -46,9 +46,14 @@ placed_of-requires c = let j = c.args.prepared.now in (bounded j.job.now j.view 
 pub pair_gap-requires : goal.pair_gap-requires
 pair_gap-requires c =
     let j = c.args.prepared.now in
-    let h = exist (goal.at.pair_gap-requires c).Else-kind-view in
-    (bounded j.job.now j.view j.prepared.viewed, (rw j.prepared.viewed.view.kinds h.0, rw
-        j.prepared.viewed.view.kinds h.1))
+    let h = exist (goal.at.pair_gap-requires c).Else-kind-view in (
+      bounded j.job.now j.view j.prepared.viewed,
+      (
+        rw j.prepared.viewed.view.kinds h.0,
+        rw
+            j.prepared.viewed.view.kinds h.1,
+      ),
+    )
 
 pub invariant_of-asked : goal.invariant_of-asked
 invariant_of-asked c =
@@ -72,7 +77,7 @@ returns c =
     let h = exist (goal.at.returns c).Else-kind-view in
     let q = row_written (problem_in j) c.args.kind c.args.number c.args.other c.args.row.now
     (all-exist (problem_in j) c.args.kind c.args.number c.args.other h.0 (sym c.is_candidate.ensures
-        ∙ c.if-not-is_candidate.false) h.1)
+    ∙ c.if-not-is_candidate.false) h.1)
     (rw c.set_words-n.ensures.words at c.if-row-n.false) in
     record {
       value = ap Ok c.set_words-n.ensures.words ∙ sym (ap (λ o. o.answer) q);

@@ -13,13 +13,13 @@ pub returns-then-not-passes : goal.returns-then-not-passes
 returns-then-not-passes c =
     let j = c.args.prepared.now in
     not_passed (problem_in j) c.args.layout.now j.view.pieces j.prepared.viewed.view.pieces
-        c.if-layout-prepared.false (sym c.passes.ensures ∙ c.if-not-passes.true)
+    c.if-layout-prepared.false (sym c.passes.ensures ∙ c.if-not-passes.true)
 
 pub length-requires : goal.length-requires
 length-requires c =
     let j = c.args.prepared.now in
     passed-entries (problem_in j) (layout_in (problem_in j) c.args.layout.now) (sym c.passes.ensures
-        ∙ c.if-not-passes.false)
+    ∙ c.if-not-passes.false)
 
 pub returns : goal.returns
 returns c =

@@ -13,5 +13,5 @@ pub returns : goal.returns
 returns c =
     let h = c.args.self.now in
     all_below (λ i. not (conflict (problem_for h) (entry_in h.layout.now i) (entry_in h.layout.now c.args.k)))
-        c.args.k _ _ c.all.ensures.ran
+    c.args.k _ _ c.all.ensures.ran
     (YieldsList-from_range 0 _ _ refl (omega arith)) (λ x b q k. search rules)

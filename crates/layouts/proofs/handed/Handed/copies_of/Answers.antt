@@ -18,7 +18,7 @@ returns c =
     let h = c.args.self.now in
     count_from_yields_List c.filter.result _ c.count.ensures.ran
     (YieldsList-from_filter _ (λ i. eqb (entry_in h.layout.now i).kind c.args.kind) (YieldsList-from_range 0
-        h.prepared.now.view.pieces _ c.filter.ensures.source (omega arith))
+    h.prepared.now.view.pieces _ c.filter.ensures.source (omega arith))
     c.filter.ensures.closure (λ x b q k. search (rules, tests)))
     ∙ copies_counted c.args.kind h.layout.now h.prepared.now.view.pieces
     ∙ ap (copies c.args.kind) (layout_is (problem_for h) h.layout.now _ (pieces_are h))

@@ -10,11 +10,11 @@ use Rattle.layouts.proofs.handed.Handed.passes.Goals.{Joined-demand_met, then-in
 -- the first three tests
 three : (c : Joined-demand_met) → c.if-demand_met.value
     ≡ (ordered (problem_for c.args.self.now) (layout_for c.args.self.now) && demand_met (problem_for c.args.self.now)
-        (layout_for c.args.self.now)
+    (layout_for c.args.self.now)
     && all (is_entry (problem_for c.args.self.now)) (layout_for c.args.self.now))
 three c =
     let two : c.if-in_order.value ≡ (ordered (problem_for c.args.self.now) (layout_for c.args.self.now) && demand_met
-        (problem_for c.args.self.now) (layout_for c.args.self.now)) =
+    (problem_for c.args.self.now) (layout_for c.args.self.now)) =
     elim c.if-in_order.branch [
       | then-in_order w ↦ both_tests _ _ _ _ _ c.in_order.ensures w.if-in_order.true w.demand_met.ensures w.value-is
       | else-in_order w ↦ first_test _ _ _ _ c.in_order.ensures w.if-in_order.false w.value-is
