@@ -28,9 +28,6 @@ returns-in_err-best c =
     (subst (λ (j : Problem). given_unfit j c.args.layout.now ≡ true) p c.in_err-best.ensures.0) _ c.in_err-best.ensures.1 in
     record { told = search rules ∙ m.0; cleared = m.1.0; held = m.1.1 }
 
-pub run_from-requires : goal.run_from-requires
-run_from-requires c = record { begins = c.in_ok-best.ensures }
-
 pub returns : goal.returns
 returns c =
     let p = problem_is _ _ _ _ _ c.new-prepared.ensures.of_view c.in_ok-view.ensures.viewed.1 c.new-prepared.ensures.of_job in

@@ -18,7 +18,7 @@ use Rattle.model.proofs.Accepted.{accepted-sensible}
 use Rattle.job.specs.View.{Viewed}
 use Rattle.job.specs.declared.View.{View}
 use Rattle.candidates.specs.Prepared.{problem_in}
-use Rattle.stepping.proofs.Limits.{few-pieces, short-board}
+use Rattle.stepping.proofs.Limits.{short-board}
 use Rattle.walks.specs.Walk.{held_of}
 use Rattle.root.specs.Walked.{Walked}
 use Rattle.search.proofs.Beginning.{begin_laid, begin_entries, given_whole, held-again, begins}
@@ -49,19 +49,11 @@ walked c =
     ∙ held-again _ _ c.args.prepared.now.prepared.viewed.accepted c.args.layout.now c.args.answer.now c.args.best c.requires.begins)
     c.walk-st.ensures
 
-pub work_words-words-requires : goal.work_words-words-requires
-work_words-words-requires c = c.args.prepared.now.prepared.viewed
-
 pub returns-then-lacks : goal.returns-then-lacks
 returns-then-lacks c =
     let m = from-few-words _ (begin (problem_in c.args.prepared.now) c.args.layout.now) c.args.budget c.args.work.now c.args.answer.now _
     c.work_words-words.ensures.0 (sym c.lacks.ensures ∙ c.if-lacks.true) in
     record { told = m.0; cleared = m.1.0; held = m.1.1 }
-
-pub overflow_mul-view : goal.overflow_mul-view
-overflow_mul-view c =
-    let v = c.args.prepared.now.prepared.viewed in
-    omega (arith, v.view.pieces, few-pieces _ v.accepted)
 
 pub returns-then-lacks-2 : goal.returns-then-lacks-2
 returns-then-lacks-2 c =
@@ -90,27 +82,11 @@ walk-st-requires c =
       );
     }
 
-pub clear-requires : goal.clear-requires
-clear-requires c =
-    omega (
-      arith,
-      c.walk-st.auto.work,
-      (from-room _ _ _ _ _ c.work_words-words.ensures.0 (pieces-are _ _ c.args.prepared.now.prepared.viewed)
-          (sym c.lacks.ensures ∙ c.if-lacks.false) (sym c.lacks-2.ensures ∙ c.if-lacks-2.false)).work-fits,
-      c.work_words-words.ensures.0,
-    )
-
 pub tell-requires : goal.tell-requires
 tell-requires c =
     let v = c.args.prepared.now.prepared.viewed in
     let w = walked (goal.at.tell-requires c).After-walk-st in
     (left-within _ _ _ _ _ _ _ _ w, (v.view.margin, omega (arith, w.lowered, short-board _ v.accepted)))
-
-pub shape_of-work : goal.shape_of-work
-shape_of-work c = c.clear.auto.s ∙ c.walk-st.auto.work
-
-pub shape_of-answer : goal.shape_of-answer
-shape_of-answer c = c.walk-st.auto.answer ∙ c.hold.auto.answer
 
 pub returns : goal.returns
 returns c =
