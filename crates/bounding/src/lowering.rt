@@ -14,10 +14,10 @@ use plans::plan::Plan;
 // The sets at a lower bound, and how many of their words still have members of the first level.
 // A job and its plan go as two, here and below: what else a run has fixed does not exist yet where root trims the first
 // level.
-pub fn lower(job: &[u8], plan: Plan, bound: usize, span: usize, work: &mut [u8]) -> usize
-    requires plan_of { PlanOf job.now plan × (span ≤ set_words (content job.now).sheet) }
-    requires admitted { (work_words (planned job.now plan) * 8 ≤ length work.old) × Admitted (planned job.now plan) span work.old }
-    ensures { Lowered (planned job.now plan) bound span work.old work.new result }
+pub fn lower(job: &[u8], plan: &Plan, bound: usize, span: usize, work: &mut [u8]) -> usize
+    requires plan_of { PlanOf job.now plan.now × (span ≤ set_words (content job.now).sheet) }
+    requires admitted { (work_words (planned job.now plan.now) * 8 ≤ length work.old) × Admitted (planned job.now plan.now) span work.old }
+    ensures { Lowered (planned job.now plan.now) bound span work.old work.new result }
 {
     trim(job, plan, bound, span, work);
     shrink(job, plan, work, span)

@@ -17,9 +17,9 @@ use plans::plan::Plan;
 use words::{bits, numbers};
 
 // The bits of a word whose candidates end below the bound. Only the bits that are set are looked at.
-fn trim_word(job: &[u8], plan: Plan, u: usize, first: usize, w: u64, bound: usize) -> u64
-    requires { PlanOf job.now plan × (first < 65536) × BitsAdmitted (planned job.now plan) u first w }
-    ensures { (i : ℕ) → test_bit result i ≡ (test_bit w i && ends_below (planned job.now plan) bound u (first + i)) }
+fn trim_word(job: &[u8], plan: &Plan, u: usize, first: usize, w: u64, bound: usize) -> u64
+    requires { PlanOf job.now plan.now × (first < 65536) × BitsAdmitted (planned job.now plan.now) u first w }
+    ensures { (i : ℕ) → test_bit result i ≡ (test_bit w i && ends_below (planned job.now plan.now) bound u (first + i)) }
 {
     bits::keep(w, |i| lookup::end_of(job, plan, u, first + i) < bound)
 }
@@ -27,15 +27,15 @@ fn trim_word(job: &[u8], plan: Plan, u: usize, first: usize, w: u64, bound: usiz
 // The set of so many words at word `at`: its members that end below the bound.
 pub fn trim_set(
     job: &[u8],
-    plan: Plan,
+    plan: &Plan,
     u: usize,
     bound: usize,
     work: &mut [u8],
     at: usize,
     words: usize,
 )
-    requires { PlanOf job.now plan × Trimmable (planned job.now plan) u at words work.old }
-    ensures { Filled at words (λ m. member work.old (at * 64 + m) && ends_below (planned job.now plan) bound u m) work.old work.new }
+    requires { PlanOf job.now plan.now × Trimmable (planned job.now plan.now) u at words work.old }
+    ensures { Filled at words (λ m. member work.old (at * 64 + m) && ends_below (planned job.now plan.now) bound u m) work.old work.new }
 {
     for k in 0..words {
         let w = numbers::get_u64(work, (at + k) * 8);
@@ -48,11 +48,11 @@ pub fn trim_set(
 }
 
 // Set i of all levels and kinds, if copies of its kind are left at its level.
-fn trim_next(job: &[u8], plan: Plan, bound: usize, span: usize, i: usize, work: &mut [u8])
-    requires plan_of { PlanOf job.now plan × (span ≤ set_words (content job.now).sheet) × (i < piece_count (content job.now).kinds * kind_count (content job.now).kinds) }
-    requires work_in_bounds { work_words (planned job.now plan) * 8 ≤ length work.old }
-    requires trimmable { 0 < copies_left (i % kind_count (content job.now).kinds) (pieces_from (content job.now).kinds (i / kind_count (content job.now).kinds)) → Trimmable (planned job.now plan) (i % kind_count (content job.now).kinds) (i * set_words (content job.now).sheet) span work.old }
-    ensures { SetTrimmed (planned job.now plan) bound span i work.old work.new }
+fn trim_next(job: &[u8], plan: &Plan, bound: usize, span: usize, i: usize, work: &mut [u8])
+    requires plan_of { PlanOf job.now plan.now × (span ≤ set_words (content job.now).sheet) × (i < piece_count (content job.now).kinds * kind_count (content job.now).kinds) }
+    requires work_in_bounds { work_words (planned job.now plan.now) * 8 ≤ length work.old }
+    requires trimmable { 0 < copies_left (i % kind_count (content job.now).kinds) (pieces_from (content job.now).kinds (i / kind_count (content job.now).kinds)) → Trimmable (planned job.now plan.now) (i % kind_count (content job.now).kinds) (i * set_words (content job.now).sheet) span work.old }
+    ensures { SetTrimmed (planned job.now plan.now) bound span i work.old work.new }
 {
     let level = i / plan.types;
     let u = i % plan.types;
@@ -62,10 +62,10 @@ fn trim_next(job: &[u8], plan: Plan, bound: usize, span: usize, i: usize, work: 
 }
 
 // All sets, the first words of each.
-pub fn trim(job: &[u8], plan: Plan, bound: usize, span: usize, work: &mut [u8])
-    requires plan_of { PlanOf job.now plan × (span ≤ set_words (content job.now).sheet) }
-    requires admitted { (work_words (planned job.now plan) * 8 ≤ length work.old) × Admitted (planned job.now plan) span work.old }
-    ensures { Trimmed (planned job.now plan) bound span (piece_count (content job.now).kinds * kind_count (content job.now).kinds) work.old work.new }
+pub fn trim(job: &[u8], plan: &Plan, bound: usize, span: usize, work: &mut [u8])
+    requires plan_of { PlanOf job.now plan.now × (span ≤ set_words (content job.now).sheet) }
+    requires admitted { (work_words (planned job.now plan.now) * 8 ≤ length work.old) × Admitted (planned job.now plan.now) span work.old }
+    ensures { Trimmed (planned job.now plan.now) bound span (piece_count (content job.now).kinds * kind_count (content job.now).kinds) work.old work.new }
 {
     let sets = plan.pieces * plan.types;
     for i in 0..sets {

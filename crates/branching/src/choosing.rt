@@ -39,7 +39,7 @@ fn next_in(
 {
     let number = sets::next_member(set, span as u32, from);
     if number < span * 64 {
-        let end = lookup::end_of(fixed.job, fixed.plan, u, number);
+        let end = lookup::end_of(fixed.job, &fixed.plan, u, number);
         return Some(Next {
             number,
             extent: end.max(extent),
@@ -65,6 +65,6 @@ pub fn next_live(
         return None;
     }
     let kind = fixed.plan.kinds[branch.level] as usize;
-    let at = lookup::set_start(fixed.job, fixed.plan, branch.level, kind) * 8;
+    let at = lookup::set_start(fixed.job, &fixed.plan, branch.level, kind) * 8;
     next_in(fixed, kind, &work[at..], from, branch.extent, state.span)
 }

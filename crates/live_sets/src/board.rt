@@ -17,9 +17,9 @@ fn in_conflict(fixed: &Fixed, latest: &Latest, u: usize, m: usize, place: Placed
     requires stands { place ≡ placed_of fixed.now.plan.rows m }
     ensures { result ≡ conflict (problem fixed.now) (entry_of (problem fixed.now) latest.now.kind latest.now.number) (entry_of (problem fixed.now) u m) }
 {
-    let first = lookup::piece_in(fixed.job, fixed.plan, latest.kind);
-    let second = lookup::piece_in(fixed.job, fixed.plan, u);
-    let gap = lookup::pair_gap(fixed.job, fixed.plan, latest.kind, u);
+    let first = lookup::piece_in(fixed.job, &fixed.plan, latest.kind);
+    let second = lookup::piece_in(fixed.job, &fixed.plan, u);
+    let gap = lookup::pair_gap(fixed.job, &fixed.plan, latest.kind, u);
     conflict_between(
         fixed.turned,
         fixed.plan.step,

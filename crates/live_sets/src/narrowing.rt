@@ -43,20 +43,20 @@ fn blocked_word(fixed: &Fixed, latest: &Latest, u: usize, first: usize) -> u64
     requires { Laid fixed.now.job.now fixed.now.nofit fixed.now.strings.now latest.now.kind latest.now.number latest.now.place u first × Near fixed.now.nofit latest.now.place.column first }
     ensures { (i : ℕ) → i < 64 → is_candidate (under 0 (content fixed.now.job.now)) u (first + i) ≡ true → test_bit result i ≡ not (stays (under 0 (content fixed.now.job.now)) latest.now.kind latest.now.number u (first + i)) }
 {
-    let nofit = fixed.nofit;
+    let nofit = &fixed.nofit;
     let strings = fixed.strings;
     let place = latest.place;
     let at = first + 64 + nofit.reach * nofit.rows * 4
         - (place.column * nofit.rows + place.row) * 4;
     let above = bits_at(
         strings,
-        above_start(nofit, latest.kind, place.rotation, u) + at,
+        above_start(*nofit, latest.kind, place.rotation, u) + at,
     );
     let below = bits_at(
         strings,
-        below_start(nofit, latest.kind, place.rotation, u) + at + nofit.rows * 4,
+        below_start(*nofit, latest.kind, place.rotation, u) + at + nofit.rows * 4,
     );
-    let here = rows_from(&nofit, strings, place.row, first);
+    let here = rows_from(nofit, strings, place.row, first);
     (above & here) | (below & !here)
 }
 

@@ -42,7 +42,7 @@ fn make_set(
     requires latest { LatestOf (problem fixed.now) fixed.now.plan.rows branch.now.numbers branch.now.level latest.now.kind latest.now.number latest.now.place }
     ensures { Made (problem fixed.now) branch.now.numbers branch.now.level state.bound state.span u work.old work.new }
 {
-    let from = set_start(fixed.job, fixed.plan, branch.level - 1, u);
+    let from = set_start(fixed.job, &fixed.plan, branch.level - 1, u);
     narrow(fixed, latest, u, work, from, to, state.span);
 }
 
@@ -61,11 +61,11 @@ fn settle_kind(
     requires latest { LatestOf (problem fixed.now) fixed.now.plan.rows branch.now.numbers branch.now.level latest.now.kind latest.now.number latest.now.place }
     ensures { KindSettled (problem fixed.now) branch.now.numbers branch.now.level state.bound state.span u work.old work.new result }
 {
-    let copies = copies_left(fixed.job, fixed.plan, branch.level, u);
+    let copies = copies_left(fixed.job, &fixed.plan, branch.level, u);
     if copies == 0 {
         return true;
     }
-    let at = set_start(fixed.job, fixed.plan, branch.level, u);
+    let at = set_start(fixed.job, &fixed.plan, branch.level, u);
     make_set(fixed, branch, state, latest, u, work, at);
     has_members(work, at, state.span, copies)
 }

@@ -19,11 +19,11 @@ use candidates::placements;
 use geometry::pieces::Piece;
 
 // The piece of a kind. (A loop: an array's `map` goes through an iterator by value, on the walk's way.)
-pub fn piece_in(job: &[u8], plan: Plan, kind: usize) -> Piece
-    requires { PlanOf job.now plan × (kind < kind_count (content job.now).kinds) }
+pub fn piece_in(job: &[u8], plan: &Plan, kind: usize) -> Piece
+    requires { PlanOf job.now plan.now × (kind < kind_count (content job.now).kinds) }
     ensures { PieceOf job.now kind result }
 {
-    let planned = plan.kind[kind];
+    let planned = &plan.kind[kind];
     let count = usize::from(planned.parts);
     let mut sizes = [0; 6];
     for i in 0..count {
@@ -37,8 +37,8 @@ pub fn piece_in(job: &[u8], plan: Plan, kind: usize) -> Piece
 }
 
 // The gap of a pair of kinds.
-pub fn pair_gap(job: &[u8], plan: Plan, t: usize, u: usize) -> u16
-    requires { PlanOf job.now plan × (t < kind_count (content job.now).kinds) × (u < kind_count (content job.now).kinds) }
+pub fn pair_gap(job: &[u8], plan: &Plan, t: usize, u: usize) -> u16
+    requires { PlanOf job.now plan.now × (t < kind_count (content job.now).kinds) × (u < kind_count (content job.now).kinds) }
     ensures { result ≡ pair_gap (content job.now).classes (kind_at (content job.now).kinds t) (kind_at (content job.now).kinds u) }
 {
     let shared = words::bits::test_bit(plan.shared, (t * 8 + u) as u64);
@@ -50,33 +50,33 @@ pub fn pair_gap(job: &[u8], plan: Plan, t: usize, u: usize) -> u16
 }
 
 // Where candidate m of kind u ends, which stands at this place.
-pub fn end_at(job: &[u8], plan: Plan, u: usize, m: usize, place: Placed) -> usize
-    requires { PlanOf job.now plan × (is_candidate (planned job.now plan) u m ≡ true) × (place ≡ placed_of plan.rows m) }
-    ensures { result ≡ entry_extent (planned job.now plan) (entry_of (planned job.now plan) u m) }
+pub fn end_at(job: &[u8], plan: &Plan, u: usize, m: usize, place: Placed) -> usize
+    requires { PlanOf job.now plan.now × (is_candidate (planned job.now plan.now) u m ≡ true) × (place ≡ placed_of plan.now.rows m) }
+    ensures { result ≡ entry_extent (planned job.now plan.now) (entry_of (planned job.now plan.now) u m) }
 {
     placements::end_of(plan.kind[u].ends[place.rotation], place.column * plan.step)
 }
 
 // Where candidate m of kind u ends.
-pub fn end_of(job: &[u8], plan: Plan, u: usize, m: usize) -> usize
-    requires { PlanOf job.now plan × (is_candidate (planned job.now plan) u m ≡ true) }
-    ensures { result ≡ entry_extent (planned job.now plan) (entry_of (planned job.now plan) u m) }
+pub fn end_of(job: &[u8], plan: &Plan, u: usize, m: usize) -> usize
+    requires { PlanOf job.now plan.now × (is_candidate (planned job.now plan.now) u m ≡ true) }
+    ensures { result ≡ entry_extent (planned job.now plan.now) (entry_of (planned job.now plan.now) u m) }
 {
     end_at(job, plan, u, m, placed_of(plan.rows, m))
 }
 
 // The copies of kind u left at a level.
-pub fn copies_left(job: &[u8], plan: Plan, level: usize, u: usize) -> u8
-    requires { PlanOf job.now plan × (level < piece_count (content job.now).kinds) × (u < 8) }
+pub fn copies_left(job: &[u8], plan: &Plan, level: usize, u: usize) -> u8
+    requires { PlanOf job.now plan.now × (level < piece_count (content job.now).kinds) × (u < 8) }
     ensures { result ≡ copies_left u (pieces_from (content job.now).kinds level) }
 {
     plan.copies[level][u]
 }
 
 // The word at which the set of level l and kind u begins.
-pub fn set_start(job: &[u8], plan: Plan, l: usize, u: usize) -> usize
-    requires { PlanOf job.now plan × (l < piece_count (content job.now).kinds) × (u < kind_count (content job.now).kinds) }
-    ensures { SetPlace (planned job.now plan) l u result }
+pub fn set_start(job: &[u8], plan: &Plan, l: usize, u: usize) -> usize
+    requires { PlanOf job.now plan.now × (l < piece_count (content job.now).kinds) × (u < kind_count (content job.now).kinds) }
+    ensures { SetPlace (planned job.now plan.now) l u result }
 {
     (l * plan.types + u) * plan.words
 }

@@ -1,4 +1,4 @@
-// What follows from the job and the margin and is computed once for a run. It goes through the walk by value, so its
+// What follows from the job and the margin and is computed once for a run. The walk looks it up by reference, and its
 // numbers are small.
 ghost use Rattle.std.specs.Prelude.{◌≡◌, ℕ, ◌/◌, ◌%◌, ◌≤◌, ◌<◌, get_or};
 ghost use Rattle.words.specs.Bits.{bits_where};

@@ -20,9 +20,9 @@ fn entry_word(rows: usize, kind: u8, n: usize) -> u64
 }
 
 // The layout of all pieces, each at the candidate of its number, becomes the first answer numbers.
-pub fn record_layout(job: &[u8], plan: Plan, candidates: [usize; 12], out: &mut [u8])
-    requires { PlanOf job.now plan × Recordable (planned job.now plan) candidates out.old }
-    ensures { out.new ≡ with_layout (some (layout_of (planned job.now plan) candidates)) out.old }
+pub fn record_layout(job: &[u8], plan: &Plan, candidates: [usize; 12], out: &mut [u8])
+    requires { PlanOf job.now plan.now × Recordable (planned job.now plan.now) candidates out.old }
+    ensures { out.new ≡ with_layout (some (layout_of (planned job.now plan.now) candidates)) out.old }
 {
     for i in 0..plan.pieces {
         numbers::put_u64(

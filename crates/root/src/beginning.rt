@@ -62,7 +62,7 @@ fn fill_below(
 {
     fill(job, view, boxes, u, work, to, plan.words);
     if bound <= view.length {
-        trim_set(job, plan, u, bound, work, to, plan.words);
+        trim_set(job, &plan, u, bound, work, to, plan.words);
     }
 }
 
@@ -81,9 +81,9 @@ pub fn settle_first(
     ensures { Settled (planned job.now plan) (replicate 12 0) 0 bound (set_words (content job.now).sheet) work.old work.new result }
 {
     for u in 0..plan.types {
-        let to = set_start(job, plan, 0, u);
+        let to = set_start(job, &plan, 0, u);
         fill_below(job, view, boxes, plan, u, bound, work, to);
-        if !has_members(work, to, plan.words, copies_left(job, plan, 0, u)) {
+        if !has_members(work, to, plan.words, copies_left(job, &plan, 0, u)) {
             return false;
         }
     }

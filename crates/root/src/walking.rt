@@ -114,7 +114,7 @@ pub fn walk(
     ) {
         return begin(budget, bound, found, plan.words);
     }
-    let span = shrink(prepared.job, plan, work, plan.words);
+    let span = shrink(prepared.job, &plan, work, plan.words);
     let start = begin(budget, bound, found, span);
     let nofit = nofit_of(
         prepared.job,

@@ -65,8 +65,8 @@ fn go_on(
     ensures { Left (problem fixed.now) branch.now.numbers work.old out.old work.new out.new branch.now.level state result (go_on_level (problem fixed.now) (numbers_at branch.now.numbers) branch.now.level state.left (held_of (problem fixed.now) state.found out.old)) }
 {
     if branch.level == fixed.plan.pieces {
-        record_layout(fixed.job, fixed.plan, branch.numbers, out);
-        let span = lower(fixed.job, fixed.plan, branch.extent, state.span, work);
+        record_layout(fixed.job, &fixed.plan, branch.numbers, out);
+        let span = lower(fixed.job, &fixed.plan, branch.extent, state.span, work);
         return progress::complete(state, branch.extent, span);
     }
     if settle(fixed, branch, state, work) {

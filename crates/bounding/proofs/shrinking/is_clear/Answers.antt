@@ -9,8 +9,8 @@ use Rattle.bounding.proofs.shrinking.is_clear.Goals as goal
 use Rattle.bounding.proofs.shrinking.is_clear.Goals.{Start}
 
 -- Word k of a kind's set lies in the work words.
-fits : (c : Start) (u : ℕ) → u < c.args.plan.types
-    → ((u * c.args.plan.words + c.args.k) * 8 + 8 ≤ length c.args.work.now) × (u * c.args.plan.words + c.args.k ≤ 6144)
+fits : (c : Start) (u : ℕ) → u < c.args.plan.now.types
+    → ((u * c.args.plan.now.words + c.args.k) * 8 + 8 ≤ length c.args.work.now) × (u * c.args.plan.now.words + c.args.k ≤ 6144)
 fits c u h = word_fits _ _ c.requires.0 _ c.requires.2 u c.args.k h c.requires.1
 
 pub overflow_mul-u : goal.overflow_mul-u

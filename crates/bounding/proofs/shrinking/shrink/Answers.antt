@@ -18,7 +18,7 @@ is_clear-requires c = (
 pub returns-then-not-is_clear : goal.returns-then-not-is_clear
 returns-then-not-is_clear c =
     let e : c.loop-k.k ≡ c.loop-k.k - 1 + 1 = omega (arith, c.loop-k-test.true) in
-    subst (Shrunk c.args.plan.types c.args.plan.words c.args.span c.args.work.now) e c.loop-k.invariant
+    subst (Shrunk c.args.plan.now.types c.args.plan.now.words c.args.span c.args.work.now) e c.loop-k.invariant
 
 pub loop-k-preserved : goal.loop-k-preserved
 loop-k-preserved c = shrunk-more _ _ _ c.loop-k.k _ c.loop-k.invariant c.loop-k-test.true
@@ -27,4 +27,4 @@ loop-k-preserved c = shrunk-more _ _ _ c.loop-k.k _ c.loop-k.invariant c.loop-k-
 pub returns : goal.returns
 returns c =
     let e : c.loop-k.k ≡ 0 = omega (arith, c.loop-k-test.false) in
-    subst (Shrunk c.args.plan.types c.args.plan.words c.args.span c.args.work.now) e c.loop-k.invariant
+    subst (Shrunk c.args.plan.now.types c.args.plan.now.words c.args.span c.args.work.now) e c.loop-k.invariant

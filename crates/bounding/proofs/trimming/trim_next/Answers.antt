@@ -38,21 +38,21 @@ module _ (s : List ℕ) (p : Plan) (o : PlanOf s p) (i : ℕ) (h : i < piece_cou
   told = ap (λ (n : ℕ). copies_left (i % n) (pieces_from (content s).kinds (i / n))) o.types
 
 pub nonzero_div-level : goal.nonzero_div-level
-nonzero_div-level c = omega (arith, few c.args.job.now c.args.plan c.requires.plan_of.0 c.args.i c.requires.plan_of.2)
+nonzero_div-level c = omega (arith, few c.args.job.now c.args.plan.now c.requires.plan_of.0 c.args.i c.requires.plan_of.2)
 
 pub nonzero_rem-u : goal.nonzero_rem-u
-nonzero_rem-u c = omega (arith, few c.args.job.now c.args.plan c.requires.plan_of.0 c.args.i c.requires.plan_of.2)
+nonzero_rem-u c = omega (arith, few c.args.job.now c.args.plan.now c.requires.plan_of.0 c.args.i c.requires.plan_of.2)
 
 pub copies_left-requires : goal.copies_left-requires
 copies_left-requires c = (
   c.requires.plan_of.0,
-  level c.args.job.now c.args.plan c.requires.plan_of.0 c.args.i c.requires.plan_of.2,
-  (few c.args.job.now c.args.plan c.requires.plan_of.0 c.args.i c.requires.plan_of.2).1.0,
+  level c.args.job.now c.args.plan.now c.requires.plan_of.0 c.args.i c.requires.plan_of.2,
+  (few c.args.job.now c.args.plan.now c.requires.plan_of.0 c.args.i c.requires.plan_of.2).1.0,
 )
 
 pub overflow_mul-i : goal.overflow_mul-i
 overflow_mul-i c =
-    omega (arith, mul-le-mul (few c.args.job.now c.args.plan c.requires.plan_of.0 c.args.i c.requires.plan_of.2).1.1 (words-few c.args.job.now c.args.plan c.requires.plan_of.0))
+    omega (arith, mul-le-mul (few c.args.job.now c.args.plan.now c.requires.plan_of.0 c.args.i c.requires.plan_of.2).1.1 (words-few c.args.job.now c.args.plan.now c.requires.plan_of.0))
 
 pub trim_set-requires : goal.trim_set-requires
 trim_set-requires c = (
@@ -62,22 +62,22 @@ trim_set-requires c = (
         arith,
         c.if-copies_left-gt0.true,
         c.copies_left.ensures,
-        told c.args.job.now c.args.plan c.requires.plan_of.0 c.args.i c.requires.plan_of.2,
+        told c.args.job.now c.args.plan.now c.requires.plan_of.0 c.args.i c.requires.plan_of.2,
       ))),
 )
 
 pub returns-then-copies_left-gt0 : goal.returns-then-copies_left-gt0
 returns-then-copies_left-gt0 c =
-    set-trimmed (planned c.args.job.now c.args.plan) c.args.i c.requires.plan_of.2 c.args.bound c.args.span
+    set-trimmed (planned c.args.job.now c.args.plan.now) c.args.i c.requires.plan_of.2 c.args.bound c.args.span
     c.requires.plan_of.1
     c.args.work.now _ _ _ c.requires.plan_of.0.types c.requires.plan_of.0.words c.trim_set.ensures
 
 pub returns-else-copies_left-gt0 : goal.returns-else-copies_left-gt0
 returns-else-copies_left-gt0 c =
-    set-skipped (planned c.args.job.now c.args.plan) c.args.i c.requires.plan_of.2 _ _ _
+    set-skipped (planned c.args.job.now c.args.plan.now) c.args.i c.requires.plan_of.2 _ _ _
     (omega (
       arith,
       c.if-copies_left-gt0.false,
       c.copies_left.ensures,
-      told c.args.job.now c.args.plan c.requires.plan_of.0 c.args.i c.requires.plan_of.2,
+      told c.args.job.now c.args.plan.now c.requires.plan_of.0 c.args.i c.requires.plan_of.2,
     ))

@@ -14,15 +14,15 @@ use Rattle.plans.proofs.lookup.end_at.Goals.{Start}
 
 -- The kind is one of eight, and the place is near.
 kind_low : (c : Start) → c.args.u < 8
-kind_low c = omega (arith, candidate-kind (planned c.args.job.now c.args.plan) c.args.u c.args.m c.requires.1, kinds-few c.args.job.now c.args.plan c.requires.0)
+kind_low c = omega (arith, candidate-kind (planned c.args.job.now c.args.plan.now) c.args.u c.args.m c.requires.1, kinds-few c.args.job.now c.args.plan.now c.requires.0)
 
 turn : (c : Start) → c.args.place.rotation < 4
 turn c = subst (λ (a : Placed). a.rotation < 4) (sym c.requires.2) (omega arith)
 
-across : (c : Start) → c.args.place.column * c.args.plan.step ≤ 1000
+across : (c : Start) → c.args.place.column * c.args.plan.now.step ≤ 1000
 across c =
-    subst (λ (a : Placed). a.column * c.args.plan.step ≤ 1000) (sym c.requires.2)
-    (near c.args.job.now c.args.plan c.requires.0 c.args.u c.args.m c.requires.1).across
+    subst (λ (a : Placed). a.column * c.args.plan.now.step ≤ 1000) (sym c.requires.2)
+    (near c.args.job.now c.args.plan.now c.requires.0 c.args.u c.args.m c.requires.1).across
 
 pub offset_bounds-plan-u : goal.offset_bounds-plan-u
 offset_bounds-plan-u c = omega (arith, kind_low (goal.at.offset_bounds-plan-u c).Start)
@@ -38,8 +38,8 @@ end_of-requires c = across (goal.at.end_of-requires c).Start
 
 pub returns : goal.returns
 returns c =
-    let e : c.end_of.result ≡ natural (get_or (get_or c.args.plan.kind c.args.u no_kind).ends c.args.place.rotation (pos 0) +ℤ pos (c.args.place.column * c.args.plan.step)) =
+    let e : c.end_of.result ≡ natural (get_or (get_or c.args.plan.now.kind c.args.u no_kind).ends c.args.place.rotation (pos 0) +ℤ pos (c.args.place.column * c.args.plan.now.step)) =
     c.end_of.ensures ∙ search rules in
     e
-    ∙ ap (λ (a : Placed). natural (get_or (get_or c.args.plan.kind c.args.u no_kind).ends a.rotation (pos 0) +ℤ pos (a.column * c.args.plan.step))) c.requires.2
-    ∙ end_is c.args.job.now c.args.plan c.requires.0 c.args.u c.args.m c.requires.1
+    ∙ ap (λ (a : Placed). natural (get_or (get_or c.args.plan.now.kind c.args.u no_kind).ends a.rotation (pos 0) +ℤ pos (a.column * c.args.plan.now.step))) c.requires.2
+    ∙ end_is c.args.job.now c.args.plan.now c.requires.0 c.args.u c.args.m c.requires.1

@@ -12,7 +12,7 @@ use Rattle.plans.proofs.lookup.set_start.Goals as goal
 
 pub overflow_mul-result : goal.overflow_mul-result
 overflow_mul-result c =
-    let sets_few : c.args.l * c.args.plan.types + c.args.u ≤ 96 = (let few_kinds : c.args.plan.types ≤ 8 =
+    let sets_few : c.args.l * c.args.plan.now.types + c.args.u ≤ 96 = (let few_kinds : c.args.plan.now.types ≤ 8 =
     omega (arith, c.requires.0.types, (accepted-kinds c.args.job.now c.requires.0.accepted).few-kinds) in
     let level_few : c.args.l ≤ 11 = omega (arith, c.requires.1, few-pieces c.args.job.now c.requires.0.accepted) in
     omega (arith, mul-le-mul (level_few) (few_kinds), c.requires.2, c.requires.0.types, few_kinds)) in
@@ -20,7 +20,7 @@ overflow_mul-result c =
 
 pub overflow_add-result : goal.overflow_add-result
 overflow_add-result c =
-    let sets_few : c.args.l * c.args.plan.types + c.args.u ≤ 96 = (let few_kinds : c.args.plan.types ≤ 8 =
+    let sets_few : c.args.l * c.args.plan.now.types + c.args.u ≤ 96 = (let few_kinds : c.args.plan.now.types ≤ 8 =
     omega (arith, c.requires.0.types, (accepted-kinds c.args.job.now c.requires.0.accepted).few-kinds) in
     let level_few : c.args.l ≤ 11 = omega (arith, c.requires.1, few-pieces c.args.job.now c.requires.0.accepted) in
     omega (arith, mul-le-mul (level_few) (few_kinds), c.requires.2, c.requires.0.types, few_kinds)) in
@@ -28,13 +28,13 @@ overflow_add-result c =
 
 pub overflow_mul-result-2 : goal.overflow_mul-result-2
 overflow_mul-result-2 c =
-    let start_few : (c.args.l * c.args.plan.types + c.args.u) * c.args.plan.words ≤ 6144 =
-    (let words_few : c.args.plan.words ≤ 64 = omega (
+    let start_few : (c.args.l * c.args.plan.now.types + c.args.u) * c.args.plan.now.words ≤ 6144 =
+    (let words_few : c.args.plan.now.words ≤ 64 = omega (
       arith,
       c.requires.0.words,
       few_words c.args.job.now c.requires.0.accepted,
     ) in
-    let sets_few : c.args.l * c.args.plan.types + c.args.u ≤ 96 = (let few_kinds : c.args.plan.types ≤ 8 =
+    let sets_few : c.args.l * c.args.plan.now.types + c.args.u ≤ 96 = (let few_kinds : c.args.plan.now.types ≤ 8 =
     omega (arith, c.requires.0.types, (accepted-kinds c.args.job.now c.requires.0.accepted).few-kinds) in
     let level_few : c.args.l ≤ 11 = omega (arith, c.requires.1, few-pieces c.args.job.now c.requires.0.accepted) in
     omega (arith, mul-le-mul (level_few) (few_kinds), c.requires.2, c.requires.0.types, few_kinds)) in
@@ -44,13 +44,13 @@ overflow_mul-result-2 c =
 pub returns : goal.returns
 unfolding set_start
 returns c =
-    let start_few : (c.args.l * c.args.plan.types + c.args.u) * c.args.plan.words ≤ 6144 =
-    (let words_few : c.args.plan.words ≤ 64 = omega (
+    let start_few : (c.args.l * c.args.plan.now.types + c.args.u) * c.args.plan.now.words ≤ 6144 =
+    (let words_few : c.args.plan.now.words ≤ 64 = omega (
       arith,
       c.requires.0.words,
       few_words c.args.job.now c.requires.0.accepted,
     ) in
-    let sets_few : c.args.l * c.args.plan.types + c.args.u ≤ 96 = (let few_kinds : c.args.plan.types ≤ 8 =
+    let sets_few : c.args.l * c.args.plan.now.types + c.args.u ≤ 96 = (let few_kinds : c.args.plan.now.types ≤ 8 =
     omega (arith, c.requires.0.types, (accepted-kinds c.args.job.now c.requires.0.accepted).few-kinds) in
     let level_few : c.args.l ≤ 11 = omega (arith, c.requires.1, few-pieces c.args.job.now c.requires.0.accepted) in
     omega (arith, mul-le-mul (level_few) (few_kinds), c.requires.2, c.requires.0.types, few_kinds)) in
@@ -58,10 +58,10 @@ returns c =
     let s = c.args.job.now in
     let k = c.requires.0.types in
     let w = c.requires.0.words in
-    let e : (c.args.l * c.args.plan.types + c.args.u) * c.args.plan.words ≡ set_start (planned s c.args.plan) c.args.l
+    let e : (c.args.l * c.args.plan.now.types + c.args.u) * c.args.plan.now.words ≡ set_start (planned s c.args.plan.now) c.args.l
     c.args.u = rw (k, w) in
     record {
       place = e;
-      within = rw e (start_fits (planned s c.args.plan) c.args.l c.args.u c.requires.1 c.requires.2);
+      within = rw e (start_fits (planned s c.args.plan.now) c.args.l c.args.u c.requires.1 c.requires.2);
       few = start_few;
     }

@@ -60,7 +60,7 @@ bounds-candidates-i c = omega (arith, turn (goal.at.bounds-candidates-i c).In-lo
 
 pub entry_word-requires : goal.entry_word-requires
 entry_word-requires c = (
-  omega (arith, plan-rows c.args.job.now c.args.plan c.requires.0, rows-positive (content c.args.job.now).sheet),
+  omega (arith, plan-rows c.args.job.now c.args.plan.now c.requires.0, rows-positive (content c.args.job.now).sheet),
   (turn (goal.at.entry_word-requires c).In-loop-i).small,
 )
 
@@ -73,8 +73,8 @@ loop-i-preserved c =
     let x = turn (goal.at.loop-i-preserved c).In-loop-i in (
       c.put_u64.auto.s ∙ c.loop-i.invariant.0,
       c.put_u64.ensures ∙ ap (with_number 8 c.loop-i.out (c.loop-i.i * 8)) c.entry_word.ensures
-          ∙ entry-written (planned c.args.job.now c.args.plan) c.args.candidates c.args.out.now c.loop-i.out c.loop-i.i _ _ _
-          x.kind x.small (c.requires.0.kinds c.loop-i.i x.exists) refl (plan-rows c.args.job.now c.args.plan c.requires.0) c.loop-i.invariant.1,
+          ∙ entry-written (planned c.args.job.now c.args.plan.now) c.args.candidates c.args.out.now c.loop-i.out c.loop-i.i _ _ _
+          x.kind x.small (c.requires.0.kinds c.loop-i.i x.exists) refl (plan-rows c.args.job.now c.args.plan.now c.requires.0) c.loop-i.invariant.1,
     )
 
 pub returns : goal.returns
