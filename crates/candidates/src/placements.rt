@@ -6,7 +6,7 @@ ghost use Rattle.candidates.specs.Placements.{Bounded, within, fits_at, placeabl
 use crate::conflicts::{Placed, placed_of};
 use job::View;
 use polygons::extents::Extents;
-use shapes::boxes::{Boxes, box_at};
+use shapes::boxes::Boxes;
 
 // Whether what lies from low to high stays, moved by this much, between the margin and the limit less the margin. (By
 // `as`: a size has no `From` into a signed number.)
@@ -19,9 +19,9 @@ fn stays_within(low: i16, high: i16, by: usize, margin: usize, limit: usize) -> 
 }
 
 // Whether a box stays on the board, clear of the margin, if it is moved to a place.
-fn stays_on_board(view: View, e: Extents, place: Placed) -> bool
-    requires { Bounded view × ((place.column < view.columns) × (place.row < view.rows)) }
-    ensures { result ≡ fits_at view e place.column place.row }
+fn stays_on_board(view: &View, e: Extents, place: Placed) -> bool
+    requires { Bounded view.now × ((place.column < view.now.columns) × (place.row < view.now.rows)) }
+    ensures { result ≡ fits_at view.now e place.column place.row }
 {
     stays_within(
         e.min_x,
@@ -38,10 +38,11 @@ fn stays_on_board(view: View, e: Extents, place: Placed) -> bool
     )
 }
 
-// Whether a kind may stand at a place.
-pub fn is_placement(view: View, boxes: Boxes, kind: usize, place: Placed) -> bool
-    requires { Bounded view × (kind < view.kinds) }
-    ensures { result ≡ placeable view boxes kind place.column place.row place.rotation }
+// Whether a kind may stand at a place. (Here and below the box that `box_at` tells is read in place: `box_at` takes all
+// boxes by value, and this is asked many thousand times for a call.)
+pub fn is_placement(view: &View, boxes: &Boxes, kind: usize, place: Placed) -> bool
+    requires { Bounded view.now × (kind < view.now.kinds) }
+    ensures { result ≡ placeable view.now boxes.now kind place.column place.row place.rotation }
 {
     if (place.column >= view.columns) | (place.row >= view.rows) {
         return false;
@@ -51,13 +52,13 @@ pub fn is_placement(view: View, boxes: Boxes, kind: usize, place: Placed) -> boo
     {
         return false;
     }
-    stays_on_board(view, box_at(boxes, kind, place.rotation), place)
+    stays_on_board(view, boxes.of[kind * 4 + place.rotation], place)
 }
 
 // Whether a kind has a candidate of this number.
-pub fn is_candidate(view: View, boxes: Boxes, kind: usize, number: usize) -> bool
-    requires { Bounded view × (kind < view.kinds) }
-    ensures { result ≡ offered view boxes kind number }
+pub fn is_candidate(view: &View, boxes: &Boxes, kind: usize, number: usize) -> bool
+    requires { Bounded view.now × (kind < view.now.kinds) }
+    ensures { result ≡ offered view.now boxes.now kind number }
 {
     is_placement(view, boxes, kind, placed_of(view.rows, number))
 }
@@ -72,10 +73,10 @@ pub fn end_of(high: i16, by: usize) -> usize
 }
 
 // The largest x of a kind at a place.
-pub fn extent(view: View, boxes: Boxes, kind: usize, place: Placed) -> usize
-    requires { (Bounded view × (kind < view.kinds)) × ((place.column < view.columns) × (place.rotation < 4)) }
-    ensures { result ≡ extent_at view boxes kind place.column place.rotation }
+pub fn extent(view: &View, boxes: &Boxes, kind: usize, place: Placed) -> usize
+    requires { (Bounded view.now × (kind < view.now.kinds)) × ((place.column < view.now.columns) × (place.rotation < 4)) }
+    ensures { result ≡ extent_at view.now boxes.now kind place.column place.rotation }
 {
-    let e = box_at(boxes, kind, place.rotation);
+    let e = boxes.of[kind * 4 + place.rotation];
     end_of(e.max_x, place.column * view.step)
 }

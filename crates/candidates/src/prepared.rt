@@ -56,7 +56,7 @@ impl<'a> PreparedJob<'a> {
     pub fn is_placement(&self, kind: usize, place: Placed) -> bool
         ensures { result ≡ is_entry (problem_in self.now) (entry kind (placement_at place)) }
     {
-        kind < self.view.kinds && placements::is_placement(self.view, self.boxes, kind, place)
+        kind < self.view.kinds && placements::is_placement(&self.view, &self.boxes, kind, place)
     }
 
     // Whether a kind has a candidate of this number.
@@ -64,7 +64,7 @@ impl<'a> PreparedJob<'a> {
         requires { kind < self.now.view.kinds }
         ensures { result ≡ is_candidate (problem_in self.now) kind number }
     {
-        placements::is_candidate(self.view, self.boxes, kind, number)
+        placements::is_candidate(&self.view, &self.boxes, kind, number)
     }
 
     // The end of a kind at a place where it may stand: on the board.
@@ -73,7 +73,7 @@ impl<'a> PreparedJob<'a> {
         ensures end { result ≡ entry_extent (problem_in self.now) (entry kind (placement_at place)) }
         ensures on_board { result ≤ 1000 }
     {
-        placements::extent(self.view, self.boxes, kind, place)
+        placements::extent(&self.view, &self.boxes, kind, place)
     }
 
     // Whether two kinds, each at a place where it may stand, are in conflict.

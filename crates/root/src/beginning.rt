@@ -24,19 +24,19 @@ use shapes::boxes::Boxes;
 use words::{bits, numbers};
 
 // The bits of a word whose candidates exist.
-fn fill_word(job: &[u8], view: View, boxes: Boxes, u: usize, first: usize) -> u64
-    requires viewed { Viewed job.now view × BoxesOf job.now boxes }
+fn fill_word(job: &[u8], view: &View, boxes: &Boxes, u: usize, first: usize) -> u64
+    requires viewed { Viewed job.now view.now × BoxesOf job.now boxes.now }
     requires u_bound { (u < kind_count (content job.now).kinds) × (first < 65536) }
-    ensures { result ≡ bits_where 64 (λ i. is_candidate (problem_of job.now view) u (first + i)) }
+    ensures { result ≡ bits_where 64 (λ i. is_candidate (problem_of job.now view.now) u (first + i)) }
 {
     bits::word_of(|i| is_candidate(view, boxes, u, first + i))
 }
 
 // The set at word `to`: all candidates of kind u.
-fn fill(job: &[u8], view: View, boxes: Boxes, u: usize, work: &mut [u8], to: usize, words: usize)
-    requires viewed { Viewed job.now view × BoxesOf job.now boxes }
-    requires fillable { Fillable (problem_of job.now view) u to words work.old }
-    ensures { Filled to words (is_candidate (problem_of job.now view) u) work.old work.new }
+fn fill(job: &[u8], view: &View, boxes: &Boxes, u: usize, work: &mut [u8], to: usize, words: usize)
+    requires viewed { Viewed job.now view.now × BoxesOf job.now boxes.now }
+    requires fillable { Fillable (problem_of job.now view.now) u to words work.old }
+    ensures { Filled to words (is_candidate (problem_of job.now view.now) u) work.old work.new }
 {
     for k in 0..words {
         let w = fill_word(job, view, boxes, u, k * 64);
@@ -48,15 +48,15 @@ fn fill(job: &[u8], view: View, boxes: Boxes, u: usize, work: &mut [u8], to: usi
 // looked at.
 fn fill_below(
     job: &[u8],
-    view: View,
-    boxes: Boxes,
+    view: &View,
+    boxes: &Boxes,
     plan: Plan,
     u: usize,
     bound: usize,
     work: &mut [u8],
     to: usize,
 )
-    requires viewed { (Viewed job.now view × BoxesOf job.now boxes × PlanOf job.now plan) × (plan.margin ≡ view.margin) }
+    requires viewed { (Viewed job.now view.now × BoxesOf job.now boxes.now × PlanOf job.now plan) × (plan.margin ≡ view.now.margin) }
     requires fillable { Fillable (planned job.now plan) u to plan.words work.old }
     ensures { Filled to plan.words (set_of (planned job.now plan) [] bound u) work.old work.new }
 {
@@ -70,13 +70,13 @@ fn fill_below(
 // Not of a `PreparedJob`: that would ask for the turned parts too, which nothing here reads.
 pub fn settle_first(
     job: &[u8],
-    view: View,
-    boxes: Boxes,
+    view: &View,
+    boxes: &Boxes,
     plan: Plan,
     bound: usize,
     work: &mut [u8],
 ) -> bool
-    requires viewed { (Viewed job.now view × BoxesOf job.now boxes × PlanOf job.now plan) × (plan.margin ≡ view.margin) }
+    requires viewed { (Viewed job.now view.now × BoxesOf job.now boxes.now × PlanOf job.now plan) × (plan.margin ≡ view.now.margin) }
     requires work_in_bounds { work_words (planned job.now plan) * 8 ≤ length work.old }
     ensures { Settled (planned job.now plan) (replicate 12 0) 0 bound (set_words (content job.now).sheet) work.old work.new result }
 {

@@ -106,8 +106,8 @@ pub fn walk(
     let plan = make_plan(prepared.job, prepared.view, prepared.boxes);
     if !settle_first(
         prepared.job,
-        prepared.view,
-        prepared.boxes,
+        &prepared.view,
+        &prepared.boxes,
         plan,
         bound,
         work,

@@ -7,4 +7,4 @@ pub returns : goal.returns
 unfolding offered
 returns c =
     c.is_placement.ensures
-    ∙ ap (λ (a : Placed). placeable c.args.view c.args.boxes c.args.kind a.column a.row a.rotation) c.placed_of.ensures
+    ∙ ap (λ (a : Placed). placeable c.args.view.now c.args.boxes.now c.args.kind a.column a.row a.rotation) c.placed_of.ensures

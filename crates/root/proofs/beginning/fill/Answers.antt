@@ -15,10 +15,10 @@ fill_word-w-requires c = record { viewed = c.requires.viewed; u_bound = (c.requi
 
 pub loop-k-preserved : goal.loop-k-preserved
 loop-k-preserved c =
-    rw c.put_u64.ensures (filled_next c.args.to c.loop-k.k (is_candidate (problem_of c.args.job.now c.args.view) c.args.u)
-    c.args.work.now c.loop-k.work c.fill_word-w.result c.loop-k.invariant (omega (arith, c.requires.fillable.fits, c.loop-k.auto.work)) (search rules)
-    (bits-where (is_candidate (problem_of c.args.job.now c.args.view) c.args.u) (c.loop-k.k * 64) c.fill_word-w.result
-    c.fill_word-w.ensures))
+    let j = problem_of c.args.job.now c.args.view.now in
+    rw c.put_u64.ensures (filled_next c.args.to c.loop-k.k (is_candidate j c.args.u) c.args.work.now c.loop-k.work
+    c.fill_word-w.result c.loop-k.invariant (omega (arith, c.requires.fillable.fits, c.loop-k.auto.work)) (search rules)
+    (bits-where (is_candidate j c.args.u) (c.loop-k.k * 64) c.fill_word-w.result c.fill_word-w.ensures))
 
 pub returns : goal.returns
 returns c = let e : c.loop-k.k ≡ c.args.words = omega arith in rw e at c.loop-k.invariant

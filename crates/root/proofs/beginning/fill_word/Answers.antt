@@ -11,12 +11,12 @@ use Rattle.root.proofs.beginning.fill_word.Goals as goal
 
 pub word_of-requires : goal.word_of-requires
 word_of-requires c =
-    let b : Bounded c.args.view = bounded c.args.job.now c.args.view c.requires.viewed.0 in
-    let k : c.args.u < c.args.view.kinds = rw c.requires.viewed.0.view.kinds c.requires.u_bound.0 in
+    let b : Bounded c.args.view.now = bounded c.args.job.now c.args.view.now c.requires.viewed.0 in
+    let k : c.args.u < c.args.view.now.kinds = rw c.requires.viewed.0.view.kinds c.requires.u_bound.0 in
     grind (serving, b, k)
 
 pub returns : goal.returns
 returns c =
     told-is _ c.word_of.result (search rules)
-    (λ i l. let e : test_bit c.word_of.result i ≡ offered c.args.view c.args.boxes c.args.u (c.args.first + i) = search (rules, c.word_of.ensures i l) in
-    e ∙ offered-is c.args.job.now c.args.view c.args.boxes c.requires.viewed.0 c.requires.viewed.1 c.args.u c.requires.u_bound.0 (c.args.first + i))
+    (λ i l. let e : test_bit c.word_of.result i ≡ offered c.args.view.now c.args.boxes.now c.args.u (c.args.first + i) = search (rules, c.word_of.ensures i l) in
+    e ∙ offered-is c.args.job.now c.args.view.now c.args.boxes.now c.requires.viewed.0 c.requires.viewed.1 c.args.u c.requires.u_bound.0 (c.args.first + i))
