@@ -16,7 +16,8 @@ use plans::plan::Plan;
 // level.
 pub fn lower(job: &[u8], plan: &Plan, bound: usize, span: usize, work: &mut [u8]) -> usize
     requires plan_of { PlanOf job.now plan.now × (span ≤ set_words (content job.now).sheet) }
-    requires admitted { (work_words (planned job.now plan.now) * 8 ≤ length work.old) × Admitted (planned job.now plan.now) span work.old }
+    requires admitted { (work_words (planned job.now plan.now) * 8 ≤ length work.old) ×
+        Admitted (planned job.now plan.now) span work.old }
     ensures { Lowered (planned job.now plan.now) bound span work.old work.new result }
 {
     trim(job, plan, bound, span, work);

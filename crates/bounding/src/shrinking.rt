@@ -12,7 +12,8 @@ use words::numbers;
 
 // Whether word k of the first level's set is zero for every kind.
 fn is_clear(job: &[u8], plan: &Plan, work: &[u8], k: usize) -> bool
-    requires { PlanOf job.now plan.now × (k < set_words (content job.now).sheet) × (work_words (planned job.now plan.now) * 8 ≤ length work.now) }
+    requires { PlanOf job.now plan.now × (k < set_words (content job.now).sheet) ×
+        (work_words (planned job.now plan.now) * 8 ≤ length work.now) }
     ensures { result ≡ true → (u : ℕ) → u < plan.now.types → number_at 8 work.now ((u * plan.now.words + k) * 8) ≡ 0 }
 {
     for u in 0..plan.types {
@@ -25,7 +26,8 @@ fn is_clear(job: &[u8], plan: &Plan, work: &[u8], k: usize) -> bool
 
 // The number of words up to the last one that is not zero for some kind.
 pub fn shrink(job: &[u8], plan: &Plan, work: &[u8], span: usize) -> usize
-    requires { PlanOf job.now plan.now × (span ≤ set_words (content job.now).sheet) × (work_words (planned job.now plan.now) * 8 ≤ length work.now) }
+    requires { PlanOf job.now plan.now × (span ≤ set_words (content job.now).sheet) ×
+        (work_words (planned job.now plan.now) * 8 ≤ length work.now) }
     ensures { Shrunk plan.now.types plan.now.words span work.now result }
 {
     for k in (0..span).rev() {

@@ -19,12 +19,14 @@ use words::{bits, numbers};
 // The bits of a word whose candidates end below the bound. Only the bits that are set are looked at.
 fn trim_word(job: &[u8], plan: &Plan, u: usize, first: usize, w: u64, bound: usize) -> u64
     requires { PlanOf job.now plan.now × (first < 65536) × BitsAdmitted (planned job.now plan.now) u first w }
-    ensures { (i : ℕ) → test_bit result i ≡ (test_bit w i && ends_below (planned job.now plan.now) bound u (first + i)) }
+    ensures { (i : ℕ) → test_bit result i ≡ (test_bit w i && ends_below (planned job.now plan.now) bound u (first +
+        i)) }
 {
     bits::keep(w, |i| lookup::end_of(job, plan, u, first + i) < bound)
 }
 
-// The set of so many words at word `at`: its members that end below the bound.
+// The set of so many words at word `at`: its members that end below the bound. (The root trims sets too, so it takes
+// their place and their words.)
 pub fn trim_set(
     job: &[u8],
     plan: &Plan,
@@ -35,7 +37,8 @@ pub fn trim_set(
     words: usize,
 )
     requires { PlanOf job.now plan.now × Trimmable (planned job.now plan.now) u at words work.old }
-    ensures { Filled at words (λ m. member work.old (at * 64 + m) && ends_below (planned job.now plan.now) bound u m) work.old work.new }
+    ensures { Filled at words (λ m. member work.old (at * 64 + m) && ends_below (planned job.now plan.now) bound u m)
+        work.old work.new }
 {
     for k in 0..words {
         let w = numbers::get_u64(work, (at + k) * 8);
@@ -49,9 +52,13 @@ pub fn trim_set(
 
 // Set i of all levels and kinds, if copies of its kind are left at its level.
 fn trim_next(job: &[u8], plan: &Plan, bound: usize, span: usize, i: usize, work: &mut [u8])
-    requires plan_of { PlanOf job.now plan.now × (span ≤ set_words (content job.now).sheet) × (i < piece_count (content job.now).kinds * kind_count (content job.now).kinds) }
+    requires plan_of { PlanOf job.now plan.now × (span ≤ set_words (content job.now).sheet) ×
+        (i < piece_count (content job.now).kinds * kind_count (content job.now).kinds) }
     requires work_in_bounds { work_words (planned job.now plan.now) * 8 ≤ length work.old }
-    requires trimmable { 0 < copies_left (i % kind_count (content job.now).kinds) (pieces_from (content job.now).kinds (i / kind_count (content job.now).kinds)) → Trimmable (planned job.now plan.now) (i % kind_count (content job.now).kinds) (i * set_words (content job.now).sheet) span work.old }
+    requires trimmable { 0 < copies_left (i % kind_count (content job.now).kinds) (pieces_from (content
+        job.now).kinds (i / kind_count (content job.now).kinds)) →
+        Trimmable (planned job.now plan.now) (i % kind_count (content job.now).kinds) (i * set_words (content
+        job.now).sheet) span work.old }
     ensures { SetTrimmed (planned job.now plan.now) bound span i work.old work.new }
 {
     let level = i / plan.types;
@@ -64,8 +71,10 @@ fn trim_next(job: &[u8], plan: &Plan, bound: usize, span: usize, i: usize, work:
 // All sets, the first words of each.
 pub fn trim(job: &[u8], plan: &Plan, bound: usize, span: usize, work: &mut [u8])
     requires plan_of { PlanOf job.now plan.now × (span ≤ set_words (content job.now).sheet) }
-    requires admitted { (work_words (planned job.now plan.now) * 8 ≤ length work.old) × Admitted (planned job.now plan.now) span work.old }
-    ensures { Trimmed (planned job.now plan.now) bound span (piece_count (content job.now).kinds * kind_count (content job.now).kinds) work.old work.new }
+    requires admitted { (work_words (planned job.now plan.now) * 8 ≤ length work.old) ×
+        Admitted (planned job.now plan.now) span work.old }
+    ensures { Trimmed (planned job.now plan.now) bound span (piece_count (content job.now).kinds * kind_count
+        (content job.now).kinds) work.old work.new }
 {
     let sets = plan.pieces * plan.types;
     for i in 0..sets {

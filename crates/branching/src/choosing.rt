@@ -34,7 +34,8 @@ fn next_in(
     span: usize,
 ) -> Option<Next>
     requires plan_of { PlanOf fixed.now.job.now fixed.now.plan × (span ≤ 64) × (span * 8 ≤ length set.now) }
-    requires by_index { (m : ℕ) → m < span * 64 → member set.now m ≡ true → is_candidate (problem fixed.now) u m ≡ true }
+    requires by_index { (m : ℕ) → m < span * 64 → member set.now m ≡ true →
+        is_candidate (problem fixed.now) u m ≡ true }
     ensures { NextMember (problem fixed.now) u extent set.now (span * 64) from result }
 {
     let number = sets::next_member(set, span as u32, from);
@@ -57,9 +58,15 @@ pub fn next_live(
     work: &[u8],
     from: usize,
 ) -> Option<Next>
-    requires plan_of { PlanOf fixed.now.job.now fixed.now.plan × (branch.now.level < piece_count (content fixed.now.job.now).kinds) × (work_words (problem fixed.now) * 8 ≤ length work.now) }
-    requires spans { Spans (problem fixed.now) state.bound state.span × Keeps (problem fixed.now) (placed_of (problem fixed.now) branch.now.numbers branch.now.level) state.bound state.span (piece_kind (content fixed.now.job.now).kinds branch.now.level) (slot_of (problem fixed.now) work.now branch.now.level (piece_kind (content fixed.now.job.now).kinds branch.now.level)) }
-    ensures { NextLive (problem fixed.now) (placed_of (problem fixed.now) branch.now.numbers branch.now.level) state.bound (piece_kind (content fixed.now.job.now).kinds branch.now.level) branch.now.extent from result }
+    requires plan_of { PlanOf fixed.now.job.now fixed.now.plan ×
+        (branch.now.level < piece_count (content fixed.now.job.now).kinds) ×
+        (work_words (problem fixed.now) * 8 ≤ length work.now) }
+    requires spans { Spans (problem fixed.now) state.bound state.span ×
+        Keeps (problem fixed.now) (placed_of (problem fixed.now) branch.now.numbers branch.now.level) state.bound
+        state.span (piece_kind (content fixed.now.job.now).kinds branch.now.level) (slot_of (problem fixed.now)
+        work.now branch.now.level (piece_kind (content fixed.now.job.now).kinds branch.now.level)) }
+    ensures { NextLive (problem fixed.now) (placed_of (problem fixed.now) branch.now.numbers branch.now.level)
+        state.bound (piece_kind (content fixed.now.job.now).kinds branch.now.level) branch.now.extent from result }
 {
     if state.bound <= branch.extent {
         return None;

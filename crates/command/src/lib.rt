@@ -16,6 +16,7 @@ fn pieces_shown(bytes: &[u8]) -> usize
     job::open(bytes).map_or(0, |view| view.pieces)
 }
 
+// (Seven parameters: what `run` of the C interface takes, and the text.)
 // Runs a job under a margin and a budget, from the layout in a buffer or from none, and puts the text of its answer at the front of `text`; says how long the
 // text is. Work words and answer numbers are enough for every job, so at the program's margin and budget, and from no layout, it is the program's text, whatever
 // they hold.

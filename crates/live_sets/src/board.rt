@@ -13,9 +13,11 @@ use plans::lookup;
 // Whether the latest piece is in conflict with candidate m of kind u, at the place.
 fn in_conflict(fixed: &Fixed, latest: &Latest, u: usize, m: usize, place: Placed) -> bool
     requires known { Standing fixed.now latest.now }
-    requires are_candidates { (is_candidate (problem fixed.now) latest.now.kind latest.now.number ≡ true) × (is_candidate (problem fixed.now) u m ≡ true) }
+    requires are_candidates { (is_candidate (problem fixed.now) latest.now.kind latest.now.number ≡ true) ×
+        (is_candidate (problem fixed.now) u m ≡ true) }
     requires stands { place ≡ placed_of fixed.now.plan.rows m }
-    ensures { result ≡ conflict (problem fixed.now) (entry_of (problem fixed.now) latest.now.kind latest.now.number) (entry_of (problem fixed.now) u m) }
+    ensures { result ≡ conflict (problem fixed.now) (entry_of (problem fixed.now) latest.now.kind latest.now.number)
+        (entry_of (problem fixed.now) u m) }
 {
     let first = lookup::piece_in(fixed.job, &fixed.plan, latest.kind);
     let second = lookup::piece_in(fixed.job, &fixed.plan, u);
@@ -34,7 +36,8 @@ fn in_conflict(fixed: &Fixed, latest: &Latest, u: usize, m: usize, place: Placed
 // Candidate m of kind u stays once the latest piece is placed. The cheap test comes first.
 pub fn still_live(fixed: &Fixed, latest: &Latest, u: usize, m: usize) -> bool
     requires known { Standing fixed.now latest.now }
-    requires are_candidates { (is_candidate (problem fixed.now) latest.now.kind latest.now.number ≡ true) × (is_candidate (problem fixed.now) u m ≡ true) }
+    requires are_candidates { (is_candidate (problem fixed.now) latest.now.kind latest.now.number ≡ true) ×
+        (is_candidate (problem fixed.now) u m ≡ true) }
     ensures { result ≡ stays (problem fixed.now) latest.now.kind latest.now.number u m }
 {
     if (latest.kind == u) & (m <= latest.number) {

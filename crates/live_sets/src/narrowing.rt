@@ -21,13 +21,14 @@ fn sift_word(fixed: &Fixed, latest: &Latest, u: usize, first: usize, w: u64) -> 
     requires known { Standing fixed.now latest.now }
     requires candidate { (is_candidate (problem fixed.now) latest.now.kind latest.now.number ≡ true) × (first < 65536) }
     requires bits_admitted { BitsAdmitted (problem fixed.now) u first w }
-    ensures { (i : ℕ) → test_bit result i ≡ (test_bit w i && stays (problem fixed.now) latest.now.kind latest.now.number u (first + i)) }
+    ensures { (i : ℕ) → test_bit result i ≡ (test_bit w i && stays (problem fixed.now) latest.now.kind
+        latest.now.number u (first + i)) }
 {
     bits::keep(w, |i| board::still_live(fixed, latest, u, first + i))
 }
 
 // Of the 64 numbers from `first` on, those that stand in this row or above it: such a number has the same column as the
-// number that is so many rows less.
+// number that is so many rows less. (Of the table alone, as its contract: nothing else that is fixed is asked.)
 fn rows_from(nofit: &Nofit, strings: &[u8], row: usize, first: usize) -> u64
     requires { Rowed nofit.now strings.now row first }
     ensures { (i : ℕ) → i < 64 → test_bit result i ≡ leb row ((first + i) / 4 % nofit.now.rows) }
@@ -40,8 +41,11 @@ fn rows_from(nofit: &Nofit, strings: &[u8], row: usize, first: usize) -> u64
 // both kinds: one string for the rows from the placed one's on, and one for the rows under it. Strings do not know the
 // margin: what is promised speaks of the candidates at margin 0, which every candidate is.
 fn blocked_word(fixed: &Fixed, latest: &Latest, u: usize, first: usize) -> u64
-    requires { Laid fixed.now.job.now fixed.now.nofit fixed.now.strings.now latest.now.kind latest.now.number latest.now.place u first × Near fixed.now.nofit latest.now.place.column first }
-    ensures { (i : ℕ) → i < 64 → is_candidate (under 0 (content fixed.now.job.now)) u (first + i) ≡ true → test_bit result i ≡ not (stays (under 0 (content fixed.now.job.now)) latest.now.kind latest.now.number u (first + i)) }
+    requires { Laid fixed.now.job.now fixed.now.nofit fixed.now.strings.now latest.now.kind latest.now.number
+        latest.now.place u first × Near fixed.now.nofit latest.now.place.column first }
+    ensures { (i : ℕ) → i < 64 → is_candidate (under 0 (content fixed.now.job.now)) u (first + i) ≡ true →
+        test_bit result i ≡ not (stays (under 0 (content fixed.now.job.now)) latest.now.kind latest.now.number u
+        (first + i)) }
 {
     let nofit = &fixed.nofit;
     let strings = fixed.strings;
@@ -63,8 +67,10 @@ fn blocked_word(fixed: &Fixed, latest: &Latest, u: usize, first: usize) -> u64
 // The bits of a word whose candidates stay, by the strings of both kinds. Out of reach of the placed piece nothing is
 // in conflict with it.
 fn strain_word(fixed: &Fixed, latest: &Latest, u: usize, first: usize, w: u64) -> u64
-    requires { Laid fixed.now.job.now fixed.now.nofit fixed.now.strings.now latest.now.kind latest.now.number latest.now.place u first × BitsAdmitted (under 0 (content fixed.now.job.now)) u first w }
-    ensures { (i : ℕ) → test_bit result i ≡ (test_bit w i && stays (under 0 (content fixed.now.job.now)) latest.now.kind latest.now.number u (first + i)) }
+    requires { Laid fixed.now.job.now fixed.now.nofit fixed.now.strings.now latest.now.kind latest.now.number
+        latest.now.place u first × BitsAdmitted (under 0 (content fixed.now.job.now)) u first w }
+    ensures { (i : ℕ) → test_bit result i ≡ (test_bit w i && stays (under 0 (content fixed.now.job.now))
+        latest.now.kind latest.now.number u (first + i)) }
 {
     let rows = fixed.nofit.rows;
     let span = fixed.nofit.reach * rows * 4;
@@ -84,9 +90,11 @@ fn strain_word(fixed: &Fixed, latest: &Latest, u: usize, first: usize, w: u64) -
 // The bits of a word whose candidates stay.
 fn narrow_word(fixed: &Fixed, latest: &Latest, u: usize, first: usize, w: u64) -> u64
     requires known { Standing fixed.now latest.now }
-    requires candidate { (is_candidate (problem fixed.now) latest.now.kind latest.now.number ≡ true) × (first + 64 ≤ set_words (content fixed.now.job.now).sheet * 64) }
+    requires candidate { (is_candidate (problem fixed.now) latest.now.kind latest.now.number ≡ true) ×
+        (first + 64 ≤ set_words (content fixed.now.job.now).sheet * 64) }
     requires bits_admitted { BitsAdmitted (problem fixed.now) u first w }
-    ensures { (i : ℕ) → test_bit result i ≡ (test_bit w i && stays (problem fixed.now) latest.now.kind latest.now.number u (first + i)) }
+    ensures { (i : ℕ) → test_bit result i ≡ (test_bit w i && stays (problem fixed.now) latest.now.kind
+        latest.now.number u (first + i)) }
 {
     if w == 0 {
         return 0;
@@ -110,7 +118,8 @@ pub fn narrow(
 )
     requires known { Standing fixed.now latest.now }
     requires narrowable { Narrowable (problem fixed.now) latest.now.kind latest.now.number u from to words work.old }
-    ensures { Filled to words (λ m. member work.old (from * 64 + m) && stays (problem fixed.now) latest.now.kind latest.now.number u m) work.old work.new }
+    ensures { Filled to words (λ m. member work.old (from * 64 + m) && stays (problem fixed.now) latest.now.kind
+        latest.now.number u m) work.old work.new }
 {
     for k in 0..words {
         let w = numbers::get_u64(work, (from + k) * 8);

@@ -16,7 +16,8 @@ pub struct Fixed<'a> {
     pub strings: &'a [u8],
 }
 
-// The pieces that are placed: the numbers of their candidates, how many pieces that are, and how far they reach.
+// The pieces that are placed: the numbers of their candidates, how many pieces that are, and how far they reach. (An array
+// with its count: a slice has no room for the next number, and the engine has no heap.)
 #[derive(Clone, Copy)]
 pub struct Branch {
     pub numbers: [usize; 12],

@@ -26,7 +26,7 @@ pub fn has_members(work: &[u8], at: usize, words: usize, copies: u8) -> bool
 }
 
 // The set of the branch's level and of this kind, at word `to`: what is left of the set of the level before once the
-// latest piece is placed.
+// latest piece is placed. (The set's word beside what its kind is settled by: `settle_kind` needs it too.)
 fn make_set(
     fixed: &Fixed,
     branch: &Branch,
@@ -37,9 +37,13 @@ fn make_set(
     to: usize,
 )
     requires known { KnownOf fixed.now }
-    requires placeable { Placeable (problem fixed.now) branch.now.numbers branch.now.level state.bound state.span work.old }
-    requires u_bound { (u < kind_count (content fixed.now.job.now).kinds) × (0 < copies_left u (pieces_from (content fixed.now.job.now).kinds branch.now.level)) × SetPlace (problem fixed.now) branch.now.level u to }
-    requires latest { LatestOf (problem fixed.now) fixed.now.plan.rows branch.now.numbers branch.now.level latest.now.kind latest.now.number latest.now.place }
+    requires placeable { Placeable (problem fixed.now) branch.now.numbers branch.now.level state.bound state.span
+        work.old }
+    requires u_bound { (u < kind_count (content fixed.now.job.now).kinds) ×
+        (0 < copies_left u (pieces_from (content fixed.now.job.now).kinds branch.now.level)) ×
+        SetPlace (problem fixed.now) branch.now.level u to }
+    requires latest { LatestOf (problem fixed.now) fixed.now.plan.rows branch.now.numbers branch.now.level
+        latest.now.kind latest.now.number latest.now.place }
     ensures { Made (problem fixed.now) branch.now.numbers branch.now.level state.bound state.span u work.old work.new }
 {
     let from = set_start(fixed.job, &fixed.plan, branch.level - 1, u);
@@ -56,10 +60,13 @@ fn settle_kind(
     work: &mut [u8],
 ) -> bool
     requires known { KnownOf fixed.now }
-    requires placeable { Placeable (problem fixed.now) branch.now.numbers branch.now.level state.bound state.span work.old }
+    requires placeable { Placeable (problem fixed.now) branch.now.numbers branch.now.level state.bound state.span
+        work.old }
     requires u_bound { u < kind_count (content fixed.now.job.now).kinds }
-    requires latest { LatestOf (problem fixed.now) fixed.now.plan.rows branch.now.numbers branch.now.level latest.now.kind latest.now.number latest.now.place }
-    ensures { KindSettled (problem fixed.now) branch.now.numbers branch.now.level state.bound state.span u work.old work.new result }
+    requires latest { LatestOf (problem fixed.now) fixed.now.plan.rows branch.now.numbers branch.now.level
+        latest.now.kind latest.now.number latest.now.place }
+    ensures { KindSettled (problem fixed.now) branch.now.numbers branch.now.level state.bound state.span u work.old
+        work.new result }
 {
     let copies = copies_left(fixed.job, &fixed.plan, branch.level, u);
     if copies == 0 {
@@ -73,8 +80,10 @@ fn settle_kind(
 // The sets of the branch's level, and look-ahead. It ends at the first kind with too few members.
 pub fn settle(fixed: &Fixed, branch: &Branch, state: Progress, work: &mut [u8]) -> bool
     requires known { KnownOf fixed.now }
-    requires placeable { Placeable (problem fixed.now) branch.now.numbers branch.now.level state.bound state.span work.old }
-    ensures { Settled (problem fixed.now) branch.now.numbers branch.now.level state.bound state.span work.old work.new result }
+    requires placeable { Placeable (problem fixed.now) branch.now.numbers branch.now.level state.bound state.span
+        work.old }
+    ensures { Settled (problem fixed.now) branch.now.numbers branch.now.level state.bound state.span work.old
+        work.new result }
 {
     let before = branch.level - 1;
     let number = branch.numbers[before];

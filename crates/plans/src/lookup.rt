@@ -38,8 +38,10 @@ pub fn piece_in(job: &[u8], plan: &Plan, kind: usize) -> Piece
 
 // The gap of a pair of kinds.
 pub fn pair_gap(job: &[u8], plan: &Plan, t: usize, u: usize) -> u16
-    requires { PlanOf job.now plan.now × (t < kind_count (content job.now).kinds) × (u < kind_count (content job.now).kinds) }
-    ensures { result ≡ pair_gap (content job.now).classes (kind_at (content job.now).kinds t) (kind_at (content job.now).kinds u) }
+    requires { PlanOf job.now plan.now × (t < kind_count (content job.now).kinds) ×
+        (u < kind_count (content job.now).kinds) }
+    ensures { result ≡ pair_gap (content job.now).classes (kind_at (content job.now).kinds t) (kind_at (content
+        job.now).kinds u) }
 {
     let shared = words::bits::test_bit(plan.shared, (t * 8 + u) as u64);
     gap_between(
@@ -51,7 +53,8 @@ pub fn pair_gap(job: &[u8], plan: &Plan, t: usize, u: usize) -> u16
 
 // Where candidate m of kind u ends, which stands at this place.
 pub fn end_at(job: &[u8], plan: &Plan, u: usize, m: usize, place: Placed) -> usize
-    requires { PlanOf job.now plan.now × (is_candidate (planned job.now plan.now) u m ≡ true) × (place ≡ placed_of plan.now.rows m) }
+    requires { PlanOf job.now plan.now × (is_candidate (planned job.now plan.now) u m ≡ true) ×
+        (place ≡ placed_of plan.now.rows m) }
     ensures { result ≡ entry_extent (planned job.now plan.now) (entry_of (planned job.now plan.now) u m) }
 {
     placements::end_of(plan.kind[u].ends[place.rotation], place.column * plan.step)
@@ -75,7 +78,8 @@ pub fn copies_left(job: &[u8], plan: &Plan, level: usize, u: usize) -> u8
 
 // The word at which the set of level l and kind u begins.
 pub fn set_start(job: &[u8], plan: &Plan, l: usize, u: usize) -> usize
-    requires { PlanOf job.now plan.now × (l < piece_count (content job.now).kinds) × (u < kind_count (content job.now).kinds) }
+    requires { PlanOf job.now plan.now × (l < piece_count (content job.now).kinds) ×
+        (u < kind_count (content job.now).kinds) }
     ensures { SetPlace (planned job.now plan.now) l u result }
 {
     (l * plan.types + u) * plan.words

@@ -56,7 +56,8 @@ fn fill_below(
     work: &mut [u8],
     to: usize,
 )
-    requires viewed { (Viewed job.now view.now × BoxesOf job.now boxes.now × PlanOf job.now plan) × (plan.margin ≡ view.now.margin) }
+    requires viewed { (Viewed job.now view.now × BoxesOf job.now boxes.now × PlanOf job.now plan) ×
+        (plan.margin ≡ view.now.margin) }
     requires fillable { Fillable (planned job.now plan) u to plan.words work.old }
     ensures { Filled to plan.words (set_of (planned job.now plan) [] bound u) work.old work.new }
 {
@@ -76,9 +77,11 @@ pub fn settle_first(
     bound: usize,
     work: &mut [u8],
 ) -> bool
-    requires viewed { (Viewed job.now view.now × BoxesOf job.now boxes.now × PlanOf job.now plan) × (plan.margin ≡ view.now.margin) }
+    requires viewed { (Viewed job.now view.now × BoxesOf job.now boxes.now × PlanOf job.now plan) ×
+        (plan.margin ≡ view.now.margin) }
     requires work_in_bounds { work_words (planned job.now plan) * 8 ≤ length work.old }
-    ensures { Settled (planned job.now plan) (replicate 12 0) 0 bound (set_words (content job.now).sheet) work.old work.new result }
+    ensures { Settled (planned job.now plan) (replicate 12 0) 0 bound (set_words (content job.now).sheet) work.old
+        work.new result }
 {
     for u in 0..plan.types {
         let to = set_start(job, &plan, 0, u);

@@ -29,7 +29,8 @@ fn room_for(budget: u32) -> usize
     }
 }
 
-// The walk of the first piece, with the table of no-fit strings in the bytes lent.
+// The walk of the first piece, with the table of no-fit strings in the bytes lent. (Three buffers beside what `Fixed` is
+// made of here.)
 fn walk_over(
     prepared: &PreparedJob,
     plan: Plan,
@@ -39,10 +40,13 @@ fn walk_over(
     answer: &mut [u8],
     start: Progress,
 ) -> Progress
-    requires computed { Computed prepared.now.job.now prepared.now.view prepared.now.turned.now prepared.now.boxes plan nofit }
+    requires computed { Computed prepared.now.job.now prepared.now.view prepared.now.turned.now prepared.now.boxes
+        plan nofit }
     requires strings_in_bounds { (nofit.first + nofit.held * nofit.size + 1) * 8 ≤ length strings.old }
     requires ready { Ready (planned prepared.now.job.now plan) work.old answer.old (replicate 12 0) 0 1 0 start }
-    ensures { Left (planned prepared.now.job.now plan) (replicate 12 0) work.old answer.old work.new answer.new 1 start result (try_level (planned prepared.now.job.now plan) (numbers_at (replicate 12 0)) 0 0 start.left (held_of (planned prepared.now.job.now plan) start.found answer.old)) }
+    ensures { Left (planned prepared.now.job.now plan) (replicate 12 0) work.old answer.old work.new answer.new 1
+        start result (try_level (planned prepared.now.job.now plan) (numbers_at (replicate 12 0)) 0 0 start.left
+        (held_of (planned prepared.now.job.now plan) start.found answer.old)) }
 {
     make_nofit(
         prepared.job,
@@ -76,9 +80,12 @@ fn walk_with_table(
     answer: &mut [u8],
     start: Progress,
 ) -> Progress
-    requires computed { Computed prepared.now.job.now prepared.now.view prepared.now.turned.now prepared.now.boxes plan nofit × (nofit.first + nofit.held * nofit.size + 1 ≤ 25600) }
+    requires computed { Computed prepared.now.job.now prepared.now.view prepared.now.turned.now prepared.now.boxes
+        plan nofit × (nofit.first + nofit.held * nofit.size + 1 ≤ 25600) }
     requires ready { Ready (planned prepared.now.job.now plan) work.old answer.old (replicate 12 0) 0 1 0 start }
-    ensures { Left (planned prepared.now.job.now plan) (replicate 12 0) work.old answer.old work.new answer.new 1 start result (try_level (planned prepared.now.job.now plan) (numbers_at (replicate 12 0)) 0 0 start.left (held_of (planned prepared.now.job.now plan) start.found answer.old)) }
+    ensures { Left (planned prepared.now.job.now plan) (replicate 12 0) work.old answer.old work.new answer.new 1
+        start result (try_level (planned prepared.now.job.now plan) (numbers_at (replicate 12 0)) 0 0 start.left
+        (held_of (planned prepared.now.job.now plan) start.found answer.old)) }
 {
     if nofit.first + nofit.held * nofit.size < 1024 {
         let mut strings = [0u8; 8192];
@@ -98,8 +105,10 @@ pub fn walk(
     work: &mut [u8],
     answer: &mut [u8],
 ) -> Progress
-    requires room_for { RoomFor (problem_in prepared.now) work.old answer.old × Begun (problem_in prepared.now) (unwrap_or best (prepared.now.view.length + 1)) (is_some best) answer.old }
-    ensures { Walked (problem_in prepared.now) (held_of (problem_in prepared.now) (is_some best) answer.old) budget work.old answer.old work.new answer.new result }
+    requires room_for { RoomFor (problem_in prepared.now) work.old answer.old ×
+        Begun (problem_in prepared.now) (unwrap_or best (prepared.now.view.length + 1)) (is_some best) answer.old }
+    ensures { Walked (problem_in prepared.now) (held_of (problem_in prepared.now) (is_some best) answer.old) budget
+        work.old answer.old work.new answer.new result }
 {
     let bound = best.unwrap_or(prepared.view.length + 1);
     let found = best.is_some();

@@ -25,9 +25,12 @@ fn run_from(
     answer: &mut [u8],
 ) -> Result<Outcome, Refusal>
     requires begins { BeginsWith (problem_in prepared.now) layout.now best }
-    ensures told { result ≡ (Services.run_from (problem_in prepared.now) (Services.given_layout (problem_in prepared.now) layout.now) budget work.old answer.old).answer }
-    ensures cleared { work.new ≡ (Services.run_from (problem_in prepared.now) (Services.given_layout (problem_in prepared.now) layout.now) budget work.old answer.old).work }
-    ensures held { answer.new ≡ (Services.run_from (problem_in prepared.now) (Services.given_layout (problem_in prepared.now) layout.now) budget work.old answer.old).out }
+    ensures told { result ≡ (Services.run_from (problem_in prepared.now) (Services.given_layout (problem_in
+        prepared.now) layout.now) budget work.old answer.old).answer }
+    ensures cleared { work.new ≡ (Services.run_from (problem_in prepared.now) (Services.given_layout (problem_in
+        prepared.now) layout.now) budget work.old answer.old).work }
+    ensures held { answer.new ≡ (Services.run_from (problem_in prepared.now) (Services.given_layout (problem_in
+        prepared.now) layout.now) budget work.old answer.old).out }
 {
     let view = prepared.view;
     let words = work_words(prepared.job, view);

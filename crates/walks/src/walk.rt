@@ -14,7 +14,8 @@ use plans::recording::record_layout;
 use runs::progress;
 use runs::progress::Progress;
 
-// The branch's next piece tries its live candidates in rising order, each against the best of that moment.
+// The branch's next piece tries its live candidates in rising order, each against the best of that moment. (No iterator:
+// the sets and the bound change below each candidate.)
 #[cycle(go_on_try_piece)]
 pub fn try_piece(
     fixed: &Fixed,
@@ -24,8 +25,11 @@ pub fn try_piece(
     out: &mut [u8],
 ) -> Progress
     requires known { KnownOf fixed.now × (branch.now.level < piece_count (content fixed.now.job.now).kinds) }
-    requires ready { Ready (problem fixed.now) work.old out.old branch.now.numbers branch.now.level (branch.now.level + 1) branch.now.extent state }
-    ensures { Left (problem fixed.now) branch.now.numbers work.old out.old work.new out.new (branch.now.level + 1) state result (try_level (problem fixed.now) (numbers_at branch.now.numbers) branch.now.level 0 state.left (held_of (problem fixed.now) state.found out.old)) }
+    requires ready { Ready (problem fixed.now) work.old out.old branch.now.numbers branch.now.level (branch.now.level
+        + 1) branch.now.extent state }
+    ensures { Left (problem fixed.now) branch.now.numbers work.old out.old work.new out.new (branch.now.level + 1)
+        state result (try_level (problem fixed.now) (numbers_at branch.now.numbers) branch.now.level 0 state.left
+        (held_of (problem fixed.now) state.found out.old)) }
 {
     let mut st = state;
     let mut from = 0;
@@ -60,9 +64,12 @@ fn go_on(
     out: &mut [u8],
 ) -> Progress
     requires known { KnownOf fixed.now }
-    requires ready { Ready (problem fixed.now) work.old out.old branch.now.numbers branch.now.level branch.now.level branch.now.extent state }
+    requires ready { Ready (problem fixed.now) work.old out.old branch.now.numbers branch.now.level branch.now.level
+        branch.now.extent state }
     requires taken { Taken (problem fixed.now) branch.now.numbers branch.now.level branch.now.extent state }
-    ensures { Left (problem fixed.now) branch.now.numbers work.old out.old work.new out.new branch.now.level state result (go_on_level (problem fixed.now) (numbers_at branch.now.numbers) branch.now.level state.left (held_of (problem fixed.now) state.found out.old)) }
+    ensures { Left (problem fixed.now) branch.now.numbers work.old out.old work.new out.new branch.now.level state
+        result (go_on_level (problem fixed.now) (numbers_at branch.now.numbers) branch.now.level state.left (held_of
+        (problem fixed.now) state.found out.old)) }
 {
     if branch.level == fixed.plan.pieces {
         record_layout(fixed.job, &fixed.plan, branch.numbers, out);
