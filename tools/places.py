@@ -1,5 +1,7 @@
 #!/usr/bin/env python3
-"""Counts the places in crates/*/src where code reads like an older language: docs/DESIGN-PASS.md says what each count is for.
+"""Counts the places in crates/*/src where code reads like an older language.
+
+What each count is for, docs/DESIGN-PASS.md says.
 
     python3 tools/places.py [--list] [FOLDER]
 
@@ -52,7 +54,8 @@ def functions():
                 if depth == 0:
                     break
             indent = re.match(" *", mark.group()).group()
-            body = re.search(r"^(?:\) (?:-> [^\n{]*)?|" + indent + r")\{\n(.*?)^" + indent + r"\}$", part[end:], re.M | re.S)
+            opening = r"^(?:\) (?:-> [^\n{]*)?|" + indent + r")\{\n"
+            body = re.search(opening + r"(.*?)^" + indent + r"\}$", part[end:], re.M | re.S)
             contract = part[end:end + body.start()] if body else part[end:]
             yield path, mark.group(1), part[opened + 1:end], contract, body.group(1) if body else ""
 
@@ -67,7 +70,8 @@ for path, name, _, _, body in every:
     if len([x for x in code.split("\n") if x.strip()]) >= 2:
         words = re.findall(r"[A-Za-z_]\w*|\d+|\S", code)
         keep = {"let", "mut", "while", "for", "in", "if", "else", "return", "as", "match", "loop", "break"}
-        shape = " ".join("n" if w[0].isdigit() else w if w in keep or not (w[0].isalpha() or w[0] == "_") else "x" for w in words)
+        named = [not (w in keep or not (w[0].isalpha() or w[0] == "_")) for w in words]
+        shape = " ".join("n" if w[0].isdigit() else "x" if is_name else w for w, is_name in zip(words, named))
         shapes[shape].append(f"{path} {name}")
 tell("2 functions of one shape with another", [", ".join(group) for group in shapes.values() if len(group) > 1])
 loops = lines(r"^\s*('\w+: )?(while|loop)\b.*\{$")
@@ -83,8 +87,10 @@ for path, name, _, contract, _ in every:
     for clause in re.findall(r"requires[^{]*\{([^\n]*)\}", contract):
         for fact in re.findall(r"\b([A-Z]\w+) ", clause):
             told[fact].add(f"{path} {name}")
-tell("5 facts required by three functions or more", [f"{fact} ({len(where)})" for fact, where in sorted(told.items(), key=lambda x: -len(x[1])) if len(where) > 2])
-tell("5 functions of seven parameters or more", [f"{path} {name} ({n})" for path, name, given, _, _ in every if (n := len([p for p in given.split(",") if ":" in p])) >= 7])
+often = sorted(((len(where), fact) for fact, where in told.items() if len(where) > 2), key=lambda x: -x[0])
+tell("5 facts required by three functions or more", [f"{fact} ({n})" for n, fact in often])
+counted = [(path, name, len([p for p in given.split(",") if ":" in p])) for path, name, given, _, _ in every]
+tell("5 functions of seven parameters or more", [f"{path} {name} ({n})" for path, name, n in counted if n >= 7])
 tell("6 fields that are arrays", lines(r"^ {4}(pub )?\w+: \[\w+; \w+\],$"))
 answers = [f"{path}" for path in glob.glob(f"{root}/crates/*/proofs/**/Answers.antt", recursive=True)]
 count = sum(len(re.findall(r"^pub \S+ : goal\.", open(path, encoding="utf-8").read(), re.M)) for path in answers)
