@@ -88,8 +88,8 @@ fn answer(
     Ok(())
 }
 
-// Each line is the name of a board, the bytes of its job, the margin by which it is clamped from here on, a question, or a remark. A new board is not clamped. (No iterator:
-// a question reads on from its own line, and a board from its name's.)
+// Each line is the name of a board, the bytes of its job, the margin by which it is clamped from here on, a question, or a
+// remark. A new board is not clamped. (No iterator: a question reads on from its own line, and a board from its name's.)
 fn answer_all(rt: &impl Print, text: &[u8]) -> io::Result<()> {
     let mut board = text;
     let mut margin = 0;

@@ -125,8 +125,7 @@ fn planned_kinds(job: &[u8], view: View, boxes: Boxes) -> [PlannedKind; 8]
     all
 }
 
-// Which kinds share a common cut: kinds t and u in bit t * 8 + u. (One number, where a table for the kinds would be
-// copied in each step.)
+// Which kinds share a common cut: kinds t and u in bit t * 8 + u. (One number: what the walk asks for a pair is a bit.)
 fn shared_cuts(view: View) -> u64
     ensures { result ≡ bits_where 64 (λ x. same_cut (cut_of view (x / 8)) (cut_of view (x % 8))) }
 {
