@@ -9,7 +9,7 @@ use lib.ListN.{length}
 use borrow.Author.Tests.{lt-ltb, le-ltb, ltb-true, ltb-false, eqb-true, eq-eqb, ne_eqb, not-true}
 use lib.Dec.{eqb, ltb}
 use Rattle.std.specs.List.{position_or_len, range_with_len}
-use Rattle.std.specs.Prelude.{Option, Some, None}
+use Rattle.std.specs.Prelude.{Option, Some, None, unwrap_or}
 use Rattle.model.specs.Content.{SpacingClass}
 use Rattle.model.specs.Format.{class_from, class_in_range, distinct}
 use Rattle.model.specs.Lists.{all, any, keep, concat, rising, below}
@@ -131,6 +131,27 @@ none-found i n r e f = go (ltb i n) refl (sym e ∙ f)
     go : (b : Bool) → ltb i n ≡ b → cond b (Some i) None ≡ None → n ≤ i
     go true q h = (cc)
     go false q h = ltb-false i n q
+
+first-within : (p : ℕ → Bool) (i k : ℕ) → first_from p i k ≤ i + k
+unfolding first_from
+first-within p i zero = omega arith
+first-within p i (suc k) = go (p i) (first-within p (suc i) k)
+  where
+    go : (b : Bool) → first_from p (suc i) k ≤ suc i + k → cond b i (first_from p (suc i) k) ≤ i + suc k
+    go true h = omega arith
+    go false h = omega arith
+
+-- With n in place of none it is the index of the first.
+pub found-or : (s : List ℕ) (o n value : ℕ) (r : Option ℕ)
+    → r ≡ cond (ltb (index_of s o n value) n) (Some (index_of s o n value)) None → unwrap_or r n ≡ index_of s o n value
+unfolding index_of
+found-or s o n value r e =
+    let l : index_of s o n value ≤ n = omega (arith, first-within (has_id s o value) 0 n) in
+    ap (λ r. unwrap_or r n) e ∙ go (index_of s o n value) l (ltb (index_of s o n value) n) refl
+  where
+    go : (i : ℕ) → i ≤ n → (b : Bool) → ltb i n ≡ b → unwrap_or (cond b (Some i) None) n ≡ i
+    go i l true q = refl
+    go i l false q = let m = ltb-false i n q in omega arith
 
 -- ---- The class of an id, where no id occurs twice
 

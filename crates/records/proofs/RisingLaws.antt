@@ -4,13 +4,14 @@ use mathlib.Core.List.{List, [], ◌∷◌, ◌++◌, append-nil}
 use mathlib.Core.Logic.{⊎_elim}
 use mathlib.Core.Path.{◌≡◌, refl, sym, ap, ap₂, subst, ◌∙◌}
 use Prim.Native.Nat.{ℕ, ◌+◌, ◌*◌, ◌<◌, ◌≤◌}
-use native.Mathlib.Nat.{not-suc-le-zero}
+use native.Mathlib.Nat.{add-zero, not-suc-le-zero}
 use native.Mathlib.Omega.{arith}
-use borrow.Author.Tests.{lt-ltb, le-ltb, ltb-false, not-false}
+use borrow.Author.Tests.{ltb-true, ltb-false, not-false}
 use lib.Dec.{ltb}
 use lib.ListN.{length, get_or, set, take, length-map, length-set}
 use lib.Seq.{get_or-take, get_or-set_same, get_or-set_other}
-use Rattle.words.proofs.Cases.{le_or_lt}
+use mir.Val.{bool_byte}
+use Rattle.words.proofs.Cases.{le_or_lt, at_most_one}
 use Rattle.model.specs.Content.{SpacingClass}
 use Rattle.model.specs.Format.{by_rising_id, class_from}
 use Rattle.model.specs.Lists.{concat, below, rising}
@@ -80,64 +81,61 @@ module _ (s : List ℕ) (o n : ℕ) where
         arith;
   }
 
-  module _ (id done : ℕ) (places : List ℕ) (r : RisenTo s o n id done places) (fit : classes_unfit s o n ≡ false) where
-    of_id_lem : (t : Bool) → ltb (index_of s o n id) n ≡ t → classes_of_id id cs ≡ cond t (class_from s (o + index_of s
-        o n id * 3) ∷ []) []
+  module _ (id done j : ℕ) (places : List ℕ) (r : RisenTo s o n id done places) (fit : classes_unfit s o n ≡ false)
+      (e : j ≡ index_of s o n id) (more : id < 8) (fits : o + n * 3 ≤ length s) where
+    abbrev next : List ℕ
+    next = set places done (o + j * 3)
+
+    -- The places before stay.
+    kept : (i : ℕ) → i < done → get_or next i 0 ≡ get_or places i 0
+    kept i h = get_or-set_other places done i (o + j * 3) 0 (λ q. omega arith)
+
+    here : get_or next done 0 ≡ o + j * 3
+    here = get_or-set_same places done (o + j * 3) 0 (omega (arith, r.few, r.size))
+
+    first-kept : classes_at_first s next done ≡ risen_below id cs
+    first-kept =
+        map-below-same (λ i. class_from s (get_or next i 0)) (λ i. class_from s (get_or places i 0)) done
+        (λ i h. ap (class_from s) (kept i h))
+        ∙ r.classes
+
+    of_id_lem : (t : Bool) → ltb j n ≡ t → classes_of_id id cs ≡ cond t (class_from s (o + j * 3) ∷ []) []
     of_id_lem t q =
-        found s o id n (ids_distinct s o n fit) ∙ ap (λ t. cond t (class_from s (o + index_of s o n id * 3) ∷ []) []) q
+        found s o id n (ids_distinct s o n fit)
+        ∙ ap (λ m. cond (ltb m n) (class_from s (o + m * 3) ∷ []) []) (sym e)
+        ∙ ap (λ t. cond t (class_from s (o + j * 3) ∷ []) []) q
 
-    -- No class has this id.
-    pub risen-missing : n ≤ index_of s o n id → RisenTo s o n (id + 1) done places
-    risen-missing l =
+    classes-next : (t : Bool) → ltb j n ≡ t → classes_at_first s next (done + bool_byte t) ≡ risen_below (id + 1) cs
+    classes-next true q =
+        map-below-more (λ i. class_from s (get_or next i 0)) done
+        ∙ ap₂ (λ l c. l ++ (c ∷ [])) first-kept (ap (class_from s) here)
+        ∙ ap (λ l. risen_below id cs ++ l) (sym (of_id_lem true q)) ∙ sym (risen_more cs id)
+    classes-next false q =
+        ap (classes_at_first s next) (add-zero done) ∙ first-kept ∙ sym (append-nil (risen_below id cs))
+        ∙ ap (λ l. risen_below id cs ++ l) (sym (of_id_lem false q)) ∙ sym (risen_more cs id)
+
+    inside-next : (t : Bool) → ltb j n ≡ t → Inside s next (done + bool_byte t)
+    inside-next true q i h = ⊎_elim (λ l. at (omega arith)) before (le_or_lt done i)
+      where
+        found_in : j < n
+        found_in = ltb-true j n q
+
+        at : i ≡ done → get_or next i 0 + 3 ≤ length s
+        at m = rw (m, here) (omega (arith, found_in))
+
+        before : i < done → get_or next i 0 + 3 ≤ length s
+        before l = rw (kept i l) (r.inside i l)
+    inside-next false q i h = let l : i < done = omega arith in rw (kept i l) (r.inside i l)
+
+    -- The place of an id that no class has is the next to be overwritten.
+    pub risen_next : RisenTo s o n (id + 1) (done + bool_byte (ltb j n)) next
+    risen_next =
         record {
-          classes =
-              r.classes ∙ sym (append-nil (risen_below id cs))
-              ∙ ap (λ l. risen_below id cs ++ l) (sym (of_id_lem false (le-ltb _ _ l))) ∙ sym (risen_more cs id);
-          inside = r.inside;
-          size = r.size;
-          few = omega (arith, r.few);
+          classes = classes-next (ltb j n) refl;
+          inside = inside-next (ltb j n) refl;
+          size = length-set places done (o + j * 3) ∙ r.size;
+          few = omega (arith, r.few, at_most_one (ltb j n));
         }
-
-    -- The class of this id, whose index is j, is stored.
-    module _ (j : ℕ) (e : j ≡ index_of s o n id) (less : index_of s o n id < n) (more : id < 8) (fits : o + n * 3 ≤
-        length s) where
-      abbrev next : List ℕ
-      next = set places done (o + j * 3)
-
-      -- The places before stay.
-      kept : (i : ℕ) → i < done → get_or next i 0 ≡ get_or places i 0
-      kept i h = get_or-set_other places done i (o + j * 3) 0 (λ q. omega arith)
-
-      here : get_or next done 0 ≡ o + j * 3
-      here = get_or-set_same places done (o + j * 3) 0 (omega (arith, r.few, r.size))
-
-      classes-next : classes_at_first s next (done + 1) ≡ risen_below (id + 1) cs
-      classes-next =
-          map-below-more (λ i. class_from s (get_or next i 0)) done
-          ∙ ap₂ (λ l c. l ++ (c ∷ []))
-          (map-below-same (λ i. class_from s (get_or next i 0)) (λ i. class_from s (get_or places i 0)) done
-          (λ i h. ap (class_from s) (kept i h))
-          ∙ r.classes)
-          (ap (class_from s) (here ∙ ap (λ m. o + m * 3) e))
-          ∙ ap (λ l. risen_below id cs ++ l) (sym (of_id_lem true (lt-ltb _ _ less))) ∙ sym (risen_more cs id)
-
-      inside-next : Inside s next (done + 1)
-      inside-next i h = ⊎_elim (λ l. at (omega arith)) before (le_or_lt done i)
-        where
-          at : i ≡ done → get_or next i 0 + 3 ≤ length s
-          at m = rw (m, here) (omega arith)
-
-          before : i < done → get_or next i 0 + 3 ≤ length s
-          before l = rw (kept i l) (r.inside i l)
-
-      pub risen-stored : RisenTo s o n (id + 1) (done + 1) next
-      risen-stored =
-          record {
-            classes = classes-next;
-            inside = inside-next;
-            size = length-set places done (o + j * 3) ∙ r.size;
-            few = omega (arith, r.few);
-          }
 
   pub risen_end : (id done : ℕ) (places : List ℕ) → id ≡ 8 → classes_unfit s o n ≡ false → RisenTo s o n id done places
       → ByRisingId s o n places
