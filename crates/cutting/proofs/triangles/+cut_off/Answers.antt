@@ -14,18 +14,6 @@ use Rattle.cutting.proofs.TriangleLaws.{Goes, no_triangle, two_left, flat_goes, 
 use Rattle.cutting.proofs.triangles.+cut_off.Goals as goal
 use Rattle.cutting.proofs.triangles.+cut_off.Goals.{After-without-left, After-without-left-2}
 
--- The rest, without a corner in line.
-flat_step : (t : ℕ) (c : After-without-left t) → Goes c.args.corners.now (take (length c.args.corners.now - 1)
-    c.without-left.result) []
-flat_step t c =
-    flat_goes c.args.corners.now (omega arith) c.requires.cut_to_the_end c.first_in_line.result c.in-Some.flat _
-    c.first_in_line.ensures.value c.in-Some.is
-    c.without-left.ensures
-
-flat_size : (t : ℕ) (c : After-without-left t) → length (take (length c.args.corners.now - 1) c.without-left.result)
-    ≡ length c.args.corners.now - 1
-flat_size t c = rest-length c.args.corners.now _ c.in-Some.flat c.without-left.ensures c.in-Some.ensures.within
-
 -- The rest, without the ear.
 ear_step : (t : ℕ) (c : After-without-left-2 t)
     → Goes c.args.corners.now (take (length c.args.corners.now - 1) c.without-left-2.result)
@@ -39,6 +27,18 @@ ear_size : (t : ℕ) (c : After-without-left-2 t) → length (take (length c.arg
     ≡ length c.args.corners.now - 1
 ear_size t c = rest-length c.args.corners.now _ c.unwrap-ear.result c.without-left-2.ensures
     (subst (λ r. IfSome r (λ i. i < length c.args.corners.now)) c.unwrap-ear.ensures c.first_ear.ensures.within)
+
+-- The rest, without a corner in line.
+flat_step : (t : ℕ) (c : After-without-left t) → Goes c.args.corners.now (take (length c.args.corners.now - 1)
+    c.without-left.result) []
+flat_step t c =
+    flat_goes c.args.corners.now (omega arith) c.requires.cut_to_the_end c.first_in_line.result c.in-Some.flat _
+    c.first_in_line.ensures.value c.in-Some.is
+    c.without-left.ensures
+
+flat_size : (t : ℕ) (c : After-without-left t) → length (take (length c.args.corners.now - 1) c.without-left.result)
+    ≡ length c.args.corners.now - 1
+flat_size t c = rest-length c.args.corners.now _ c.in-Some.flat c.without-left.ensures c.in-Some.ensures.within
 
 pub returns-then-n-eq2-clause-value : goal.returns-then-n-eq2-clause-value
 returns-then-n-eq2-clause-value t c = (sym (ap length (two_left c.args.corners.now c.if-n-eq2.true)), omega arith)
