@@ -1,16 +1,14 @@
 -- Laws of the loop that fills the table of an accepted job's kinds.
 use mathlib.Core.Bool.{false}
 use mathlib.Core.List.{List, [], ◌∷◌, ◌++◌}
-use mathlib.Core.Option as M
-use mathlib.Core.Path.{◌≡◌, sym, ap, subst, ◌∙◌}
+use mathlib.Core.Path.{◌≡◌, sym, ap, ap₂, subst, ◌∙◌}
 use Prim.Native.Nat.{ℕ, ◌+◌, ◌<◌}
 use native.Mathlib.Omega.{arith}
 use lib.ListN.{length, get_or, drop, set, length-set}
 use lib.Seq.{get_or-set_same, get_or-set_other}
-use Rattle.std.specs.Prelude.{Option, None, Some, MatchOption}
 use Rattle.model.specs.Content.{SpacingClass, Kind, no_kind}
 use Rattle.model.specs.Format.{byte_at, many, read_part, read_kind, by_rising_id}
-use Rattle.model.specs.Gap.{best_class, largest_gap, gap_or, kind_gap}
+use Rattle.model.specs.Gap.{best_class, largest_gap, kind_gap}
 use Rattle.model.proofs.Readers.{many-length}
 use Rattle.model.proofs.Records.{byte_first, byte_behind}
 use Rattle.records.specs.Classes.{classes_from, classes_unfit}
@@ -22,7 +20,7 @@ use Rattle.job.specs.View.{blank}
 use Rattle.job.specs.declared.Kind as J
 use Rattle.job.specs.declared.gaps.Best.{Best}
 use Rattle.job.specs.declared.table.Head.{Head}
-use Rattle.job.proofs.GapLaws.{kept_of, kept, best-is, largest-risen}
+use Rattle.job.proofs.GapLaws.{kept, best-is, kept-gap, kept-cut, largest-risen}
 use Rattle.job.proofs.PlaceLaws.{at_more}
 use Rattle.records.proofs.NextLaws.{next_kind, kind-next, kind-values, kind-parts, kind-ends}
 use Rattle.records.proofs.RecordLaws.{reads_none, values_from}
@@ -72,29 +70,20 @@ module _ (cs : List SpacingClass) (list : List ℕ) (base kinds size : ℕ) (w :
             (sym (get_or-set_same table t e blank (let z = b.size in omega arith))) stored);
       }
 
--- What follows in each of the two cases.
-pub either_then : {A P R : Type 0} {Q S : A → Type 0} (o : Option A) → MatchOption o P Q → (P → R)
-    → ((x : A) → Q x → S x) → MatchOption o R S
-either_then None h f g = f h
-either_then (Some x) h f g = g x h
+-- What is kept of the best-ranked class that was found for a mask, from the largest gap of the classes on, is that of
+-- each kind with this mask.
+module _ (s list : List ℕ) (o n here default mask : ℕ) (best : Best) (fit : classes_unfit s o n ≡ false)
+    (l : default ≡ largest_gap (classes_from s o n)) (e : best ≡ best_below s o n default mask 8)
+    (m : mask ≡ byte_at list (here + 2)) (k : Kind) (q : k.classes ≡ byte_at list (here + 2)) where
+  abbrev largest : ℕ
+  largest = largest_gap (by_rising_id (classes_from s o n))
 
--- What is kept of the best-ranked class that was found for a mask is that of each kind with this mask.
-pub best_of_lem : (s list : List ℕ) (o n here default mask g : ℕ) (x : Option ℕ) (best : Option Best)
-    → classes_unfit s o n ≡ false
-    → default ≡ largest_gap (classes_from s o n) → best ≡ best_below s o n mask 8 → mask ≡ byte_at list (here + 2)
-    → MatchOption best (g ≡ default) (λ b. g ≡ b.gap) → MatchOption best (x ≡ None) (λ b. x ≡ b.cut)
-    → (k : Kind) → k.classes ≡ byte_at list (here + 2)
-    → (g ≡ kind_gap (by_rising_id (classes_from s o n)) k)
-    × (x ≡ class_cut (best_class (by_rising_id (classes_from s o n)) k))
-unfolding kind_gap kept gap_or class_cut
-best_of_lem s list o n here default mask g x best fit l e m eg ex k q =
-    go (best_class (by_rising_id (classes_from s o n)) k) best (e ∙ ap (λ x. best_below s o n x 8) (m ∙ sym q)
-    ∙ best-is s o n k (ids_distinct s o n fit)) eg ex
-  where
-    go : (c : M.Option SpacingClass) (b : Option Best) → b ≡ kept c → MatchOption b (g ≡ default) (λ b. g ≡ b.gap)
-        → MatchOption b (x ≡ None) (λ b. x ≡ b.cut)
-        → (g ≡ gap_or (largest_gap (by_rising_id (classes_from s o n))) c) × (x ≡ class_cut c)
-    go M.none None e a b = (a ∙ l ∙ largest-risen s o n (ranged s o n fit), b)
-    go M.none (Some y) e a b = absurd cc
-    go (M.some c) None e a b = absurd cc
-    go (M.some c) (Some y) e a b = let z : y ≡ kept_of c = cc in (a ∙ ap (λ y. y.gap) z, b ∙ ap (λ y. y.cut) z)
+  pub best_kept : best ≡ kept largest (best_class (by_rising_id (classes_from s o n)) k)
+  best_kept =
+      e ∙ ap₂ (λ d x. best_below s o n d x 8) (l ∙ largest-risen s o n (ranged s o n fit)) (m ∙ sym q)
+      ∙ best-is s o n k (ids_distinct s o n fit) largest
+
+  pub best_of_lem : (best.gap ≡ kind_gap (by_rising_id (classes_from s o n)) k)
+      × (best.cut ≡ class_cut (best_class (by_rising_id (classes_from s o n)) k))
+  unfolding kind_gap
+  best_of_lem = (ap (λ b. b.gap) best_kept ∙ kept-gap largest _, ap (λ b. b.cut) best_kept ∙ kept-cut largest _)

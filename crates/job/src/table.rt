@@ -54,13 +54,13 @@ pub fn read_kinds(
     let mut here = 0;
     for t in 0..kinds {
         let head = read_head(list, here);
-        let best = gaps::best_class(job, at, n, head.classes);
+        let best = gaps::best_class(job, at, n, default, head.classes);
         let (part_at, end) = places::place_parts(list, here + 4, head.parts, base);
         table[t] = Kind {
             demand: head.demand,
             rotations: head.rotations,
-            gap: best.map_or(default, |class| class.gap),
-            cut: best.and_then(|class| class.cut),
+            gap: best.gap,
+            cut: best.cut,
             parts: head.parts,
             part_at,
         };

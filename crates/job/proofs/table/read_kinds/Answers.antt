@@ -1,7 +1,7 @@
-use Rattle.std.proofs.Common.{rules, refl, ◌+◌, ◌≤◌, length}
+use Rattle.std.proofs.Common.{refl, ◌+◌, ◌≤◌, length}
 use native.Mathlib.Omega.{arith}
 use Rattle.records.proofs.NextLaws.{kind-begins, parts-few, parts-read}
-use Rattle.job.proofs.TableLaws.{built_none, built_more, either_then, best_of_lem}
+use Rattle.job.proofs.TableLaws.{built_none, built_more, best_of_lem}
 use Rattle.job.proofs.table.read_kinds.Goals as goal
 use Rattle.job.proofs.table.read_kinds.Goals.{In-loop-t}
 
@@ -28,10 +28,8 @@ place_parts-end-requires c =
 
 pub loop-t-preserved : goal.loop-t-preserved
 loop-t-preserved c =
-    let best = best_of_lem c.args.job.now c.args.list.now c.args.at c.args.n c.loop-t.here _ _ _ _ _ c.requires.1.1
-    c.largest_gap-default.ensures c.best_class-best.ensures c.read_head-head.ensures.classes
-    (either_then c.best_class-best.result c.map_or.ensures (λ e. e) (λ b k. search rules))
-    (either_then c.best_class-best.result c.and_then.ensures (λ e. e) (λ b k. search rules)) in
+    let best = best_of_lem c.args.job.now c.args.list.now c.args.at c.args.n c.loop-t.here _ _ _ c.requires.1.1
+    c.largest_gap-default.ensures c.best_class-best.ensures c.read_head-head.ensures.classes in
     built_more _ c.args.list.now c.args.base c.args.kinds _ c.requires.1.0 c.loop-t.t c.loop-t.here c.loop-t.table _
     c.read_head-head.result _ c.loop-t-test.true (omega arith)
     c.loop-t.invariant c.read_head-head.ensures (refl, refl, refl) best c.place_parts-end.ensures.0
