@@ -6,7 +6,7 @@ ghost use Rattle.candidates.specs.Placements.{Bounded, within, fits_at, placeabl
 use crate::conflicts::{Placed, placed_of};
 use job::View;
 use polygons::extents::Extents;
-use shapes::boxes::Boxes;
+use shapes::boxes::{Boxes, box_at};
 
 // Whether what lies from low to high stays, moved by this much, between the margin and the limit less the margin. (By
 // `as`: a size has no `From` into a signed number.)
@@ -38,8 +38,7 @@ fn stays_on_board(view: &View, e: Extents, place: Placed) -> bool
     )
 }
 
-// Whether a kind may stand at a place. (Here and below the box that `box_at` tells is read in place: `box_at` takes all
-// boxes by value, and this is asked many thousand times for a call.)
+// Whether a kind may stand at a place.
 pub fn is_placement(view: &View, boxes: &Boxes, kind: usize, place: Placed) -> bool
     requires { Bounded view.now × (kind < view.now.kinds) }
     ensures { result ≡ placeable view.now boxes.now kind place.column place.row place.rotation }
@@ -52,7 +51,7 @@ pub fn is_placement(view: &View, boxes: &Boxes, kind: usize, place: Placed) -> b
     {
         return false;
     }
-    stays_on_board(view, boxes.of[kind * 4 + place.rotation], place)
+    stays_on_board(view, box_at(boxes, kind, place.rotation), place)
 }
 
 // Whether a kind has a candidate of this number.
@@ -77,6 +76,6 @@ pub fn extent(view: &View, boxes: &Boxes, kind: usize, place: Placed) -> usize
     requires { (Bounded view.now × (kind < view.now.kinds)) × ((place.column < view.now.columns) × (place.rotation < 4)) }
     ensures { result ≡ extent_at view.now boxes.now kind place.column place.rotation }
 {
-    let e = boxes.of[kind * 4 + place.rotation];
+    let e = box_at(boxes, kind, place.rotation);
     end_of(e.max_x, place.column * view.step)
 }

@@ -24,7 +24,7 @@ fn common_box(view: View, boxes: Boxes) -> Extents
     requires { Bounded view }
     ensures { Around (rotations_of view) boxes.of (view.kinds * 4) result }
 {
-    let mut e = box_at(boxes, 0, lowest_turn(view.kind[0].rotations));
+    let mut e = box_at(&boxes, 0, lowest_turn(view.kind[0].rotations));
     for i in 0..view.kinds * 4 {
         if words::bits::test_bit(view.kind[i / 4].rotations as u64, (i % 4) as u64) {
             e = join(e, boxes.of[i]);

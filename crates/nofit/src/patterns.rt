@@ -191,7 +191,7 @@ impl<'a> Source<'a> {
             placed: self.placed,
             other: BoxedPiece {
                 piece: turned_to(self.other, k),
-                extents: box_at(self.boxes, self.kind, k),
+                extents: box_at(&self.boxes, self.kind, k),
             },
         }
     }
@@ -289,7 +289,7 @@ fn fill_pair(prepared: &PreparedJob, nofit: Nofit, x: Pair, i: usize, bits: &mut
         pattern: pattern_of(view, nofit, x),
         placed: BoxedPiece {
             piece: turned_to(piece_of(prepared.job, view, x.kind), x.turn),
-            extents: box_at(prepared.boxes, x.kind, x.turn),
+            extents: box_at(&prepared.boxes, x.kind, x.turn),
         },
         kind: x.other,
         other: piece_of(prepared.job, view, x.other),

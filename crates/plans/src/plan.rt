@@ -109,7 +109,7 @@ fn planned_kind(job: &[u8], view: View, boxes: Boxes, t: usize) -> PlannedKind
         gap: view.kind[t].gap as u8,
         parts: piece.count as u8,
         sizes: sizes_of(piece),
-        ends: array::from_fn(|k| box_at(boxes, t, k).max_x),
+        ends: array::from_fn(|k| box_at(&boxes, t, k).max_x),
     }
 }
 

@@ -19,10 +19,11 @@ pub struct Boxes {
     pub of: [Extents; 32],
 }
 
-// The box of kind t, turned k quarter turns. Nothing else chooses one box; a loop may go over all.
-pub fn box_at(boxes: Boxes, t: usize, k: usize) -> Extents
+// The box of kind t, turned k quarter turns. Nothing else chooses one box; a loop may go over all. (By reference: it is
+// asked many thousand times for a call, and all boxes are 256 bytes.)
+pub fn box_at(boxes: &Boxes, t: usize, k: usize) -> Extents
     requires { (t < 8) × (k < 4) }
-    ensures { result ≡ box_at boxes t k }
+    ensures { result ≡ box_at boxes.now t k }
 {
     boxes.of[t * 4 + k]
 }
