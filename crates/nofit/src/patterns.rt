@@ -318,12 +318,23 @@ fn fill_next(prepared: &PreparedJob, nofit: Nofit, i: usize, bits: &mut [u8])
     }
 }
 
-// Word k of the parities.
+// Word k of the parities: four bits for each of its dots. (A dot is carried to the next one, so that a word takes one
+// division; by `bits::word_of` each bit would take one.)
 fn parity_word(rows: usize, k: usize) -> u64
     requires { (1 ≤ rows) × (k ≤ 200) }
     ensures { result ≡ bits_where 64 (parity_bits rows k) }
 {
-    bits::word_of(|i| bits::test_bit(((k * 64 + i) / 4 / rows) as u64, 0))
+    let first = k * 16;
+    let mut v = 0;
+    let mut d = dot_of(rows, first);
+    for n in 0..16 {
+        let odd = bits::test_bit(d.column as u64, 0);
+        for turn in 0..4 {
+            v = bits::assign_bit(v, (n * 4 + turn) as u64, odd);
+        }
+        d = next_dot(rows, d, first + n);
+    }
+    v
 }
 
 // The parities of the columns, in the first words.
