@@ -2,6 +2,8 @@
 ghost use Rattle.std.specs.Prelude.{map, ◌≡◌, ◌+◌, ◌<◌};
 ghost use Rattle.model.specs.Geometry;
 ghost use Rattle.geometry.specs.Apart.{clear_of, boxes_apart, both_clear, Beside};
+ghost use Rattle.distances.specs.Compact.{Compact, Short};
+ghost use Rattle.convexity.specs.Parts.{SoundPart};
 ghost use Rattle.polygons.specs.Flat.{part_of, shifted};
 
 use directions::edges::edges_separate;
@@ -51,15 +53,20 @@ fn beside(p: Part, q: Part, by: Move, gap: u16) -> Option<bool>
     Some(both_clear(p, q, by, gap))
 }
 
-// Whether p and q, moved, are separated at this gap: a normal of p or one of q separates them, tried in this order, and
-// no corner of the one is too near an edge of the other.
-pub fn separated(p: Part, q: Part, by: Move, gap: u16) -> bool
-    ensures { result ≡
-        Geometry.separated gap (part_of p.entry.numbers.now)
-        (map (shifted by.dx by.dy) (part_of q.entry.numbers.now)) }
+// Whether p and q, moved by (dx, dy), are separated at this gap: a normal of p or one of q separates them, tried in
+// this order, and no corner of the one is too near an edge of the other. Both are sound, and their numbers small, so
+// that what is squared fits 64 bits: as those of a job's parts and of the ways on its board are. (The facts stand here
+// as clauses, as docs/CONTRACTS.md quotes them; the functions above take them as a Part and a Move.)
+pub fn separated(p: &[i16], q: &[i16], dx: i16, dy: i16, gap: u16) -> bool
+    requires sound_part { SoundPart (part_of p.now) × SoundPart (part_of q.now) }
+    requires short { Short 4096 dx dy × (Compact (part_of p.now) × Compact (part_of q.now)) }
+    ensures { result ≡ Geometry.separated gap (part_of p.now) (map (shifted dx dy) (part_of q.now)) }
 {
-    if let Some(apart) = beside(p, q, by, gap) {
+    let first = Part { numbers: p };
+    let second = Part { numbers: q };
+    let by = Move { dx, dy };
+    if let Some(apart) = beside(first, second, by, gap) {
         return apart;
     }
-    beside(q, p, by.back(), gap).unwrap_or(false)
+    beside(second, first, by.back(), gap).unwrap_or(false)
 }

@@ -7,7 +7,7 @@ ghost use Rattle.distances.specs.Compact.{Short};
 ghost use Rattle.geometry.specs.Pieces.{Fitting, Standing, part_in, box_in, parts_in, part_conflicts};
 
 use crate::pairs::{boxes_apart, separated};
-use distances::parts::{Move, Part};
+use distances::parts::Move;
 use polygons::extents::Extents;
 
 // A piece in a table: where its first part stands, how many parts it has, and how many vertices each. Each part has 20
@@ -51,14 +51,12 @@ struct TablePiece<'a, 'b> {
 
 impl<'a, 'b> TablePiece<'a, 'b> {
     // Part i of it.
-    fn part(&self, i: usize) -> Part<'a>
+    fn part(&self, i: usize) -> &'a [i16]
         requires { i < self.now.piece.now.count }
-        ensures { part_of result.numbers.now ≡ part_in self.now.table.now self.now.piece.now i }
+        ensures { part_of result.now ≡ part_in self.now.table.now self.now.piece.now i }
     {
         let at = part_start(*self.piece, i) + 4;
-        Part {
-            numbers: &self.table[at..at + self.piece.sizes[i] * 2],
-        }
+        &self.table[at..at + self.piece.sizes[i] * 2]
     }
 }
 
@@ -79,7 +77,7 @@ fn parts_conflict(p: &TablePiece, i: usize, q: &TablePiece, m: usize, by: Move, 
     ) {
         return false;
     }
-    !separated(p.part(i), q.part(m), by, gap)
+    !separated(p.part(i), q.part(m), by.dx, by.dy, gap)
 }
 
 // Whether part i of p is not separated from some part of q, moved. The first such part ends the test.
