@@ -1,16 +1,15 @@
 -- A layout written entry by entry, each entry as one number of eight bytes.
 use mathlib.Core.List.{List, [], ◌∷◌, ◌++◌, map, map-append, append-nil}
 use mathlib.Core.Path.{◌≡◌, refl, sym, ap, ◌∙◌}
-use Prim.Native.Nat.{ℕ, zero, suc, ◌+◌, ◌*◌, ◌/◌, ◌%◌, ◌^◌, ◌≤◌, ◌<◌}
+use Prim.Native.Nat.{ℕ, ◌+◌, ◌*◌, ◌/◌, ◌%◌, ◌^◌, ◌<◌}
 use native.Mathlib.Nat.{div-le_self, mod-le}
 use native.Mathlib.Numerals.{add-one}
 use native.Mathlib.Omega.{arith}
 use lib.ListN.{length, take, drop, length-append, length-map}
-use lib.Seq.{take_at, drop_at, drop-drop, take-add}
-use Rattle.std.proofs.lemmas.List.{length-take-le}
+use lib.Seq.{take_at, drop_at, drop-drop}
 use Rattle.words.specs.Bytes.{AreBytes}
 use Rattle.words.specs.Number.{bytes, bytes_of, number_at, with_number, filled}
-use Rattle.words.proofs.Place.{number_at-lt, number_at-four, bytes-number_at}
+use Rattle.words.proofs.Place.{number_at-lt, number_at-four}
 use Rattle.words.proofs.Row.{length-bytes_of, bytes_of-append, filled_none}
 use Rattle.words.proofs.Value.{bytes-mod, bytes-add}
 use Rattle.model.specs.Grid.{rows, placement_of}
@@ -115,25 +114,3 @@ entry-copied layout out out' i h w = rw (w, number_at-four layout (i * 8)) (sym 
           row_fits = number_at-lt 2 layout (i * 8 + 4) h;
           rotation-fits = number_at-lt 2 layout (i * 8 + 6) h;
         }
-
--- One more entry of a layout that is handed in are eight bytes more.
-word_copied : (layout out : List ℕ) (i : ℕ) → AreBytes layout → i * 8 + 8 ≤ length layout → written (entry_in layout) i out ≡ take (i * 8) layout ++ drop (i * 8) out
-    → written (entry_in layout) (i + 1) out ≡ take (i * 8 + 8) layout ++ drop (i * 8 + 8) out
-unfolding with_number
-word_copied layout out i h l before =
-    let at : ℕ = i * 8 in
-    let front : length (take at layout) ≡ at = length-take-le at layout (omega arith) in
-    let word : bytes 8 (number_at 8 layout at) ≡ take 8 (drop at layout) = bytes-number_at 8 layout at h l in
-    let back : drop (at + 8) (take at layout ++ drop at out) ≡ drop (at + 8) out =
-    sym (drop-drop 8 at (take at layout ++ drop at out)) ∙ ap (drop 8) (drop_at (take at layout) (drop at out) at front) ∙ drop-drop 8 at out in
-    sym (entry-copied layout out (take at layout ++ drop at out) i h (sym before))
-    ∙ rw (take_at (take at layout) (drop at out) at front, back, word, ← (take-add at 8 layout))
-
--- So many entries of a layout that is handed in are its first bytes.
-pub entries-copied : (layout out : List ℕ) (i : ℕ) → AreBytes layout → i * 8 ≤ length layout → written (entry_in layout) i out ≡ take (i * 8) layout ++ drop (i * 8) out
-entries-copied layout out zero h l = written_none (entry_in layout) out
-entries-copied layout out (suc i) h l =
-    let size : i * 8 + 8 ≡ suc i * 8 = omega arith in
-    ap (λ k. written (entry_in layout) k out) (omega arith)
-    ∙ word_copied layout out i h (omega arith) (entries-copied layout out i h (omega arith))
-    ∙ ap (λ k. take k layout ++ drop k out) size

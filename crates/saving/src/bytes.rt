@@ -19,10 +19,13 @@ pub fn put_word(answer: &mut [u8], at: usize, n: usize)
     words::numbers::put_u16(answer, at, n as u16);
 }
 
-// The n bytes of the job from byte `from` on.
+// The n bytes of the job from byte `from` on. (Byte by byte, and no `copy_from_slice`: that is compiled to a call of
+// memmove, which the archive for C would need from outside.)
 pub fn copy(job: &[u8], from: usize, n: usize, answer: &mut [u8], at: usize)
     requires { (from + n ≤ length job.now) × (at + n ≤ length answer.old) }
     ensures { answer.new ≡ sets answer.old at (take n (drop from job.now)) }
 {
-    answer[at..at + n].copy_from_slice(&job[from..from + n]);
+    for k in 0..n {
+        answer[at + k] = job[from + k];
+    }
 }

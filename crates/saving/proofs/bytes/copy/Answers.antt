@@ -1,19 +1,11 @@
-use Rattle.std.proofs.Common.{◌≡◌, ◌+◌, ◌-◌, ℕ, List, ◌++◌, sym, ap, ap₂, ◌∙◌, append_assoc, take, drop, length, length-drop, length-take-le}
+use mathlib.Core.Path.{◌∙◌}
 use native.Mathlib.Omega.{arith}
-use lib.Seq.{drop-drop}
-use Rattle.std.proofs.lemmas.List.Edits.{sets-eq}
+use lib.ListN.{length-set}
+use Rattle.saving.proofs.CopyLaws.{copy_more}
 use Rattle.saving.proofs.bytes.copy.Goals as goal
 
-pub returns : goal.returns
-returns c =
-    let s = c.args.job.now in
-    let a = c.args.answer.now in
-    let at = c.args.at in
-    let bytes = take c.args.n (drop c.args.from s) in
-    let l : length bytes ≡ c.args.n = length-take-le c.args.n (drop c.args.from s)
-    (omega (arith, length-drop c.args.from s, c.requires.0)) in
-    let many : at + c.args.n - at ≡ length bytes = omega arith in
-    ap₂ {C = List ℕ} (λ (bs rest : List ℕ). take at a ++ (bs ++ rest)) (c.copy_from_slice.ensures.after
-    ∙ ap (λ m. take m (drop c.args.from s)) (omega arith))
-    (ap (λ (m : ℕ). drop m (drop at a)) many ∙ drop-drop (length bytes) at a)
-    ∙ sym (append_assoc (take at a) bytes (drop (at + length bytes) a)) ∙ sym (sets-eq bytes a at (omega arith))
+pub loop-k-preserved : goal.loop-k-preserved
+loop-k-preserved c = (
+  length-set c.loop-k.answer _ _ ∙ c.loop-k.invariant.0,
+  copy_more c.args.job.now c.args.from c.args.at c.loop-k.k _ _ (omega (arith, c.requires.0)) c.loop-k.invariant.1,
+)
