@@ -66,9 +66,9 @@ pub fn conflict_between(
 
 // Two kinds share a common cut: the best-ranked class of both is the same, and it is marked.
 #[tactic(auto, unfolding(job::specs::Gaps::same_cut))]
-pub fn share_cut(view: View, kind: usize, other: usize) -> bool
+pub fn share_cut(view: &View, kind: usize, other: usize) -> bool
     requires { (kind < 8) × (other < 8) }
-    ensures { result ≡ same_cut (cut_of view kind) (cut_of view other) }
+    ensures { result ≡ same_cut (cut_of view.now kind) (cut_of view.now other) }
 {
     match (view.kind[kind].cut, view.kind[other].cut) {
         (Some(first), Some(second)) => first == second,
@@ -89,9 +89,9 @@ pub fn gap_between(g: usize, h: usize, shared: bool) -> u16
 }
 
 // The gap of a pair of kinds.
-pub fn pair_gap(view: View, kind: usize, other: usize) -> u16
-    requires { Bounded view × ((kind < view.kinds) × (other < view.kinds)) }
-    ensures { result ≡ view_gap view kind other }
+pub fn pair_gap(view: &View, kind: usize, other: usize) -> u16
+    requires { Bounded view.now × ((kind < view.now.kinds) × (other < view.now.kinds)) }
+    ensures { result ≡ view_gap view.now kind other }
 {
     gap_between(
         view.kind[kind].gap,

@@ -82,9 +82,9 @@ impl<'a> PreparedJob<'a> {
         requires second { Stands self.now other at }
         ensures { result ≡ conflict_in self.now kind place other at }
     {
-        let p = piece_of(self.job, self.view, kind);
-        let q = piece_of(self.job, self.view, other);
-        let gap = pair_gap(self.view, kind, other);
+        let p = piece_of(self.job, &self.view, kind);
+        let q = piece_of(self.job, &self.view, other);
+        let gap = pair_gap(&self.view, kind, other);
         conflict_between(self.turned, self.view.step, p, place, q, at, gap)
     }
 }

@@ -237,10 +237,10 @@ fn bound_of(nofit: Nofit, x: Pair) -> usize
 }
 
 // The pattern of a pair.
-fn pattern_of(view: View, nofit: Nofit, x: Pair) -> Pattern
-    requires bounded { Bounded view × ((x.kind < view.kinds) × (x.other < view.kinds)) }
+fn pattern_of(view: &View, nofit: Nofit, x: Pair) -> Pattern
+    requires bounded { Bounded view.now × ((x.kind < view.now.kinds) × (x.other < view.now.kinds)) }
     requires small { Small nofit x }
-    ensures { result ≡ pattern_of view nofit x }
+    ensures { result ≡ pattern_of view.now nofit x }
 {
     Pattern {
         step: view.step,
@@ -283,7 +283,7 @@ fn fill_pair(prepared: &PreparedJob, nofit: Nofit, x: Pair, i: usize, bits: &mut
     requires pair_of { PairOf nofit i x × (i < nofit.held) }
     ensures { Written (nofit.first + i * nofit.size) nofit.size (asked_of prepared.now x) (blocked_pair prepared.now nofit x) bits.old bits.new }
 {
-    let view = prepared.view;
+    let view = &prepared.view;
     let source = Source {
         turned: prepared.turned,
         pattern: pattern_of(view, nofit, x),
@@ -299,9 +299,9 @@ fn fill_pair(prepared: &PreparedJob, nofit: Nofit, x: Pair, i: usize, bits: &mut
 }
 
 // Whether kind t may be turned q quarter turns.
-fn is_turned(view: View, t: usize, q: usize) -> bool
-    requires { Bounded view × ((t < view.kinds) × (q < 4)) }
-    ensures { result ≡ test_bit (rotations_of view t) q }
+fn is_turned(view: &View, t: usize, q: usize) -> bool
+    requires { Bounded view.now × ((t < view.now.kinds) × (q < 4)) }
+    ensures { result ≡ test_bit (rotations_of view.now t) q }
 {
     bits::test_bit(view.kind[t].rotations as u64, q as u64)
 }
@@ -313,7 +313,7 @@ fn fill_next(prepared: &PreparedJob, nofit: Nofit, i: usize, bits: &mut [u8])
     ensures { ParitiesOf nofit bits.new × StringsOf (content prepared.now.job.now) nofit (i + 1) bits.new }
 {
     let x = pair_of(nofit, i);
-    if is_turned(prepared.view, x.kind, x.turn) {
+    if is_turned(&prepared.view, x.kind, x.turn) {
         fill_pair(prepared, nofit, x, i, bits);
     }
 }

@@ -104,7 +104,7 @@ fn planned_kind(job: &[u8], view: View, boxes: Boxes, t: usize) -> PlannedKind
     requires { Viewed job.now view × (t < kind_count (content job.now).kinds) }
     ensures { PlannedAs job.now boxes t result }
 {
-    let piece = piece_of(job, view, t);
+    let piece = piece_of(job, &view, t);
     PlannedKind {
         gap: view.kind[t].gap as u8,
         parts: piece.count as u8,
@@ -129,7 +129,7 @@ fn planned_kinds(job: &[u8], view: View, boxes: Boxes) -> [PlannedKind; 8]
 fn shared_cuts(view: View) -> u64
     ensures { result ≡ bits_where 64 (λ x. same_cut (cut_of view (x / 8)) (cut_of view (x % 8))) }
 {
-    words::bits::word_of(|x| share_cut(view, x / 8, x % 8))
+    words::bits::word_of(|x| share_cut(&view, x / 8, x % 8))
 }
 
 // How many words a set has.

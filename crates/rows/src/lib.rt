@@ -25,7 +25,7 @@ fn row_content(
     ensures value { result ≡ (row_content (problem_in prepared.now) kind number other row.old).answer }
     ensures row_after { row.new ≡ (row_content (problem_in prepared.now) kind number other row.old).buffer }
 {
-    let view = prepared.view;
+    let view = &prepared.view;
     if (kind >= view.kinds) | (other >= view.kinds) {
         return Err(Refusal::Candidate);
     }

@@ -47,7 +47,7 @@ pub fn boxes_of(job: &[u8], view: View, turned: &[i16]) -> Boxes
 {
     let mut of = [point(0, 0); 32];
     for t in 0..view.kinds {
-        let p = piece_of(job, view, t);
+        let p = piece_of(job, &view, t);
         for k in 0..4 {
             of[t * 4 + k] = piece_box(turned, turned_to(p, k));
         }

@@ -10,8 +10,8 @@ use geometry::pieces::Piece;
 use job::{Kind, View};
 
 // The piece of a kind, as it stands unturned.
-pub fn piece_of(job: &[u8], view: View, kind: usize) -> Piece
-    requires { Viewed job.now view × (kind < kind_count (content job.now).kinds) }
+pub fn piece_of(job: &[u8], view: &View, kind: usize) -> Piece
+    requires { Viewed job.now view.now × (kind < kind_count (content job.now).kinds) }
     ensures { PieceOf job.now kind result }
 {
     let Kind { parts, part_at, .. } = view.kind[kind];

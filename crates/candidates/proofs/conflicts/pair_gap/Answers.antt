@@ -12,4 +12,4 @@ pub gap_between-requires : goal.gap_between-requires
 gap_between-requires c = (c.requires.0.gaps c.args.kind c.requires.1.0, c.requires.0.gaps c.args.other c.requires.1.1)
 
 pub returns : goal.returns
-returns c = c.gap_between.ensures ∙ ap (gap_between (gap_of c.args.view c.args.kind) (gap_of c.args.view c.args.other)) c.share_cut.ensures
+returns c = c.gap_between.ensures ∙ ap (gap_between (gap_of c.args.view.now c.args.kind) (gap_of c.args.view.now c.args.other)) c.share_cut.ensures

@@ -5,7 +5,7 @@ use Rattle.nofit.proofs.patterns.pattern_of.Goals as goal
 
 pub returns : goal.returns
 returns c =
-    let v = c.args.view in
+    let v = c.args.view.now in
     let w = c.args.nofit in
     let x = c.args.x in
     λ j. record {
