@@ -16,13 +16,17 @@ use Rattle.model.specs.declared.Outcome.{Outcome}
 use Rattle.model.specs.declared.Outcome.TheVariants.{Shortest, Stopped, Infeasible}
 use Rattle.model.specs.declared.Refusal.{Refusal}
 use Rattle.model.proofs.Printing.{below_last, map-append, lines_append, lines_one, line-two, line-three, entry-line}
-use Rattle.report.specs.Text.{number_then, lines_in, shown_count, rendered}
+use Rattle.report.specs.Text.{number_then, lines_in, shown_count, rendered, refused_line, first_by, rendered_by}
 
 -- ---- The first line, as the bytes and numbers that are put one behind the other
 
+pub line-refused : (n : ℕ) → refused_line n ≡ (refused_word ++ 32 ∷ []) ++ number_then n 10
+unfolding refused_line number_then
+line-refused n = line-two _ _
+
 pub first-refused : (r : Refusal) → first_line (Err r) ≡ (refused_word ++ 32 ∷ []) ++ number_then (number r) 10
-unfolding first_line number_then
-first-refused r = line-two _ _
+unfolding first_line refused_line
+first-refused r = line-refused (number r)
 
 pub first-shortest : (len steps : ℕ)
     → first_line (Ok (Shortest len steps)) ≡ (shortest_word ++ 32 ∷ []) ++ number_then len 32 ++ number_then steps 10
@@ -95,6 +99,28 @@ unfolding rendered
 whole_text a s text pieces i shown put all count =
     put ∙ ap (λ k. first_line a ++ lines_in s k) (all ∙ count)
     ∙ ap (λ (t : List ℕ). first_line a ++ t) (shown_lines a s pieces)
+
+-- The same of an answer whose refusals have any type.
+pub whole_text_by : {E : Type 0} (code : E → ℕ) (a : Result Outcome E) (s text : List ℕ) (pieces i shown : ℕ)
+    → text ≡ first_by code a ++ lines_in s i → i ≡ shown
+    → shown ≡ shown_count a pieces → text ≡ rendered_by code a s pieces
+unfolding rendered_by
+whole_text_by code (Ok (Shortest len steps)) s text pieces i shown =
+    whole_text (Ok (Shortest len steps)) s text pieces i shown
+whole_text_by code (Ok (Stopped h steps)) s text pieces i shown =
+    whole_text (Ok (Stopped h steps)) s text pieces i shown
+whole_text_by code (Ok (Infeasible steps)) s text pieces i shown =
+    whole_text (Ok (Infeasible steps)) s text pieces i shown
+whole_text_by code (Err e) s text pieces i shown =
+    λ put all count. put ∙ ap (λ k. refused_line (code e) ++ lines_in s k) (all ∙ count)
+    ∙ sym (lines_begun (refused_line (code e)) s)
+
+-- Of a `Refusal` it is the definition's text.
+pub rendered_same : (a : Result Outcome Refusal) (s : List ℕ) (pieces : ℕ)
+    → rendered_by number a s pieces ≡ rendered a s pieces
+unfolding rendered_by rendered refused_line first_line layout_lines
+rendered_same (Ok o) s pieces = refl
+rendered_same (Err r) s pieces = sym (append-nil _)
 
 -- What is rendered of a run of a job is what the definition of the program's output says is printed of it.
 pub rendered-printed : (j : Problem) (r : RunOutcome) → rendered r.answer r.out (piece_count j.kinds) ≡ printed j r

@@ -3,21 +3,23 @@ ghost use Rattle.std.specs.Prelude.{[], ◌≡◌, ◌++◌, ◌+◌, ◌*◌, �
 ghost use Rattle.arrayvec.specs.ArrayVec.{array_vec_len};
 ghost use Rattle.model.specs.Output;
 ghost use Rattle.model.specs.Services.{entry_in};
+ghost use Rattle.report.specs.Text.{first_by};
 
 use crate::text::{Text, append, number};
-use model::{Outcome, Refusal};
+use answers::Numbered;
+use model::Outcome;
 use words::numbers::get_u16;
 
 // The first line: `shortest`, `stopped`, `none` or `refused`, the length or `-`, and the steps or the refusal's number.
-pub fn first(text: &mut Text, answer: Result<Outcome, Refusal>)
+pub fn first<E: Numbered>(text: &mut Text, answer: Result<Outcome, E>)
     requires { text.old.items ≡ [] }
-    ensures items { text.new.items ≡ Output.first_line answer }
+    ensures items { text.new.items ≡ first_by E.code answer }
     ensures short { array_vec_len text.new ≤ 26 }
 {
     let last = match answer {
         Err(refusal) => {
             append(text, b"refused ");
-            u32::from(refusal.number())
+            u32::from(refusal.code())
         }
         Ok(Outcome::Shortest { length, steps }) => {
             append(text, b"shortest ");
