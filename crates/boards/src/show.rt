@@ -58,8 +58,11 @@ pub fn read(rt: &impl Print, job: &[u8]) -> io::Result<()> {
     }
 }
 
+// The hexadecimal digits.
+const DIGITS: [u8; 16] = *b"0123456789ABCDEF";
+
 // How many bytes save writes, those bytes and the two behind them, or the refusal, where so many bytes are lent, each
-// of them 7.
+// of them 7. (A byte's digits by hand: with many questions a format for each byte took a quarter more of the run.)
 pub fn save(rt: &impl Print, job: &[u8], room: usize) -> io::Result<()>
     requires { room ≤ 1024 }
 {
@@ -69,7 +72,11 @@ pub fn save(rt: &impl Print, job: &[u8], room: usize) -> io::Result<()>
         Ok(n) => {
             print!(rt; ": saved {n}:")?;
             for byte in bytes.iter().take(usize::from(n) + 2) {
-                print!(rt; " {byte:02X}")?;
+                rt.write_all(&[
+                    b' ',
+                    DIGITS[usize::from(*byte / 16)],
+                    DIGITS[usize::from(*byte % 16)],
+                ])?;
             }
             println!(rt; "")
         }
